@@ -1,0 +1,27 @@
+# make        prove and build everything; programs stand in target/bin
+# make test   the gate: prove everything from nothing, try the must-fail edits, run the programs
+# make fmt    lay out every .rt and .antt file
+# make bench  count instructions beside plain C
+# make clean  remove what was made
+
+RT := $(shell command -v rt 2>/dev/null)
+
+.PHONY: all test fmt bench clean kit
+
+all: kit
+	@rt check
+
+test: kit
+	@rt ci
+
+fmt: kit
+	@rt fmt
+
+bench: kit
+	@bench/run
+
+clean:
+	@rm -rf target
+
+kit:
+	@test -n "$(RT)" || { echo "missing: rt, the command of the Rattle kit; put the kit's bin folder on the PATH" >&2; exit 1; }

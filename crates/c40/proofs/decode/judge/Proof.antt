@@ -1,0 +1,95 @@
+-- `c40::decode::judge` meets its contract. The loop's invariant: so many characters stand before the place, and the rest is still to be decoded.
+-- Assumes nothing.
+use borrow.Author.Needs.{needs}
+use native.Mathlib.Omega.{arith}
+use mathlib.Core.Path.{_≡_, _∙_, refl, ap, ap₂, sym}
+use Prim.Native.Nat.{ℕ, _+_, _*_, _-_, _%_, _≤_}
+use mathlib.Core.List.{List, [], _++_}
+use lib.ListN.{length, length-append}
+use Rattle.c40.specs.Pairs.{charsOf}
+use Rattle.c40.specs.Pairs.Laws.{chars-most}
+use Rattle.c40.specs.Decode.{judgedOf}
+use Rattle.c40.specs.Decode.Laws.{Sofar, sofar-start, sofar-more, sofar-wrong, sofar-end}
+use Rattle.c40.specs.declared.decode.Judged.the-variants.{Text}
+use Rattle.c40.proofs.decode.judge.Statement.{statement}
+use Rattle.c40.proofs.decode.judge.Tie as tie
+
+abbrev Inv-loop : tie.InvT-loop
+Inv-loop chart bytes n i₀ count₀ i count =
+    (i ≤ length bytes) × (i % 2 ≡ 0) × (count ≤ 2 * i) × (before : List ℕ) × (length before ≡ count) × Sofar bytes i before
+
+abbrev μ-loop : tie.MeasureT-loop
+μ-loop chart bytes n i₀ count₀ i count = length bytes - i
+
+loop-holds : tie.Need-loop-holds Inv-loop μ-loop
+loop-holds c = (omega arith, omega arith, omega arith, [], refl, sofar-start _)
+
+shared-slice-read-pair-of : tie.Need-shared-slice-read-pair-of Inv-loop μ-loop
+shared-slice-read-pair-of c = omega arith
+
+add-pair-of : tie.Need-add-pair-of Inv-loop μ-loop
+add-pair-of c = omega arith
+
+shared-slice-read-pair-of-2 : tie.Need-shared-slice-read-pair-of-2 Inv-loop μ-loop
+shared-slice-read-pair-of-2 c = omega arith
+
+add-pair-of-2 : tie.Need-add-pair-of-2 Inv-loop μ-loop
+add-pair-of-2 c = omega arith
+
+pair-of-requires : tie.Need-pair-of-requires Inv-loop μ-loop
+pair-of-requires c κs = c .before .before .before .before .before .pre .is-chart
+
+carried-requires : tie.Need-carried-requires Inv-loop μ-loop
+carried-requires c κs = search needs
+
+returns : tie.Need-returns Inv-loop μ-loop
+returns c =
+    let on = c .before .before .before .before .before .before in
+    ap judgedOf (sym (sofar-wrong _ _ _ (on .loop .inv .5) (omega arith) _ (ap charsOf (c .before .before .pair-of .ensures)) (omega arith)))
+
+add-count : tie.Need-add-count Inv-loop μ-loop
+add-count c = omega (arith, chars-most (c .before .before .pair-of .result))
+
+add-i : tie.Need-add-i Inv-loop μ-loop
+add-i c = omega arith
+
+loop-less : tie.Need-loop-less Inv-loop μ-loop
+loop-less c = omega arith
+
+loop-again : tie.Need-loop-again Inv-loop μ-loop
+loop-again c =
+    let on = c .before .before .before .before .before .before in
+    let pair = charsOf (c .before .before .pair-of .result) in
+    let most = chars-most (c .before .before .pair-of .result) in
+    let many : length (on .loop .inv .3 ++ pair) ≡ on .loop .count + c .before .carried .result =
+    length-append (on .loop .inv .3) pair ∙ ap₂ (λ a b. a + b) (on .loop .inv .4) (sym (c .before .carried .ensures)) in (
+      omega arith,
+      omega arith,
+      omega arith,
+      on .loop .inv .3 ++ pair,
+      many,
+      sofar-more _ _ _ (on .loop .inv .5) (omega arith) _ (ap charsOf (c .before .before .pair-of .ensures)) (omega arith),
+    )
+
+returns-2 : tie.Need-returns-2 Inv-loop μ-loop
+returns-2 c = ap Text (sym (c .before .loop .inv .4)) ∙ ap judgedOf (sym (sofar-end _ _ _ (c .before .loop .inv .5) (omega arith)))
+
+pub judge-spec : {M : Type 1} → statement M
+judge-spec =
+    tie.close
+    (tie.spec
+    Inv-loop
+    μ-loop
+    loop-holds
+    shared-slice-read-pair-of
+    add-pair-of
+    shared-slice-read-pair-of-2
+    add-pair-of-2
+    pair-of-requires
+    carried-requires
+    returns
+    add-count
+    add-i
+    loop-less
+    loop-again
+    returns-2)

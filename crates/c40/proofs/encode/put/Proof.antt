@@ -1,0 +1,227 @@
+-- `c40::encode::put` meets its contract. The loop's invariant: these bytes stand in `out`, and what is left of the text is still to be published.
+-- Assumes nothing.
+use borrow.Author.Needs.{needs}
+use native.Mathlib.Omega.{arith}
+use mathlib.Core.Path.{_≡_, _∙_, refl, ap, sym, subst}
+use Prim.Native.Nat.{ℕ, _+_, _*_, _-_, _/_, _%_, _<_, _≤_}
+use mathlib.Core.List.{List, [], _∷_, _++_, append-assoc, append-nil}
+use denote.Ref.{now}
+use lib.ListN.{length, getD, drop}
+use Rattle.format.specs.Numbers.{be}
+use Rattle.format.specs.Numbers.Laws.{length-be}
+use Rattle.format.specs.Bytes.Laws.{all-at}
+use Rattle.format.specs.Buffer.{over}
+use Rattle.format.specs.Buffer.Laws.{Held, held-start, held-more, held-length}
+use Rattle.c40.specs.Chart.{InChart, valueOf}
+use Rattle.c40.specs.Chart.Laws.{char-below}
+use Rattle.c40.specs.Text.{publish, width, packedOf}
+use Rattle.c40.specs.Text.Laws.{left-three, left-two, left-one, left-none}
+use Rattle.c40.proofs.encode.put.Statement.{statement}
+use Rattle.c40.proofs.encode.put.Tie as tie
+use Rattle.c40.proofs.encode.put.Reads as reads
+use Rattle.c40.proofs.encode.put.Lts as lts
+use Rattle.c40.proofs.chart.value_of.Reads as value-of-reads
+use Rattle.c40.proofs.chart.wide.Reads as wide-reads
+use Rattle.c40.proofs.encode.packed.Reads as packed-reads
+use Rattle.c40.proofs.encode.put_number.Reads as put-number-reads
+
+abbrev Inv-loop : tie.InvT-loop
+Inv-loop text out₀ n i₀ at₀ out i at =
+    (i ≤ length text) × (i % 3 ≡ 0) × (at ≡ 2 * (i / 3)) × (before : List ℕ) × (publish text ≡ before ++ publish (drop i text)) × Held out₀ out at before
+
+abbrev μ-loop : tie.MeasureT-loop
+μ-loop text out₀ n i₀ at₀ out i at = length text - i
+
+-- where a character is left there is room for two bytes
+room : (c : tie.At-loop Inv-loop μ-loop) → c .loop .i < length (now (c .before .before .before .args .text)) → (c .loop .at + 2 ≤ length (now (c .before .before .before .args .out))) × (length (c .loop .out) ≡ length (now (c .before .before .before .args .out)))
+room c h =
+    let fits : c .loop .at + 2 ≤ length (now (c .before .before .before .args .out)) = omega (arith, c .before .before .before .pre .1) in
+    (fits, held-length _ _ _ _ (c .loop .inv .5) (omega arith))
+
+-- two bytes more, which are the form of what stands at the place
+module _ (c : tie.At-loop Inv-loop μ-loop) (h : c .loop .i < length (now (c .before .before .before .args .text))) (number : ℕ) (after : List ℕ) (put : after ≡ over (c .loop .out) (c .loop .at) (be 2 number)) where
+  more : Held (now (c .before .before .before .args .out)) after (c .loop .at + 2) (c .loop .inv .3 ++ be 2 number)
+  more = held-more _ _ _ _ (c .loop .inv .5) (be 2 number) after _ put (ap (λ k. c .loop .at + k) (length-be 2 number)) (room c h .0)
+
+  ends : publish (drop (c .loop .i) (now (c .before .before .before .args .text))) ≡ be 2 number → after ≡ over (now (c .before .before .before .args .out)) 0 (publish (now (c .before .before .before .args .text)))
+  ends e = more .is ∙ ap (over (now (c .before .before .before .args .out)) 0) (ap (λ p. c .loop .inv .3 ++ p) (sym e) ∙ sym (c .loop .inv .4))
+
+-- a character that is left is at most 90
+low : (c : tie.At-loop Inv-loop μ-loop) → c .loop .i < length (now (c .before .before .before .args .text)) → getD (now (c .before .before .before .args .text)) (c .loop .i) 0 < 91
+low c h = char-below _ (all-at InChart 0 (now (c .before .before .before .args .text)) (c .before .before .before .pre .0) (c .loop .i) h)
+
+loop-holds : tie.Need-loop-holds Inv-loop μ-loop
+loop-holds c = (omega arith, omega arith, omega arith, [], refl, held-start _)
+
+add-loop : tie.Need-add-loop Inv-loop μ-loop
+add-loop c = omega arith
+
+shared-slice-read-packed : tie.Need-shared-slice-read-packed Inv-loop μ-loop
+shared-slice-read-packed c = omega arith
+
+add-packed : tie.Need-add-packed Inv-loop μ-loop
+add-packed c = omega arith
+
+shared-slice-read-packed-2 : tie.Need-shared-slice-read-packed-2 Inv-loop μ-loop
+shared-slice-read-packed-2 c = omega arith
+
+add-value-of : tie.Need-add-value-of Inv-loop μ-loop
+add-value-of c = omega arith
+
+shared-slice-read-value-of : tie.Need-shared-slice-read-value-of Inv-loop μ-loop
+shared-slice-read-value-of c = omega arith
+
+value-of-requires : tie.Need-value-of-requires Inv-loop μ-loop
+value-of-requires c κs = search needs
+
+packed-requires : tie.Need-packed-requires Inv-loop μ-loop
+packed-requires c κs = omega arith
+
+put-number-requires : tie.Need-put-number-requires Inv-loop μ-loop
+put-number-requires c κs =
+    let on = c .before .before .before .before .before .before .before in
+    let r = room on (omega arith) in
+    (omega arith, omega arith)
+
+add-i : tie.Need-add-i Inv-loop μ-loop
+add-i c = omega arith
+
+add-at : tie.Need-add-at Inv-loop μ-loop
+add-at c = omega arith
+
+loop-less : tie.Need-loop-less Inv-loop μ-loop
+loop-less c = omega arith
+
+loop-again : tie.Need-loop-again Inv-loop μ-loop
+loop-again c =
+    let packed = c .before .before .before .before .packed in
+    let value = c .before .before .before .before .before .value-of in
+    let on = c .before .before .before .before .before .before .before .before .before .before in
+    let text = now (on .before .before .before .args .text) in
+    let form : be 2 (packed .result) ≡ be 2 (packedOf (valueOf (getD text (on .loop .i) 0)) (valueOf (getD text (on .loop .i + 1) 0)) (valueOf (getD text (on .loop .i + 2) 0))) =
+    ap (be 2) (packed .ensures .0 ∙ ap (packedOf (valueOf (getD text (on .loop .i) 0)) (valueOf (getD text (on .loop .i + 1) 0))) (value .ensures .0)) in
+    let rest = publish (drop (on .loop .i + 3) text) in (
+      omega arith,
+      omega arith,
+      omega arith,
+      on .loop .inv .3 ++ be 2 (packed .result),
+      on .loop .inv .4 ∙ ap (λ p. on .loop .inv .3 ++ p) (left-three text (on .loop .i) (omega arith) ∙ ap (λ p. p ++ rest) (sym form)) ∙ sym (append-assoc (on .loop .inv .3) (be 2 (packed .result)) rest),
+      more on (omega arith) (packed .result) _ (c .before .before .put-number .ensures),
+    )
+
+add-if1 : tie.Need-add-if1 Inv-loop μ-loop
+add-if1 c = omega arith
+
+shared-slice-read-packed-3 : tie.Need-shared-slice-read-packed-3 Inv-loop μ-loop
+shared-slice-read-packed-3 c = omega arith
+
+add-packed-2 : tie.Need-add-packed-2 Inv-loop μ-loop
+add-packed-2 c = omega arith
+
+shared-slice-read-packed-4 : tie.Need-shared-slice-read-packed-4 Inv-loop μ-loop
+shared-slice-read-packed-4 c = omega arith
+
+packed-requires-2 : tie.Need-packed-requires-2 Inv-loop μ-loop
+packed-requires-2 c κs = omega arith
+
+put-number-requires-2 : tie.Need-put-number-requires-2 Inv-loop μ-loop
+put-number-requires-2 c κs =
+    let on = c .before .before .before .before .before .before in
+    let r = room on (omega arith) in
+    (omega arith, omega arith)
+
+shared-slice-read-wide : tie.Need-shared-slice-read-wide Inv-loop μ-loop
+shared-slice-read-wide c = omega arith
+
+wide-requires : tie.Need-wide-requires Inv-loop μ-loop
+wide-requires c κs = search needs
+
+add-put-number : tie.Need-add-put-number Inv-loop μ-loop
+add-put-number c = let code = low (c .before .before .before .before .before) (omega arith) in omega arith
+
+add-put-number-2 : tie.Need-add-put-number-2 Inv-loop μ-loop
+add-put-number-2 c = let code = low (c .before .before .before .before .before) (omega arith) in omega arith
+
+put-number-requires-3 : tie.Need-put-number-requires-3 Inv-loop μ-loop
+put-number-requires-3 c κs =
+    let on = c .before .before .before .before .before .before in
+    let r = room on (omega arith) in
+    let code = low on (omega arith) in
+    (omega arith, omega arith)
+
+same-length : tie.Need-same-length Inv-loop μ-loop
+same-length c =
+    let on = c .before .before .before .before .before .before .before .before .before in
+    c .before .before .put-number2 .kept .1 .0 ∙ room on (omega arith) .1
+
+returns : tie.Need-returns Inv-loop μ-loop
+returns c =
+    let on = c .before .before .before .before .before .before .before .before .before in
+    let text = now (on .before .before .before .args .text) in
+    let packed = c .before .before .before .before .packed2 in
+    ends on (omega arith) (packed .result) _ (c .before .before .put-number2 .ensures) (left-two text (on .loop .i) (omega arith) ∙ ap (be 2) (sym (packed .ensures .0)))
+
+same-length-2 : tie.Need-same-length-2 Inv-loop μ-loop
+same-length-2 c =
+    let on = c .before .before .before .before .before .before .before .before .before in
+    c .before .before .put-number3 .kept .1 .0 ∙ room on (omega arith) .1
+
+returns-2 : tie.Need-returns-2 Inv-loop μ-loop
+returns-2 c =
+    let on = c .before .before .before .before .before .before .before .before .before in
+    let text = now (on .before .before .before .args .text) in
+    let code = low on (omega arith) in
+    let wide = c .before .before .before .before .wide in
+    ends on (omega arith) (0xFE00 + wide .result + 1) _ (c .before .before .put-number3 .ensures)
+    (left-one text (on .loop .i) (omega arith) (omega arith) ∙ ap (λ k. be 2 (0xFE00 + k + 1)) (sym (wide .ensures)))
+
+same-length-3 : tie.Need-same-length-3 Inv-loop μ-loop
+same-length-3 c =
+    let on = c .before .before .before in
+    held-length _ _ _ _ (on .loop .inv .5) (omega (arith, on .before .before .before .pre .1))
+
+returns-3 : tie.Need-returns-3 Inv-loop μ-loop
+returns-3 c =
+    let on = c .before .before .before in
+    let text = now (on .before .before .before .args .text) in
+    on .loop .inv .5 .is
+    ∙ ap (over (now (on .before .before .before .args .out)) 0)
+    (sym (on .loop .inv .4 ∙ ap (λ p. on .loop .inv .3 ++ p) (left-none text (on .loop .i) (omega arith)) ∙ append-nil (on .loop .inv .3)))
+
+pub put-spec : {M : Type 1} → statement M
+put-spec =
+    tie.close
+    (tie.spec
+    Inv-loop
+    μ-loop
+    loop-holds
+    add-loop
+    shared-slice-read-packed
+    add-packed
+    shared-slice-read-packed-2
+    add-value-of
+    shared-slice-read-value-of
+    value-of-requires
+    packed-requires
+    put-number-requires
+    add-i
+    add-at
+    loop-less
+    loop-again
+    add-if1
+    shared-slice-read-packed-3
+    add-packed-2
+    shared-slice-read-packed-4
+    packed-requires-2
+    put-number-requires-2
+    shared-slice-read-wide
+    wide-requires
+    add-put-number
+    add-put-number-2
+    put-number-requires-3
+    same-length
+    returns
+    same-length-2
+    returns-2
+    same-length-3
+    returns-3)

@@ -1,0 +1,103 @@
+-- Laws of the two calls: the outcome by the tests that lead there, and which characters are known.
+-- Assumes nothing.
+use mathlib.Core.Path.{_≡_, refl, ap, sym, _∙_}
+use mathlib.Core.Bool.{Bool, true, false}
+use Prim.Native.Nat.{ℕ, zero, suc, _+_, _%_, _<_, _≤_}
+use native.Mathlib.Omega.{arith}
+use borrow.Author.Tests.{eq-eqb, ne-eqb, eqb-true, eqb-false, lt-ltb, le-ltb}
+use mathlib.Core.List.{List, [], _∷_}
+use lib.Dec.{eqb}
+use lib.ListN.{length, getD, drop}
+use Rattle.format.specs.Bytes.{All}
+use Rattle.format.specs.Choice.Laws.{by-test}
+use Rattle.format.specs.Places.{at-place, past-end}
+use Rattle.c40.specs.Chart.{char, valueOf, InChart}
+use Rattle.format.specs.Answers.{done, refused}
+use Rattle.c40.specs.Text.{Text, publish, width}
+use Rattle.c40.specs.Decode.{decode, text, wrong}
+use Rattle.c40.specs.Calls.{known, inRoom, reading, writing}
+
+known-in : (c : ℕ) (t : List ℕ) → InChart c → known (c ∷ t) ≡ suc (known t)
+unfolding known
+known-in c t i = simp (eq-eqb (char (valueOf c)) c i)
+
+known-out : (c : ℕ) (t : List ℕ) → (InChart c → ⊥) → known (c ∷ t) ≡ 0
+unfolding known
+known-out c t i = simp (ne-eqb (char (valueOf c)) c i)
+
+-- one character more, at a place
+module _ (t : List ℕ) (i : ℕ) where
+  pub known-more : i < length t → InChart (getD t i 0) → known t ≡ i + known (drop i t) → known t ≡ i + 1 + known (drop (i + 1) t)
+  known-more h k e =
+      let step : known (drop i t) ≡ suc (known (drop (i + 1) t)) = ap known (at-place t i 0 h) ∙ known-in (getD t i 0) (drop (i + 1) t) k in
+      omega arith
+
+  pub known-here : i < length t → (InChart (getD t i 0) → ⊥) → known t ≡ i + known (drop i t) → i ≡ known t
+  known-here h k e =
+      let step : known (drop i t) ≡ 0 = ap known (at-place t i 0 h) ∙ known-out (getD t i 0) (drop (i + 1) t) k in
+      omega arith
+
+  pub known-end : length t ≤ i → known t ≡ i + known (drop i t) → i ≡ known t
+  unfolding known
+  known-end h e =
+      let step : known (drop i t) ≡ 0 = ap known (past-end t i h) in
+      omega arith
+
+-- all characters are known exactly where the text is text
+pub known-text : (t : List ℕ) → length t ≤ known t → Text t
+unfolding known
+known-text [] h = tt
+known-text (c ∷ t) h =
+    by-test (eqb (char (valueOf c)) c)
+    (λ e. (eqb-true (char (valueOf c)) c e, known-text t (omega (arith, known-in c t (eqb-true (char (valueOf c)) c e)))))
+    (λ e. absurd (omega (arith, known-out c t (eqb-false (char (valueOf c)) c e))))
+
+pub text-known : (t : List ℕ) → Text t → known t ≡ length t
+unfolding known
+text-known [] h = refl
+text-known (c ∷ t) h = known-in c t (h .0) ∙ ap suc (text-known t (h .1))
+
+-- reading, by the tests that lead there
+module _ (s : List ℕ) (room : ℕ) where
+  pub reading-long : 4096 < length s → reading s room ≡ refused 45 0
+  unfolding reading
+  reading-long h = simp (lt-ltb 4096 (length s) h)
+
+  module _ (size : length s ≤ 4096) where
+    pub reading-odd : length s % 2 ≡ 1 → reading s room ≡ refused 40 (length s)
+    unfolding reading
+    reading-odd h = simp (le-ltb 4096 (length s) size, eq-eqb (length s % 2) 1 h)
+
+    module _ (even : length s % 2 ≡ 1 → ⊥) where
+      reading-pairs : reading s room ≡ inRoom room (decode 0 s)
+      unfolding reading
+      reading-pairs = simp (le-ltb 4096 (length s) size, ne-eqb (length s % 2) 1 even)
+
+      pub reading-wrong : (at : ℕ) → decode 0 s ≡ wrong at → reading s room ≡ refused 41 at
+      reading-wrong at e = reading-pairs ∙ ap (inRoom room) e
+
+      pub reading-no-room : (t : List ℕ) → decode 0 s ≡ text t → room < length t → reading s room ≡ refused 42 0
+      reading-no-room t e h = reading-pairs ∙ ap (inRoom room) e ∙ simp (lt-ltb room (length t) h)
+
+      pub reading-done : (t : List ℕ) → decode 0 s ≡ text t → length t ≤ room → reading s room ≡ done t
+      reading-done t e h = reading-pairs ∙ ap (inRoom room) e ∙ simp (le-ltb room (length t) h)
+
+-- writing, by the tests that lead there
+module _ (t : List ℕ) (room : ℕ) where
+  pub writing-long : 6144 < length t → writing t room ≡ refused 45 0
+  unfolding writing
+  writing-long h = simp (lt-ltb 6144 (length t) h)
+
+  module _ (size : length t ≤ 6144) where
+    pub writing-stranger : known t < length t → writing t room ≡ refused 43 (known t)
+    unfolding writing
+    writing-stranger h = simp (le-ltb 6144 (length t) size, lt-ltb (known t) (length t) h)
+
+    module _ (good : length t ≤ known t) where
+      pub writing-no-room : room < width (length t) → writing t room ≡ refused 44 0
+      unfolding writing
+      writing-no-room h = simp (le-ltb 6144 (length t) size, le-ltb (known t) (length t) good, lt-ltb room (width (length t)) h)
+
+      pub writing-done : width (length t) ≤ room → writing t room ≡ done (publish t)
+      unfolding writing
+      writing-done h = simp (le-ltb 6144 (length t) size, le-ltb (known t) (length t) good, le-ltb room (width (length t)) h)

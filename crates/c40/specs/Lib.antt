@@ -1,0 +1,6 @@
+pub mod Chart
+pub mod Text
+pub mod Pairs
+pub mod Decode
+pub mod Calls
+pub mod Exact

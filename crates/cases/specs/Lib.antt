@@ -1,0 +1,3 @@
+pub mod Case
+pub mod C40
+pub mod Cases

@@ -1,0 +1,9 @@
+pub mod Choice
+pub mod Bytes
+pub mod Numbers
+pub mod Cut
+pub mod Buffer
+pub mod Places
+pub mod Table
+pub mod Answers
+pub mod Pins

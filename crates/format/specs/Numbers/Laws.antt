@@ -1,0 +1,66 @@
+-- Laws of numbers in bytes: there and back, their sizes and bounds, once over the width.
+-- Assumes nothing.
+use mathlib.Core.Path.{_≡_, refl, ap, sym, _∙_}
+use Prim.Native.Nat.{ℕ, zero, suc, _+_, _*_, _/_, _%_, _^_, _<_, _≤_}
+use native.Mathlib.Omega.{arith}
+use native.Mathlib.Nat.{pow-suc, div-lt-iff-lt-mul, le-refl}
+use native.Mathlib.Numerals.{add-one}
+use mathlib.Core.List.{List, [], _∷_, _++_, append-nil}
+use lib.ListN.{length, getD, take, drop, length-append, List·getD-append, List·getD-eq-default}
+use lib.Seq.{take-suc, getD-append-seam, getD-append-add, getD-at, take-at, drop-at}
+use Rattle.format.specs.Bytes.{Byte, Bytes}
+use Rattle.format.specs.Bytes.Laws.{bytes-nil, bytes-cons, bytes-append}
+use Rattle.format.specs.Numbers.{be, val}
+
+pub length-be : (k n : ℕ) → length (be k n) ≡ k
+unfolding be
+length-be zero n = refl
+length-be (suc k) n = simp (length-append, length-be k (n / 256), add-one)
+
+-- the first k bytes settle the number, whatever follows
+pub val-append : (k : ℕ) (s t : List ℕ) → k ≤ length s → val (s ++ t) k ≡ val s k
+unfolding val
+val-append zero s t h = refl
+val-append (suc k) s t h =
+    let ih = val-append k s t (omega arith) in
+    simp (ih, List·getD-append)
+
+pub val-be : (k n : ℕ) → n < 256 ^ k → val (be k n) k ≡ n
+unfolding be val
+val-be zero n h = omega arith
+val-be (suc k) n h =
+    let small : n / 256 < 256 ^ k = omega (arith, simp pow-suc at h) in
+    let ih = val-be k (n / 256) small in
+    let front : val (be k (n / 256) ++ (n % 256 ∷ [])) k ≡ n / 256 = val-append k (be k (n / 256)) (n % 256 ∷ []) (omega (arith, length-be k (n / 256))) ∙ ih in
+    let last : getD (be k (n / 256) ++ (n % 256 ∷ [])) k 0 ≡ n % 256 = getD-at (be k (n / 256)) (n % 256) [] 0 k (length-be k (n / 256)) in
+    omega arith
+
+pub val-below : (k : ℕ) (s : List ℕ) → Bytes s → val s k < 256 ^ k
+unfolding val
+val-below zero s b = omega arith
+val-below (suc k) s b =
+    let ih = val-below k s b in
+    rw pow-suc (omega (arith, b k))
+
+pub be-val : (k : ℕ) (s : List ℕ) → Bytes s → k ≤ length s → be k (val s k) ≡ take k s
+unfolding be val
+be-val zero s b h = refl
+be-val (suc k) s b h =
+    let ih = be-val k s b (omega arith) in
+    let high : (val s k * 256 + getD s k 0) / 256 ≡ val s k = omega (arith, b k) in
+    let low : (val s k * 256 + getD s k 0) % 256 ≡ getD s k 0 = omega (arith, b k) in
+    simp (take-suc s k 0, high, low, ih)
+
+-- each element is a byte
+pub be-bytes : (k n : ℕ) → Bytes (be k n)
+unfolding be
+be-bytes zero n i = omega arith
+be-bytes (suc k) n i =
+    let ih = be-bytes k (n / 256) in
+    let last : Byte (n % 256) = omega arith in
+    bytes-append (be k (n / 256)) (n % 256 ∷ []) ih (bytes-cons (n % 256) [] last bytes-nil) i
+
+-- a number in two bytes
+pub be-two : (n : ℕ) → n < 65536 → be 2 n ≡ (n / 256) ∷ (n % 256) ∷ []
+unfolding be
+be-two n h = let high : n / 256 % 256 ≡ n / 256 = omega arith in ap (λ b. b ∷ (n % 256) ∷ []) high
