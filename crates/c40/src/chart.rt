@@ -2,6 +2,7 @@
 ghost use mathlib.Core.Path.{_≡_};
 ghost use Prim.Native.Nat.{_<_};
 ghost use Rattle.c40.specs.Chart.{valueOf};
+use octets::wide;
 
 // From C40 value to character. The entries 0, 1 and 2 are shifts: no character, marked 0.
 pub const CHART: [u8; 40] = [
@@ -46,13 +47,6 @@ pub const CHART: [u8; 40] = [
     b'Y',
     b'Z',
 ];
-
-// A byte as a number to reckon with.
-pub(crate) fn wide(x: u8) -> usize
-    ensures { λ r. ⌜ r ≡ x ⌝ }
-{
-    x as usize
-}
 
 // The value that a character has if it is in the chart: the chart's entry there is the character exactly then.
 pub(crate) fn value_of(c: u8) -> usize

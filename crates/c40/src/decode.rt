@@ -8,7 +8,7 @@ ghost use Rattle.c40.specs.Chart.{theChart};
 ghost use Rattle.c40.specs.Pairs.{pairOf, charsOf, first, second, third};
 ghost use Rattle.c40.specs.Decode.{decode, judgedOf, textOf, Even, Good};
 use crate::chart::value_of;
-use crate::chart::wide;
+use octets::wide;
 
 // What a pair of bytes carries.
 pub enum Pair {

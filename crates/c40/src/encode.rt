@@ -8,7 +8,7 @@ ghost use Rattle.c40.specs.Chart.{theChart, valueOf};
 ghost use Rattle.c40.specs.Text.{Text, packedOf, publish, width};
 ghost use Rattle.c40.specs.Calls.{known as knownOf};
 use crate::chart::value_of;
-use crate::chart::wide;
+use octets::wide;
 
 // The index of the first character that is not in the chart, or the length: the chart must have the character at its value.
 pub(crate) fn known(chart: &[u8; 40], text: &[u8]) -> usize

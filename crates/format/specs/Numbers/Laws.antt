@@ -1,13 +1,13 @@
 -- Laws of numbers in bytes: there and back, their sizes and bounds, once over the width.
 -- Assumes nothing.
 use mathlib.Core.Path.{_≡_, refl, ap, sym, _∙_}
-use Prim.Native.Nat.{ℕ, zero, suc, _+_, _*_, _/_, _%_, _^_, _<_, _≤_}
+use Prim.Native.Nat.{ℕ, zero, suc, _+_, _*_, _/_, _%_, _^_, _<_, _≤_, min}
 use native.Mathlib.Omega.{arith}
 use native.Mathlib.Nat.{pow-suc, div-lt-iff-lt-mul, le-refl}
 use native.Mathlib.Numerals.{add-one}
 use mathlib.Core.List.{List, [], _∷_, _++_, append-nil}
-use lib.ListN.{length, getD, take, drop, length-append, List·getD-append, List·getD-eq-default}
-use lib.Seq.{take-suc, getD-append-seam, getD-append-add, getD-at, take-at, drop-at}
+use lib.ListN.{length, getD, take, drop, length-append, List·getD-append, take-append-drop}
+use lib.Seq.{take-suc, getD-at, length-take-le}
 use Rattle.format.specs.Bytes.{Byte, Bytes}
 use Rattle.format.specs.Bytes.Laws.{bytes-nil, bytes-cons, bytes-append}
 use Rattle.format.specs.Numbers.{be, val}
@@ -64,3 +64,19 @@ be-bytes (suc k) n i =
 pub be-two : (n : ℕ) → n < 65536 → be 2 n ≡ (n / 256) ∷ (n % 256) ∷ []
 unfolding be
 be-two n h = let high : n / 256 % 256 ≡ n / 256 = omega arith in ap (λ b. b ∷ (n % 256) ∷ []) high
+
+-- a byte more
+pub val-more : (s : List ℕ) (k : ℕ) → val s (k + 1) ≡ val s k * 256 + getD s k 0
+unfolding val
+val-more s k = ap (val s) (add-one k)
+
+-- the number in a part of k bytes
+pub val-take : (k : ℕ) (s : List ℕ) → k ≤ length s → val (take k s) k ≡ val s k
+val-take k s h =
+    sym (val-append k (take k s) (drop k s) (omega (arith, length-take-le k s h))) ∙ ap (λ t. val t k) (take-append-drop k s)
+
+-- the same, where the part's own length is asked for, at most eight
+pub val-part : (k m : ℕ) (s : List ℕ) → m ≡ k → k ≤ length s → k ≤ 8 → val (take m s) (min (length (take m s)) 8) ≡ val s k
+val-part k m s e h l =
+    let many : min (length (take k s)) 8 ≡ k = omega (arith, length-take-le k s h) in
+    ap (λ j. val (take j s) (min (length (take j s)) 8)) e ∙ ap (val (take k s)) many ∙ val-take k s h

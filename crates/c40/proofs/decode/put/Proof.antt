@@ -14,11 +14,6 @@ use Rattle.c40.specs.Decode.{textOf, decode}
 use Rattle.c40.specs.Decode.Laws.{Sofar, Inner, Last, sofar-start, sofar-inner, sofar-last, sofar-end}
 use Rattle.c40.proofs.decode.put.Statement.{statement}
 use Rattle.c40.proofs.decode.put.Tie as tie
-use Rattle.c40.proofs.decode.put.Reads as reads
-use Rattle.c40.proofs.decode.put.Lts as lts
-use Rattle.c40.proofs.decode.full.Reads as full-reads
-use Rattle.c40.proofs.decode.pair_of.Reads as pair-of-reads
-use Rattle.c40.proofs.decode.put_pair.Reads as put-pair-reads
 
 abbrev Inv-loop : tie.InvT-loop
 Inv-loop chart bytes out₀ n i₀ at₀ out i at =

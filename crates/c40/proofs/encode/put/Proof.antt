@@ -18,12 +18,6 @@ use Rattle.c40.specs.Text.{publish, width, packedOf}
 use Rattle.c40.specs.Text.Laws.{left-three, left-two, left-one, left-none}
 use Rattle.c40.proofs.encode.put.Statement.{statement}
 use Rattle.c40.proofs.encode.put.Tie as tie
-use Rattle.c40.proofs.encode.put.Reads as reads
-use Rattle.c40.proofs.encode.put.Lts as lts
-use Rattle.c40.proofs.chart.value_of.Reads as value-of-reads
-use Rattle.c40.proofs.chart.wide.Reads as wide-reads
-use Rattle.c40.proofs.encode.packed.Reads as packed-reads
-use Rattle.c40.proofs.encode.put_number.Reads as put-number-reads
 
 abbrev Inv-loop : tie.InvT-loop
 Inv-loop text out₀ n i₀ at₀ out i at =

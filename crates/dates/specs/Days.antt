@@ -1,0 +1,33 @@
+-- Which days exist, a date's number and its three bytes (document 01, Dates; Doc 9303-13, 2.3.1).
+-- Assumes nothing.
+pub mod Laws
+use mathlib.Core.Path.{_≡_}
+use mathlib.Core.Bool.{Bool, true}
+use Prim.Native.Nat.{ℕ, _+_, _*_, _/_, _%_}
+use mathlib.Core.List.{List}
+use lib.Dec.{leb}
+use Rattle.format.specs.Numbers.{be}
+use Rattle.format.specs.Table.{both}
+use Rattle.dates.specs.declared.Date.{Date}
+
+-- from the first to the last
+abbrev pub within : ℕ → ℕ → ℕ → Bool
+within low high n = both (leb low n) (leb n high)
+
+-- month 1 to 12, day 1 to 31, year 1 to 9999
+unfoldable pub isDay : Date → Bool
+isDay d = both (within 1 12 (d .month)) (both (within 1 31 (d .day)) (within 1 9999 (d .year)))
+
+abbrev pub Day : Date → Type 0
+Day d = isDay d ≡ true
+
+-- month, day and four-digit year as one number MMDDYYYY, and back
+abbrev pub numberOf : Date → ℕ
+numberOf d = d .month * 1000000 + d .day * 10000 + d .year
+
+abbrev pub dateOf : ℕ → Date
+dateOf n = record { month = n / 1000000; day = n / 10000 % 100; year = n % 10000 }
+
+-- the number, big-endian in three bytes
+unfoldable pub publish : Date → List ℕ
+publish d = be 3 (numberOf d)

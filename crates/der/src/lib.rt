@@ -1,0 +1,97 @@
+// DER: lengths and elements at the head of a byte string (document 01; X.690).
+ghost use mathlib.Core.Path.{_≡_};
+ghost use Prim.Native.Nat.{_^_, _<_, _≤_};
+ghost use Rattle.der.specs.Length.{readLength, least as leastOf};
+ghost use Rattle.der.specs.Element.{bodyIn, elementIn};
+use octets::wide;
+
+// A DER length at the head of a byte string.
+pub enum Length {
+    // the length, and the width of its form
+    Is(usize, usize),
+    // the bytes end before the form is whole
+    Cut,
+    // no first byte of a length, or not the shortest form
+    Malformed,
+}
+
+// An element at the head of a byte string.
+pub enum Element {
+    // where its body starts, and one past its end
+    Body(usize, usize),
+    // another tag, no length, or not whole
+    Nothing,
+}
+
+// The least length that needs `k` bytes after the first, 1 to 4.
+fn least(k: usize) -> usize
+    requires { ⌜ (0 < k) × (k < 5) ⌝ }
+    ensures { λ r. ⌜ r ≡ leastOf k ⌝ }
+{
+    match k {
+        1 => 0x80,
+        2 => 0x100,
+        3 => 0x10000,
+        _ => 0x1000000,
+    }
+}
+
+// The DER length at the head of `s`: the first byte is judged before its rest is looked for.
+pub fn read_length(s: &[u8]) -> Length
+    ensures { λ r. ⌜ r ≡ readLength (now (s .entry)) ⌝ }
+{
+    let n = s.len();
+    if n == 0 {
+        return Length::Cut;
+    }
+    let x = wide(s[0]);
+    if x < 0x80 {
+        return Length::Is(x, 1);
+    }
+    if x == 0x80 {
+        return Length::Malformed;
+    }
+    if 0x85 <= x {
+        return Length::Malformed;
+    }
+    let k = x - 0x80;
+    if n - 1 < k {
+        return Length::Cut;
+    }
+    let end = k + 1;
+    let value = octets::number(&s[1..end]);
+    if value < least(k) {
+        return Length::Malformed;
+    }
+    Length::Is(value, end)
+}
+
+// Where a body starts and ends whose length was read, if so many bytes after the tag hold it whole.
+fn body_in(room: usize, size: usize, width: usize) -> Element
+    requires { ⌜ (width ≤ room) × (room < 2 ^ 63) ⌝ }
+    ensures { λ r. ⌜ r ≡ bodyIn room (Length.Is size width) ⌝ }
+{
+    if room - width < size {
+        return Element::Nothing;
+    }
+    Element::Body(width + 1, width + 1 + size)
+}
+
+// The element with this tag at the head of `s`.
+pub fn element_of(tag: u8, s: &[u8]) -> Element
+    ensures { λ r. ⌜ r ≡ elementIn tag (now (s .entry)) ⌝ }
+{
+    let n = s.len();
+    if n == 0 {
+        return Element::Nothing;
+    }
+    if s[0] != tag {
+        return Element::Nothing;
+    }
+    let read = read_length(&s[1..]);
+    match read {
+        Length::Is(size, width) => body_in(n - 1, size, width),
+        Length::Cut => Element::Nothing,
+        Length::Malformed => Element::Nothing,
+    }
+}
