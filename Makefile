@@ -2,11 +2,12 @@
 # make test   the gate: prove everything from nothing, try the must-fail edits, run the programs
 # make fmt    lay out every .rt and .antt file
 # make bench  count instructions beside plain C
+# make vectors  reckon the files of cases anew from document 01 (needs python3)
 # make clean  remove what was made
 
 RT := $(shell command -v rt 2>/dev/null)
 
-.PHONY: all test fmt bench clean kit
+.PHONY: all test fmt bench vectors clean kit
 
 all: kit
 	@rt check
@@ -19,6 +20,9 @@ fmt: kit
 
 bench: kit
 	@bench/run
+
+vectors:
+	@python3 vectors/c40_cases.py crates/vectors_c40
 
 clean:
 	@rm -rf target

@@ -1,6 +1,7 @@
 -- A DER element at the head of a byte string: its tag, its length, its body, which must be whole (X.690, 8.1).
 -- Assumes nothing.
 pub mod Laws
+pub mod Exact
 use Prim.Native.Nat.{ℕ, _+_, _-_}
 use mathlib.Core.List.{List, [], _∷_}
 use lib.Dec.{ltb, eqb}

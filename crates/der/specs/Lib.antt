@@ -1,2 +1,3 @@
 pub mod Length
 pub mod Element
+pub mod Content

@@ -3,6 +3,7 @@ ghost use mathlib.Core.Path.{_≡_};
 ghost use Prim.Native.Nat.{_^_, _<_, _≤_};
 ghost use Rattle.der.specs.Length.{readLength, least as leastOf};
 ghost use Rattle.der.specs.Element.{bodyIn, elementIn};
+ghost use Rattle.der.specs.Content.{redundant, strict};
 use octets::wide;
 
 // A DER length at the head of a byte string.
@@ -94,4 +95,28 @@ pub fn element_of(tag: u8, s: &[u8]) -> Element
         Length::Cut => Element::Nothing,
         Length::Malformed => Element::Nothing,
     }
+}
+
+// Whether a first byte says no more than the second's top bit does.
+pub fn is_redundant(x: u8, y: u8) -> bool
+    ensures { λ r. ⌜ r ≡ redundant x y ⌝ }
+{
+    if y < 0x80 {
+        return x == 0;
+    }
+    x == 0xFF
+}
+
+// Whether the content of an INTEGER is of the shortest form.
+pub fn is_shortest(content: &[u8]) -> bool
+    ensures { λ r. ⌜ r ≡ strict (now (content .entry)) ⌝ }
+{
+    let n = content.len();
+    if n == 0 {
+        return false;
+    }
+    if n == 1 {
+        return true;
+    }
+    !is_redundant(content[0], content[1])
 }

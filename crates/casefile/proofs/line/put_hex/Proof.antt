@@ -1,0 +1,77 @@
+-- `casefile::line::put_hex` meets its contract. The loop's invariant: the bytes up to `i` are put down in hex.
+-- Assumes nothing.
+use borrow.Author.Needs.{needs}
+use native.Mathlib.Omega.{arith}
+use mathlib.Core.Path.{_≡_, refl, _∙_}
+use Prim.Native.Nat.{_-_, _≤_}
+use denote.Ref.{now}
+use lib.ListN.{length, take}
+use lib.Seq.{take-all}
+use Rattle.casefile.specs.Line.{Put, hexOf}
+use Rattle.casefile.specs.Line.Laws.{put-none, hex-turn}
+use Rattle.casefile.proofs.line.put_hex.Statement.{statement}
+use Rattle.casefile.proofs.line.put_hex.Tie as tie
+
+abbrev Inv-loop : tie.InvT-loop
+Inv-loop out₀ at bytes o₀ i₀ out o i = (i ≤ length bytes) × (length out ≡ length out₀) × Put out₀ at (hexOf (take i bytes)) out o
+
+abbrev μ-loop : tie.MeasureT-loop
+μ-loop out₀ at bytes o₀ i₀ out o i = length bytes - i
+
+loop-holds : tie.Need-loop-holds Inv-loop μ-loop
+unfolding hexOf
+loop-holds c = (omega arith, refl, put-none _ _)
+
+shared-slice-read-b : tie.Need-shared-slice-read-b Inv-loop μ-loop
+shared-slice-read-b c = omega arith
+
+hex-digit-requires : tie.Need-hex-digit-requires Inv-loop μ-loop
+hex-digit-requires c κs = omega (arith, c .before .shared-slice-known2 .given (c .before .before .before .loop .i))
+
+put-requires : tie.Need-put-requires Inv-loop μ-loop
+put-requires c κs = search needs
+
+hex-digit-requires-2 : tie.Need-hex-digit-requires-2 Inv-loop μ-loop
+hex-digit-requires-2 c κs = search needs
+
+put-requires-2 : tie.Need-put-requires-2 Inv-loop μ-loop
+put-requires-2 c κs = search needs
+
+add-i : tie.Need-add-i Inv-loop μ-loop
+add-i c = omega arith
+
+loop-less : tie.Need-loop-less Inv-loop μ-loop
+loop-less c = omega arith
+
+loop-again : tie.Need-loop-again Inv-loop μ-loop
+loop-again c =
+    let low = c .before .before in
+    let high = low .before .before .before .before .before in
+    let on = high .before .before .before .before .before in
+    (omega arith, low .put2 .kept .0 ∙ high .put .kept .0 ∙ on .loop .inv .1, hex-turn (now (on .before .before .before .args .bytes)) _ _ (on .loop .i) (omega arith) _ _ (on .loop .inv .1) _ _ (high .before .hex-digit .ensures) (low .before .hex-digit2 .ensures) _ _ (high .put .kept .0) _ _ (on .loop .inv .2) (high .put .ensures) (low .put2 .ensures))
+
+same-length : tie.Need-same-length Inv-loop μ-loop
+same-length c = c .before .loop .inv .1
+
+returns : tie.Need-returns Inv-loop μ-loop
+returns c =
+    let h : length (now (c .before .before .before .before .args .bytes)) ≤ c .before .loop .i = omega arith in
+    rw take-all at (c .before .loop .inv .2)
+
+pub put-hex-spec : {M : Type 1} → statement M
+put-hex-spec =
+    tie.close
+    (tie.spec
+    Inv-loop
+    μ-loop
+    loop-holds
+    shared-slice-read-b
+    hex-digit-requires
+    put-requires
+    hex-digit-requires-2
+    put-requires-2
+    add-i
+    loop-less
+    loop-again
+    same-length
+    returns)

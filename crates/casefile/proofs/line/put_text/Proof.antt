@@ -1,0 +1,63 @@
+-- `casefile::line::put_text` meets its contract. The loop's invariant: the text up to `i` is put down.
+-- Assumes nothing.
+use borrow.Author.Needs.{needs}
+use native.Mathlib.Omega.{arith}
+use mathlib.Core.Path.{_≡_, refl, _∙_}
+use Prim.Native.Nat.{_-_, _≤_}
+use denote.Ref.{now}
+use lib.ListN.{length, take}
+use lib.Seq.{take-all}
+use Rattle.casefile.specs.Line.{Put}
+use Rattle.casefile.specs.Line.Laws.{put-none, text-turn}
+use Rattle.casefile.proofs.line.put_text.Statement.{statement}
+use Rattle.casefile.proofs.line.put_text.Tie as tie
+
+abbrev Inv-loop : tie.InvT-loop
+Inv-loop out₀ at text o₀ i₀ out o i = (i ≤ length text) × (length out ≡ length out₀) × Put out₀ at (take i text) out o
+
+abbrev μ-loop : tie.MeasureT-loop
+μ-loop out₀ at text o₀ i₀ out o i = length text - i
+
+loop-holds : tie.Need-loop-holds Inv-loop μ-loop
+loop-holds c = (omega arith, refl, put-none _ _)
+
+shared-slice-read-put : tie.Need-shared-slice-read-put Inv-loop μ-loop
+shared-slice-read-put c = omega arith
+
+put-requires : tie.Need-put-requires Inv-loop μ-loop
+put-requires c κs = search needs
+
+add-i : tie.Need-add-i Inv-loop μ-loop
+add-i c = omega arith
+
+loop-less : tie.Need-loop-less Inv-loop μ-loop
+loop-less c = omega arith
+
+loop-again : tie.Need-loop-again Inv-loop μ-loop
+loop-again c =
+    let on = c .before .before .before .before .before .before in
+    let call = c .before .before .put in
+    (omega arith, call .kept .0 ∙ on .loop .inv .1, text-turn (now (on .before .before .before .args .text)) _ _ (on .loop .i) (omega arith) _ _ (on .loop .inv .1) _ _ (on .loop .inv .2) (call .ensures))
+
+same-length : tie.Need-same-length Inv-loop μ-loop
+same-length c = c .before .loop .inv .1
+
+returns : tie.Need-returns Inv-loop μ-loop
+returns c =
+    let h : length (now (c .before .before .before .before .args .text)) ≤ c .before .loop .i = omega arith in
+    rw take-all at (c .before .loop .inv .2)
+
+pub put-text-spec : {M : Type 1} → statement M
+put-text-spec =
+    tie.close
+    (tie.spec
+    Inv-loop
+    μ-loop
+    loop-holds
+    shared-slice-read-put
+    put-requires
+    add-i
+    loop-less
+    loop-again
+    same-length
+    returns)

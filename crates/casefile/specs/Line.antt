@@ -1,0 +1,69 @@
+-- What building a line in a buffer leaves there.
+-- Assumes nothing.
+pub mod Laws
+use Prim.Native.Nat.{ℕ, zero, suc, _+_, _*_, _-_, _/_, _%_, _≤_, _<_}
+use mathlib.Core.Path.{_≡_}
+use mathlib.Core.Bool.{Bool, true, false, cond}
+use mathlib.Core.List.{List, [], _∷_, _++_}
+use lib.Dec.{ltb, leb}
+use lib.ListN.{length, getD, set, take, drop}
+
+-- a buffer, and the place where the next byte goes
+pub record Line : Type 0 where
+  pub text : List ℕ
+  pub at : ℕ
+
+abbrev pub line : List ℕ → ℕ → Line
+line text at = record { text = text; at = at }
+
+-- one byte more, if there is room for it
+abbrev pub with : Line → ℕ → Line
+with l b = line (set (l .text) (l .at) b) (cond (ltb (l .at) (length (l .text))) (l .at + 1) (l .at))
+
+-- these bytes more, as far as there is room
+unfoldable pub withAll : Line → List ℕ → Line
+withAll l [] = l
+withAll l (b ∷ t) = withAll (with l b) t
+
+-- from `at` to `r` no more is taken than the room that is left: `r` is no further than the end, or than `at`
+pub record Within (out : List ℕ) (at r : ℕ) : Type 0 where
+  pub most : r - at ≤ length out - at
+
+-- a buffer `old` with these bytes from `at` on is the buffer `new`, and the next place is `r`
+pub record Put (old : List ℕ) (at : ℕ) (bytes new : List ℕ) (r : ℕ) : Type 0 where
+  pub is : line new r ≡ withAll (line old at) bytes
+  pub within : Within old at r
+
+-- the digits of a number in decimal, as many as k at most
+unfoldable pub digits : ℕ → ℕ → List ℕ
+digits zero n = []
+digits (suc k) n = cond (ltb n 10) ((48 + n) ∷ []) (digits k (n / 10) ++ ((48 + n % 10) ∷ []))
+
+-- a number in decimal, with no zero in front
+unfoldable pub decimalOf : ℕ → List ℕ
+decimalOf n = digits (suc n) n
+
+-- the hex digit of a number below 16
+abbrev pub digitOf : ℕ → ℕ
+digitOf n = cond (ltb n 10) (48 + n) (55 + n)
+
+-- bytes in hex, two digits for each
+unfoldable pub hexOf : List ℕ → List ℕ
+hexOf [] = []
+hexOf (b ∷ t) = digitOf (b / 16) ∷ digitOf (b % 16) ∷ hexOf t
+
+-- the sum of all bytes, each times its place, the first of which is k
+unfoldable pub weighted : ℕ → List ℕ → ℕ
+weighted k [] = 0
+weighted k (b ∷ t) = k * b + weighted (suc k) t
+
+-- bytes in hex: all of them up to 24, else the first 8, `..`, the last 8, ` sum ` and the sum
+unfoldable pub shown : List ℕ → List ℕ
+shown s =
+    cond (leb (length s) 24) (hexOf s)
+    (hexOf (take 8 s) ++ ((46 ∷ 46 ∷ []) ++ (hexOf (drop (length s - 8) s) ++ ((32 ∷ 115 ∷ 117 ∷ 109 ∷ 32 ∷ []) ++ decimalOf (weighted 1 s % 65521)))))
+
+-- every byte from a place on is `filling`, or there is one that is not
+abbrev pub Unchanged : List ℕ → ℕ → ℕ → Bool → Type 0
+Unchanged buffer from filling true = (i : ℕ) → i < length buffer → from ≤ i → getD buffer i 0 ≡ filling
+Unchanged buffer from filling false = (i : ℕ) × (i < length buffer) × (from ≤ i) × (getD buffer i 0 ≡ filling → ⊥)

@@ -1,0 +1,16 @@
+// What the programs share that run the cases of a data file: a case is a line of text, and so is its answer.
+mod line;
+mod scan;
+
+pub use line::checksum;
+pub use line::put;
+pub use line::put_bytes;
+pub use line::put_hex;
+pub use line::put_number;
+pub use line::put_text;
+pub use line::unchanged;
+pub use scan::Decimal;
+pub use scan::at;
+pub use scan::line_end;
+pub use scan::number;
+pub use scan::runs;

@@ -1,0 +1,109 @@
+// Building a line in a lent buffer: each function puts its bytes down from a place on, as far as there is room, and gives the next place.
+ghost use mathlib.Core.Path.{_≡_};
+ghost use mathlib.Core.List.{[], _∷_};
+ghost use Prim.Native.Nat.{_%_, _<_};
+ghost use Rattle.casefile.specs.Line.{Put, hexOf, digitOf, decimalOf, weighted, shown, Unchanged};
+use octets::wide;
+
+// Puts down a byte.
+pub fn put(out: &mut [u8], at: usize, b: u8) -> usize
+    ensures { λ r. ⌜ Put (now (out .entry)) at (b ∷ []) (now (out .exit)) r ⌝ }
+{
+    if at < out.len() {
+        out[at] = b;
+        return at + 1;
+    }
+    at
+}
+
+// Puts down all bytes of `text`.
+pub fn put_text(out: &mut [u8], at: usize, text: &[u8]) -> usize
+    ensures { λ r. ⌜ Put (now (out .entry)) at (now (text .entry)) (now (out .exit)) r ⌝ }
+{
+    let mut o = at;
+    let mut i: usize = 0;
+    while i < text.len() {
+        o = put(out, o, text[i]);
+        i += 1;
+    }
+    o
+}
+
+// Puts down a number in decimal: all digits but the last, then the last.
+pub fn put_number(out: &mut [u8], at: usize, n: usize) -> usize
+    ensures { λ r. ⌜ Put (now (out .entry)) at (decimalOf n) (now (out .exit)) r ⌝ }
+{
+    if n < 10 {
+        return put(out, at, b'0' + n as u8);
+    }
+    let next = put_number(out, at, n / 10);
+    put(out, next, b'0' + (n % 10) as u8)
+}
+
+// The hex digit, in upper case, of a number below 16.
+fn hex_digit(n: u8) -> u8
+    requires { ⌜ n < 16 ⌝ }
+    ensures { λ r. ⌜ r ≡ digitOf n ⌝ }
+{
+    if n < 10 { b'0' + n } else { b'A' + (n - 10) }
+}
+
+// Puts down bytes in hex, two digits in upper case for each.
+pub fn put_hex(out: &mut [u8], at: usize, bytes: &[u8]) -> usize
+    ensures { λ r. ⌜ Put (now (out .entry)) at (hexOf (now (bytes .entry))) (now (out .exit)) r ⌝ }
+{
+    let mut o = at;
+    let mut i: usize = 0;
+    while i < bytes.len() {
+        let b = bytes[i];
+        o = put(out, o, hex_digit(b / 16));
+        o = put(out, o, hex_digit(b % 16));
+        i += 1;
+    }
+    o
+}
+
+// The sum of all bytes, each times its place counted from 1, modulo 65,521: the sum of the sums of all tails, taken from the end.
+pub fn checksum(bytes: &[u8]) -> usize
+    ensures { λ r. ⌜ r ≡ weighted 1 (now (bytes .entry)) % 65521 ⌝ }
+{
+    let mut i = bytes.len();
+    let mut tail: usize = 0;
+    let mut sum: usize = 0;
+    while 0 < i {
+        i -= 1;
+        tail = (tail + wide(bytes[i])) % 65521;
+        sum = (sum + tail) % 65521;
+    }
+    sum
+}
+
+// Puts down bytes in hex: all of them up to 24, else the first 8, the last 8 and the checksum of all.
+pub fn put_bytes(out: &mut [u8], at: usize, bytes: &[u8]) -> usize
+    ensures { λ r. ⌜ Put (now (out .entry)) at (shown (now (bytes .entry))) (now (out .exit)) r ⌝ }
+{
+    let n = bytes.len();
+    if n <= 24 {
+        return put_hex(out, at, bytes);
+    }
+    let last = n - 8;
+    let mut o = put_hex(out, at, &bytes[..8]);
+    o = put_text(out, o, b"..");
+    o = put_hex(out, o, &bytes[last..]);
+    o = put_text(out, o, b" sum ");
+    put_number(out, o, checksum(bytes))
+}
+
+// Whether every byte from a place on is the byte that the buffer was filled with.
+pub fn unchanged(buffer: &[u8], from: usize, filling: u8) -> bool
+    ensures { λ r. ⌜ Unchanged (now (buffer .entry)) from filling r ⌝ }
+{
+    let mut i = from;
+    while i < buffer.len() {
+        if buffer[i] != filling {
+            return false;
+        }
+        i += 1;
+    }
+    true
+}

@@ -1,0 +1,167 @@
+// Scanning a line of cases: where it ends, a byte, a decimal number, and bytes as runs of hex digits.
+ghost use mathlib.Core.Path.{_≡_};
+ghost use Prim.Native.Nat.{_≤_, _<_};
+ghost use lib.ListN.{length, getD};
+ghost use Rattle.casefile.specs.Line.{Within};
+ghost use Rattle.casefile.specs.Scan.{LineEnd, Numeral, HexDigit};
+use crate::line::put;
+use octets::wide;
+
+// A decimal number, and the place after its last digit.
+pub struct Decimal {
+    pub value: usize,
+    pub next: usize,
+}
+
+// How far a run was taken: the next place of the line, and the next of the buffer.
+struct Taken {
+    next: usize,
+    to: usize,
+}
+
+// The byte at a place, or a newline past the end, which ends whatever is scanned.
+pub fn at(s: &[u8], i: usize) -> u8
+    ensures { λ r. ⌜ r ≡ getD (now (s .entry)) i 10 ⌝ }
+{
+    if i < s.len() { s[i] } else { b'\n' }
+}
+
+// The place of the first newline at or after `from`, or the end.
+pub fn line_end(s: &[u8], from: usize) -> usize
+    ensures { λ r. ⌜ LineEnd (now (s .entry)) from r ⌝ }
+{
+    let mut i = from;
+    while i < s.len() {
+        if s[i] == b'\n' {
+            return i;
+        }
+        i += 1;
+    }
+    i
+}
+
+// The decimal number at a place: as many digits as there are, but no more once it is above 99,999,999.
+pub fn number(s: &[u8], from: usize) -> Decimal
+    ensures { λ r. ⌜ Numeral (now (s .entry)) from (r .value) (r .next) ⌝ }
+{
+    let mut i = from;
+    let mut value: usize = 0;
+    while i < s.len() {
+        let b = s[i];
+        if b < b'0' {
+            return Decimal { value, next: i };
+        }
+        if b'9' < b {
+            return Decimal { value, next: i };
+        }
+        if 99999999 < value {
+            return Decimal { value, next: i };
+        }
+        value = value * 10 + wide(b - b'0');
+        i += 1;
+    }
+    Decimal { value, next: i }
+}
+
+// What a hex digit in upper case stands for; 16 for any other byte.
+pub(crate) fn hex_value(b: u8) -> u8
+    ensures { λ r. ⌜ HexDigit b r ⌝ }
+{
+    if b < b'0' {
+        return 16;
+    }
+    if b <= b'9' {
+        return b - b'0';
+    }
+    if b < b'A' {
+        return 16;
+    }
+    if b <= b'F' {
+        return b - b'A' + 10;
+    }
+    16
+}
+
+// The bytes of the pairs of hex digits that stand at `from`, into `out` from `to` on.
+fn take_pairs(s: &[u8], from: usize, out: &mut [u8], to: usize) -> Taken
+    ensures { λ r. ⌜ (from ≤ r .next) × Within (now (out .entry)) to (r .to) ⌝ }
+{
+    let mut i = from;
+    let mut o = to;
+    while i < s.len() {
+        let high = hex_value(at(s, i));
+        if high == 16 {
+            return Taken { next: i, to: o };
+        }
+        let low = hex_value(at(s, i + 1));
+        if low == 16 {
+            return Taken { next: i, to: o };
+        }
+        o = put(out, o, high * 16 + low);
+        i += 2;
+    }
+    Taken { next: i, to: o }
+}
+
+// The bytes of `out` from `first` to `last`, put down once more from `to` on.
+fn copy(out: &mut [u8], first: usize, last: usize, to: usize) -> usize
+    ensures { λ r. ⌜ Within (now (out .entry)) to r ⌝ }
+{
+    let mut i = first;
+    let mut o = to;
+    while i < last {
+        o = put(out, o, at(out, i));
+        i += 1;
+    }
+    o
+}
+
+// The bytes of `out` from `first` to `last`, which stand there once, put down again until they stand there `times` times.
+fn repeat(out: &mut [u8], first: usize, last: usize, times: usize) -> usize
+    ensures { λ r. ⌜ Within (now (out .entry)) last r ⌝ }
+{
+    let mut k: usize = 1;
+    let mut o = last;
+    while k < times {
+        o = copy(out, first, last, o);
+        k += 1;
+    }
+    o
+}
+
+// One run, pairs of hex digits and perhaps `*COUNT`, into `out` from `to` on.
+fn take_run(s: &[u8], from: usize, out: &mut [u8], to: usize) -> Taken
+    ensures { λ r. ⌜ (from ≤ r .next) × Within (now (out .entry)) to (r .to) ⌝ }
+{
+    let once = take_pairs(s, from, out, to);
+    let after = once.next;
+    let end = once.to;
+    if after < s.len() {
+        if s[after] == b'*' {
+            let times = number(s, after + 1);
+            let all = repeat(out, to, end, times.value);
+            return Taken {
+                next: times.next,
+                to: all,
+            };
+        }
+    }
+    once
+}
+
+// The bytes of all runs that stand at `from`, each after a space, put at the start of `out` as far as it has room, and how many they are.
+pub fn runs(s: &[u8], from: usize, out: &mut [u8]) -> usize
+    ensures { λ r. ⌜ r ≤ length (now (out .entry)) ⌝ }
+{
+    let mut i = from;
+    let mut to: usize = 0;
+    while i < s.len() {
+        if s[i] != b' ' {
+            return to;
+        }
+        let run = take_run(s, i + 1, out, to);
+        i = run.next;
+        to = run.to;
+    }
+    to
+}
