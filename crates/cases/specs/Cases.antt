@@ -3,19 +3,26 @@
 use mathlib.Core.Path.{_≡_, refl}
 use mathlib.Core.List.{List, [], _∷_, _++_, map}
 use Rattle.format.specs.Answers.{Outcome}
-use Rattle.format.specs.Numbers.{be}
+use Rattle.format.specs.Numbers.{be, val}
 use Rattle.c40.specs.Chart.{theChart, valueOf}
 use Rattle.c40.specs.Text.{triple, publish}
 use Rattle.c40.specs.Pairs.{single, values, pairOf}
 use Rattle.c40.specs.Decode.{decode}
 use Rattle.c40.specs.Calls.{reading, known, writing}
+use Rattle.dates.specs.Days.{isDay, publish as date}
+use Rattle.dates.specs.Calls.{fromNumber}
+use Rattle.der.specs.Length.{form, longForm, readLength}
+use Rattle.der.specs.Element.{elementIn}
+use Rattle.der.specs.Content.{shortest, strict}
+use Rattle.integers.specs.Calls.{reading as readInteger, writing as writeInteger}
 use Rattle.cases.specs.Case.{Case}
 use Rattle.cases.specs.C40.{c40-cases}
+use Rattle.cases.specs.Numbers.{number-cases}
 
 abbrev pub cases : List Case
-cases = c40-cases
+cases = c40-cases ++ number-cases
 
 -- each is as document 01 says
 pub cases-hold : map (λ (c : Case). c .found) cases ≡ map (λ (c : Case). c .expected) cases
-unfolding be theChart valueOf triple publish single values pairOf decode reading known writing
+unfolding be val theChart valueOf triple publish single values pairOf decode reading known writing isDay date fromNumber form longForm readLength elementIn shortest strict readInteger writeInteger
 cases-hold = refl

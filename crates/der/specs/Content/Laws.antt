@@ -2,7 +2,7 @@
 -- Assumes nothing.
 use mathlib.Core.Path.{_≡_, refl, ap, sym, _∙_}
 use mathlib.Core.Bool.{Bool, true, false, not}
-use Prim.Native.Nat.{ℕ, _<_, _≤_}
+use Prim.Native.Nat.{ℕ, suc, _<_, _≤_}
 use native.Mathlib.Omega.{arith}
 use borrow.Author.Tests.{lt-ltb, le-ltb, ltb-true, ltb-false, eq-eqb, ne-eqb, eqb-true, eqb-false}
 use mathlib.Core.List.{List, [], _∷_, _++_}
@@ -64,3 +64,14 @@ zero-needed y h = simp (le-ltb y 0x80 h)
 -- a byte that is neither zero nor from 80 on is not redundant
 pub byte-needed : (x y : ℕ) → 0 < x → x < 0x80 → redundant x y ≡ false
 byte-needed x y h l = by-test (ltb y 0x80) (λ e. simp (e, ne-eqb x 0 (λ z. omega arith))) (λ e. simp (e, ne-eqb x 0xFF (λ z. omega arith)))
+
+-- the shortest form has at least one byte of a form that has, and no more
+pub shortest-size : (x : ℕ) (s : List ℕ) → (1 ≤ length (shortest (x ∷ s))) × (length (shortest (x ∷ s)) ≤ length (x ∷ s))
+unfolding shortest
+shortest-size x [] = (omega arith, omega arith)
+shortest-size x (y ∷ s) =
+    let ih = shortest-size y s in
+    by-test (redundant x y) (λ e. simp e (ih .0, le-step (ih .1))) (λ e. simp e (omega arith, omega arith))
+  where
+    le-step : {a b : ℕ} → a ≤ b → a ≤ suc b
+    le-step h = omega arith

@@ -34,7 +34,7 @@ element-found tag body rest sized =
     let e : counted form body ++ rest ≡ form m ++ (body ++ rest) = append-assoc (form m) body rest in
     let room : length (counted form body ++ rest) ≡ length (form m) + (m + length rest) = ap length e ∙ simp length-append in
     simp (eq-eqb tag tag refl)
-    ( ap (λ r. bodyIn (length (counted form body ++ rest)) r) (ap readLength e ∙ form-reads m sized (body ++ rest))
+    (ap (λ r. bodyIn (length (counted form body ++ rest)) r) (ap readLength e ∙ form-reads m sized (body ++ rest))
     ∙ sym (body-is (length (counted form body ++ rest)) m (length (form m)) (omega arith)))
 
 -- its body and what follows it stand there
@@ -71,7 +71,7 @@ found x t m w taken room =
           ∙ ap₂ (λ k u. element x (take k u)) (sym size) (sym after);
       sized = subst (λ k. Sized k) (sym size) (taken .sized);
       inside = omega arith;
-      order = omega arith
+      order = omega arith;
     }
 
 pub element-whole : (tag : ℕ) (s : List ℕ) → Bytes s → (from to : ℕ) → elementIn tag s ≡ Body from to → Found tag s from to
@@ -87,10 +87,10 @@ element-whole tag (x ∷ t) bytes from to e =
         by-test (ltb (length t) (w + m))
         (λ h. absurd (nothing {from = from} {to = to} (ap (bodyIn (length t)) f ∙ sym (body-not (length t) m w (ltb-true (length t) (w + m) h))) g))
         (λ h.
-            let room = ltb-false (length t) (w + m) h in
-            let is-body : Body (w + 1) (w + 1 + m) ≡ Body from to = body-is (length t) m w room ∙ sym (ap (bodyIn (length t)) f) ∙ g in
-            let a : w + 1 ≡ from = cc in
-            let b : w + 1 + m ≡ to = cc in
-            subst (λ z. Found z (x ∷ t) from to) same (subst₂ (λ y z. Found x (x ∷ t) y z) a b (found x t m w (read-is-form t (λ i. bytes (suc i)) m w f) room)))
+        let room = ltb-false (length t) (w + m) h in
+        let is-body : Body (w + 1) (w + 1 + m) ≡ Body from to = body-is (length t) m w room ∙ sym (ap (bodyIn (length t)) f) ∙ g in
+        let a : w + 1 ≡ from = cc in
+        let b : w + 1 + m ≡ to = cc in
+        subst (λ z. Found z (x ∷ t) from to) same (subst₂ (λ y z. Found x (x ∷ t) y z) a b (found x t m w (read-is-form t (λ i. bytes (suc i)) m w f) room)))
     read same is.Cut f g = absurd (nothing {from = from} {to = to} (ap (bodyIn (length t)) f) g)
     read same is.Malformed f g = absurd (nothing {from = from} {to = to} (ap (bodyIn (length t)) f) g)

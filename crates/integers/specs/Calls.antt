@@ -1,0 +1,43 @@
+-- What the calls on INTEGERs answer (document 01: 65 or 63).
+-- Assumes nothing.
+pub mod Laws
+use Prim.Native.Nat.{ℕ, _-_}
+use mathlib.Core.List.{List}
+use lib.Dec.{ltb, eqb}
+use lib.IntN.{ℤ, pos}
+use lib.ListN.{length, take, drop}
+use Rattle.format.specs.Choice.{pick}
+use Rattle.format.specs.Answers.{Outcome, Answer, Given, done, refused, given, refusal}
+use Rattle.der.specs.Element.{elementIn}
+use Rattle.der.specs.Content.{strict}
+use Rattle.integers.specs.Integer.{valueOf, integerOf}
+use Rattle.der.specs.declared.Element.{Element}
+use Rattle.der.specs.declared.Element.the-variants.{Body, Nothing}
+use Rattle.integers.specs.declared.Reading.{Reading}
+use Rattle.integers.specs.declared.Reading.the-variants as read
+use Rattle.integers.specs.declared.Writing.{Writing}
+use Rattle.integers.specs.declared.Writing.the-variants as write
+
+-- content of 1 to 8 bytes, of the shortest form
+abbrev pub content : List ℕ → Given ℤ
+content c = pick (strict c) (pick (ltb 8 (length c)) (refusal (pos 0) 65) (given (valueOf c))) (refusal (pos 0) 65)
+
+-- one whole INTEGER, and nothing left over
+abbrev pub whole : List ℕ → Element → Given ℤ
+whole s (Body start end) = pick (eqb end (length s)) (content (take (end - start) (drop start s))) (refusal (pos 0) 65)
+whole s Nothing = refusal (pos 0) 65
+
+unfoldable pub reading : List ℕ → Given ℤ
+reading s = whole s (elementIn 0x02 s)
+
+unfoldable pub writing : ℤ → ℕ → Outcome
+writing v room = pick (ltb room (length (integerOf v))) (refused 63 0) (done (integerOf v))
+
+-- number and value of each case
+abbrev pub readingOf : Reading → Given ℤ
+readingOf (read.Value v) = given v
+readingOf read.NotOne = refusal (pos 0) 65
+
+abbrev pub writingOf : Writing → Answer
+writingOf (write.Done count) = record { number = 0; place = 0; count = count }
+writingOf write.NoRoom = record { number = 63; place = 0; count = 0 }
