@@ -42,7 +42,7 @@ published-decodes (a ∷ b ∷ c ∷ t) h at =
     ∙ ap (ahead (a ∷ b ∷ c ∷ [])) ih
 
 -- three characters in front are a triple in front
-three-ahead : (p u : List ℕ) → length p ≡ 3 → publish (p ++ u) ≡ publish p ++ publish u
+pub three-ahead : (p u : List ℕ) → length p ≡ 3 → publish (p ++ u) ≡ publish p ++ publish u
 three-ahead [] u e = absurd (omega arith)
 three-ahead (a ∷ []) u e = absurd (omega arith)
 three-ahead (a ∷ b ∷ []) u e = absurd (omega arith)

@@ -15,14 +15,18 @@ use Rattle.der.specs.Length.{form, longForm, readLength}
 use Rattle.der.specs.Element.{elementIn}
 use Rattle.der.specs.Content.{shortest, strict}
 use Rattle.integers.specs.Calls.{reading as readInteger, writing as writeInteger}
+use Rattle.ecdsa.specs.Signature.{isSize}
+use Rattle.ecdsa.specs.Strict.{digitsIn, numberIn, rawOf}
+use Rattle.ecdsa.specs.Calls.{formed, toDer, toRaw}
 use Rattle.cases.specs.Case.{Case}
 use Rattle.cases.specs.C40.{c40-cases}
 use Rattle.cases.specs.Numbers.{number-cases}
+use Rattle.cases.specs.Signatures.{signature-cases}
 
 abbrev pub cases : List Case
-cases = c40-cases ++ number-cases
+cases = c40-cases ++ number-cases ++ signature-cases
 
 -- each is as document 01 says
 pub cases-hold : map (λ (c : Case). c .found) cases ≡ map (λ (c : Case). c .expected) cases
-unfolding be val theChart valueOf triple publish single values pairOf decode reading known writing isDay date fromNumber form longForm readLength elementIn shortest strict readInteger writeInteger
+unfolding be val theChart valueOf triple publish single values pairOf decode reading known writing isDay date fromNumber form longForm readLength elementIn shortest strict readInteger writeInteger isSize formed toDer digitsIn numberIn rawOf toRaw
 cases-hold = refl

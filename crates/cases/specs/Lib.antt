@@ -1,4 +1,5 @@
 pub mod Case
 pub mod C40
 pub mod Numbers
+pub mod Signatures
 pub mod Cases

@@ -2,7 +2,7 @@
 -- Assumes nothing.
 use mathlib.Core.Path.{_≡_, refl, ap, sym, _∙_}
 use mathlib.Core.Bool.{Bool, true, false}
-use Prim.Native.Nat.{ℕ, _-_, _<_, _≤_}
+use Prim.Native.Nat.{ℕ, _+_, _-_, _<_, _≤_}
 use native.Mathlib.Omega.{arith}
 use borrow.Author.Tests.{ltb-true, ltb-false, le-ltb, lt-ltb, eqb-true, eq-eqb, ne-eqb}
 use lib.Dec.{T, ltb, eqb, eqb→eq, ltb→lt}
@@ -88,3 +88,35 @@ value-one c d i j e = sym i ∙ ap char e ∙ j
 -- an entry of a lent chart, at an index that was reckoned
 pub entry : (table : List ℕ) (v w : ℕ) → table ≡ theChart → v ≡ w → getD table v 0 ≡ char w
 entry table v w e f = ap (λ t. getD t v 0) e ∙ ap char f
+
+-- the characters by their kinds: the test that past the space an entry is a digit, and past the digits a letter
+kinds : ℕ → ℕ → Bool
+kinds v c = pick (ltb v 4) true (pick (ltb v 14) (eqb c (v + 44)) (eqb c (v + 51)))
+
+kinds-everywhere : T (every kinds 0 theChart)
+unfolding theChart kinds
+kinds-everywhere = tt
+
+kinds-at : (v : ℕ) → v < 40 → T (kinds v (char v))
+kinds-at v h = at-entry kinds theChart kinds-everywhere v (omega (arith, length-chart))
+
+-- letters, digits and the space are in the chart
+pub letter-in : (c : ℕ) → 65 ≤ c → c ≤ 90 → InChart c
+unfolding kinds
+letter-in c low high =
+    let v : c - 51 ≡ valueOf c = value-letter c low (omega arith) in
+    let t = kinds-at (c - 51) (omega arith) in
+    let e = eqb→eq (char (c - 51)) (c - 51 + 51) (simp (le-ltb (c - 51) 4 (omega arith), le-ltb (c - 51) 14 (omega arith)) at t) in
+    sym (ap char v) ∙ e ∙ omega arith
+
+pub digit-in : (c : ℕ) → 48 ≤ c → c ≤ 57 → InChart c
+unfolding kinds
+digit-in c low high =
+    let v : c - 44 ≡ valueOf c = value-digit c low (omega arith) in
+    let t = kinds-at (c - 44) (omega arith) in
+    let e = eqb→eq (char (c - 44)) (c - 44 + 44) (simp (le-ltb (c - 44) 4 (omega arith), lt-ltb (c - 44) 14 (omega arith)) at t) in
+    sym (ap char v) ∙ e ∙ omega arith
+
+pub space-in : InChart 32
+unfolding theChart valueOf
+space-in = refl

@@ -47,6 +47,15 @@ form-long =
     (λ n h l. simp (le-ltb n 0x80 (omega arith), le-ltb n 0x100 (omega arith), le-ltb n 0x10000 h, lt-ltb n 0x1000000 l))
     (λ n h l. simp (le-ltb n 0x80 (omega arith), le-ltb n 0x100 (omega arith), le-ltb n 0x10000 (omega arith), le-ltb n 0x1000000 h))
 
+-- a form has at least one byte
+pub form-some : (n : ℕ) → 1 ≤ length (form n)
+unfolding form
+form-some n =
+    by-test (ltb n 0x80) (λ e. simp e (omega arith))
+    (λ a. by-test (ltb n 0x100) (λ e. simp (a, e) (omega arith))
+    (λ b. by-test (ltb n 0x10000) (λ e. simp (a, b, e) (omega arith))
+    (λ c. by-test (ltb n 0x1000000) (λ e. simp (a, b, c, e) (omega arith)) (λ d. simp (a, b, c, d) (omega arith)))))
+
 -- every length is short, or has a width
 size-cases : {C : Type 0} (n : ℕ) → Sized n → (n < 0x80 → C) → ((k : ℕ) → 0 < k → k < 5 → least k ≤ n → n < 256 ^ k → C) → C
 size-cases n sized short long =

@@ -65,6 +65,10 @@ cut-be k a b t u la lb e =
     let back : (n : ℕ) (s : List ℕ) → n < 256 ^ k → val (be k n ++ s) k ≡ n = λ n s h. val-append k (be k n) s (le-of-eq (sym (length-be k n))) ∙ val-be k n h in
     (sym (back a t la) ∙ ap (λ s. val s k) e ∙ back b u lb, sym (drop-at (be k a) t k (length-be k a)) ∙ ap (drop k) e ∙ drop-at (be k b) u k (length-be k b))
 
+-- a number as one byte
+pub cut-byte : Cut (λ (n : ℕ). Unit) (λ n. n ∷ [])
+cut-byte a b t u la lb e = (head-of e, tail-of e)
+
 -- bytes as they are, of a known size
 pub cut-sized : (k : ℕ) → Cut (λ (v : List ℕ). length v ≡ k) (λ v. v)
 cut-sized k a b t u la lb e =
