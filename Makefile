@@ -23,6 +23,8 @@ bench: kit
 
 vectors:
 	@python3 vectors/c40_cases.py crates/vectors_c40
+	@python3 vectors/der_cases.py crates/vectors_numbers numbers
+	@python3 vectors/der_cases.py crates/vectors_signatures signatures
 
 clean:
 	@rm -rf target

@@ -19,7 +19,7 @@ static unsigned value_of(uint8_t c) {
     return 3;
 }
 
-__attribute__((noinline)) static size_t c_read(const uint8_t *s, size_t n, uint8_t *out, size_t room) {
+__attribute__((noipa)) static size_t c_read(const uint8_t *s, size_t n, uint8_t *out, size_t room) {
     if (n > 4096) return 45;
     if (n % 2) return 40;
     size_t count = 0;
@@ -57,7 +57,7 @@ __attribute__((noinline)) static size_t c_read(const uint8_t *s, size_t n, uint8
     return 0;
 }
 
-__attribute__((noinline)) static size_t c_write(const uint8_t *t, size_t n, uint8_t *out, size_t room) {
+__attribute__((noipa)) static size_t c_write(const uint8_t *t, size_t n, uint8_t *out, size_t room) {
     if (n > 6144) return 45;
     for (size_t i = 0; i < n; i++)
         if (chart[value_of(t[i])] != t[i]) return 43;

@@ -29,6 +29,10 @@ withAll l (b ∷ t) = withAll (with l b) t
 pub record Within (out : List ℕ) (at r : ℕ) : Type 0 where
   pub most : r - at ≤ length out - at
 
+-- n counts bytes at the start of s; the second part follows from the first, and is what lending them asks
+abbrev pub Counts : ℕ → List ℕ → Type 0
+Counts n s = (n ≤ length s) × (n ≡ length (take n s))
+
 -- a buffer `old` with these bytes from `at` on is the buffer `new`, and the next place is `r`
 pub record Put (old : List ℕ) (at : ℕ) (bytes new : List ℕ) (r : ℕ) : Type 0 where
   pub is : line new r ≡ withAll (line old at) bytes
@@ -42,6 +46,11 @@ digits (suc k) n = cond (ltb n 10) ((48 + n) ∷ []) (digits k (n / 10) ++ ((48 
 -- a number in decimal, with no zero in front
 unfoldable pub decimalOf : ℕ → List ℕ
 decimalOf n = digits (suc n) n
+
+-- numbers in decimal, with a space before each
+unfoldable pub wordsOf : List ℕ → List ℕ
+wordsOf [] = []
+wordsOf (n ∷ t) = 32 ∷ (decimalOf n ++ wordsOf t)
 
 -- the hex digit of a number below 16
 abbrev pub digitOf : ℕ → ℕ

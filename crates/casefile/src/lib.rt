@@ -1,13 +1,22 @@
 // What the programs share that run the cases of a data file: a case is a line of text, and so is its answer.
+mod fill;
 mod line;
 mod scan;
 
+pub use fill::Answer;
+pub use fill::MOST;
+pub use fill::answer_of;
+pub use fill::filled;
+pub use fill::put_call;
+pub use fill::put_filled;
 pub use line::checksum;
 pub use line::put;
+pub use line::put_answer;
 pub use line::put_bytes;
 pub use line::put_hex;
 pub use line::put_number;
 pub use line::put_text;
+pub use line::put_words;
 pub use line::unchanged;
 pub use scan::Decimal;
 pub use scan::at;

@@ -1,8 +1,8 @@
 // Building a line in a lent buffer: each function puts its bytes down from a place on, as far as there is room, and gives the next place.
 ghost use mathlib.Core.Path.{_≡_};
-ghost use mathlib.Core.List.{[], _∷_};
+ghost use mathlib.Core.List.{[], _∷_, _++_};
 ghost use Prim.Native.Nat.{_%_, _<_};
-ghost use Rattle.casefile.specs.Line.{Put, hexOf, digitOf, decimalOf, weighted, shown, Unchanged};
+ghost use Rattle.casefile.specs.Line.{Put, hexOf, digitOf, decimalOf, wordsOf, weighted, shown, Unchanged};
 use octets::wide;
 
 // Puts down a byte.
@@ -38,6 +38,29 @@ pub fn put_number(out: &mut [u8], at: usize, n: usize) -> usize
     }
     let next = put_number(out, at, n / 10);
     put(out, next, b'0' + (n % 10) as u8)
+}
+
+// Puts down numbers in decimal, with a space before each.
+pub fn put_words(out: &mut [u8], at: usize, numbers: &[usize]) -> usize
+    ensures { λ r. ⌜ Put (now (out .entry)) at (wordsOf (now (numbers .entry))) (now (out .exit)) r ⌝ }
+{
+    let mut o = at;
+    let mut i: usize = 0;
+    while i < numbers.len() {
+        o = put(out, o, b' ');
+        o = put_number(out, o, numbers[i]);
+        i += 1;
+    }
+    o
+}
+
+// Puts down the line of a call that fills no buffer: the number that it answered, and the values.
+pub fn put_answer(out: &mut [u8], at: usize, number: usize, values: &[usize]) -> usize
+    ensures { λ r. ⌜ Put (now (out .entry)) at (decimalOf number ++ (wordsOf (now (values .entry)) ++ (10 ∷ []))) (now (out .exit)) r ⌝ }
+{
+    let mut o = put_number(out, at, number);
+    o = put_words(out, o, values);
+    put(out, o, b'\n')
 }
 
 // The hex digit, in upper case, of a number below 16.

@@ -1,8 +1,8 @@
 // Scanning a line of cases: where it ends, a byte, a decimal number, and bytes as runs of hex digits.
 ghost use mathlib.Core.Path.{_≡_};
 ghost use Prim.Native.Nat.{_≤_, _<_};
-ghost use lib.ListN.{length, getD};
-ghost use Rattle.casefile.specs.Line.{Within};
+ghost use lib.ListN.{getD};
+ghost use Rattle.casefile.specs.Line.{Within, Counts};
 ghost use Rattle.casefile.specs.Scan.{LineEnd, Numeral, HexDigit};
 use crate::line::put;
 use octets::wide;
@@ -40,7 +40,7 @@ pub fn line_end(s: &[u8], from: usize) -> usize
     i
 }
 
-// The decimal number at a place: as many digits as there are, but no more once it is above 99,999,999.
+// The decimal number at a place: as many digits as there are, but no more once another could take it past 2 to the 63 and 1.
 pub fn number(s: &[u8], from: usize) -> Decimal
     ensures { λ r. ⌜ Numeral (now (s .entry)) from (r .value) (r .next) ⌝ }
 {
@@ -54,7 +54,7 @@ pub fn number(s: &[u8], from: usize) -> Decimal
         if b'9' < b {
             return Decimal { value, next: i };
         }
-        if 99999999 < value {
+        if 922337203685477580 < value {
             return Decimal { value, next: i };
         }
         value = value * 10 + wide(b - b'0');
@@ -151,7 +151,7 @@ fn take_run(s: &[u8], from: usize, out: &mut [u8], to: usize) -> Taken
 
 // The bytes of all runs that stand at `from`, each after a space, put at the start of `out` as far as it has room, and how many they are.
 pub fn runs(s: &[u8], from: usize, out: &mut [u8]) -> usize
-    ensures { λ r. ⌜ r ≤ length (now (out .entry)) ⌝ }
+    ensures { λ r. ⌜ Counts r (now (out .exit)) ⌝ }
 {
     let mut i = from;
     let mut to: usize = 0;

@@ -2,29 +2,16 @@
 ghost use mathlib.Core.Path.{_≡_};
 ghost use Prim.Native.Nat.{_≤_};
 ghost use lib.ListN.{length};
-ghost use Rattle.casefile.specs.Line.{Within};
+ghost use Rattle.casefile.specs.Line.{Within, Counts};
 ghost use Rattle.c40.specs.Calls.{readingOf, writingOf};
 use c40::Reading;
 use c40::Writing;
+use casefile::Answer;
+use casefile::answer_of;
 use casefile::at;
-use casefile::put;
-use casefile::put_bytes;
 use casefile::put_number;
 use casefile::put_text;
 use libc::STDOUT_FILENO;
-
-// What every byte of the output buffer is before the call.
-const FILLING: u8 = 0x5A;
-
-// The most bytes of room that a case gives; 16 guard bytes more stand past them.
-const MOST: usize = 7000;
-
-// What a call answered, in numbers.
-struct Answer {
-    number: usize,
-    place: usize,
-    count: usize,
-}
 
 // The number, place and count of a reading.
 fn from_reading(reading: Reading) -> Answer
@@ -51,17 +38,6 @@ fn from_writing(writing: Writing) -> Answer
     }
 }
 
-// An answer of these three numbers.
-fn answer_of(number: usize, place: usize, count: usize) -> Answer
-    ensures { λ r. ⌜ (r .number ≡ number) × ((r .place ≡ place) × (r .count ≡ count)) ⌝ }
-{
-    Answer {
-        number,
-        place,
-        count,
-    }
-}
-
 // Makes the call that a case asks for: `r` reads, and anything else writes.
 fn call(kind: u8, input: &[u8], room: &mut [u8]) -> Answer {
     if kind == b'r' {
@@ -70,57 +46,14 @@ fn call(kind: u8, input: &[u8], room: &mut [u8]) -> Answer {
     from_writing(c40::write(input, room))
 }
 
-// Puts down what a call answered.
-fn put_answer(a: Answer, out: &mut [u8], to: usize) -> usize
+// Puts down the line of a case: the answer, and what the whole buffer holds after the call.
+fn report(a: Answer, buffer: &[u8], out: &mut [u8], to: usize) -> usize
     ensures { λ r. ⌜ Within (now (out .entry)) to r ⌝ }
 {
     let mut o = put_number(out, to, a.number);
     o = put_text(out, o, b" at ");
     o = put_number(out, o, a.place);
-    o = put_text(out, o, b" wrote ");
-    put_number(out, o, a.count)
-}
-
-// Puts down whether the call left every byte past the count alone, the guard bytes too.
-fn put_kept(buffer: &[u8], count: usize, out: &mut [u8], to: usize) -> usize
-    ensures { λ r. ⌜ Within (now (out .entry)) to r ⌝ }
-{
-    if casefile::unchanged(buffer, count, FILLING) {
-        return put_text(out, to, b" kept");
-    }
-    put_text(out, to, b" changed")
-}
-
-// Puts down the bytes that the call wrote, if there are any.
-fn put_written(buffer: &[u8], count: usize, out: &mut [u8], to: usize) -> usize
-    ensures { λ r. ⌜ Within (now (out .entry)) to r ⌝ }
-{
-    if count == 0 {
-        return to;
-    }
-    if buffer.len() < count {
-        return put_text(out, to, b" more than the buffer has");
-    }
-    let o = put(out, to, b' ');
-    put_bytes(out, o, &buffer[..count])
-}
-
-// Puts down the line of a case: the answer, and what the whole buffer holds after the call.
-fn report(a: Answer, buffer: &[u8], out: &mut [u8], to: usize) -> usize
-    ensures { λ r. ⌜ Within (now (out .entry)) to r ⌝ }
-{
-    let count = a.count;
-    let mut o = put_answer(a, out, to);
-    o = put_kept(buffer, count, out, o);
-    o = put_written(buffer, count, out, o);
-    put(out, o, b'\n')
-}
-
-// Room for the largest case and the guard bytes past it, all filled.
-fn filled() -> [u8; 7016]
-    ensures { λ r. ⌜ 7016 ≡ length r ⌝ }
-{
-    [FILLING; 7016]
+    casefile::put_filled(buffer, a.count, out, o)
 }
 
 // Runs one case with the first `room` bytes of the buffer lent to the codec.
@@ -151,18 +84,18 @@ fn run_line(line: &[u8], out: &mut [u8], to: usize) -> usize
     }
     let number = casefile::number(line, 2);
     let room = number.value;
-    if MOST < room {
+    if casefile::MOST < room {
         return put_text(out, to, b"too much room\n");
     }
     let mut input = io::large_buffer();
     let size = casefile::runs(line, number.next, &mut input);
-    let mut buffer = filled();
+    let mut buffer = casefile::filled();
     run_case(kind, &input[..size], room, &mut buffer, out, to)
 }
 
 // Runs every line of `cases`, and gives the length of what stands in `out` then.
 fn run_all(cases: &[u8], out: &mut [u8]) -> usize
-    ensures { λ r. ⌜ r ≤ length (now (out .entry)) ⌝ }
+    ensures { λ r. ⌜ Counts r (now (out .exit)) ⌝ }
 {
     let mut from: usize = 0;
     let mut to: usize = 0;

@@ -6,11 +6,11 @@ use native.Mathlib.Nat.{not-suc-le-zero, le-of-suc-le-suc, suc-mul}
 use borrow.Author.Tests.{lt-ltb, le-ltb}
 use native.Mathlib.Decide.{decLe}
 use mathlib.Core.Path.{_≡_, refl, ap, sym, _∙_}
-use mathlib.Core.List.{List, [], _∷_, _++_}
+use mathlib.Core.List.{List, [], _∷_, _++_, append-assoc, append-nil}
 use native.Mathlib.Numerals.{add-one}
 use lib.ListN.{length, getD, set, take, drop, length-drop}
-use lib.Seq.{take-all, take-suc, drop-cons}
-use Rattle.casefile.specs.Line.{Line, line, with, withAll, Within, Put, digits, decimalOf, digitOf, hexOf, weighted}
+use lib.Seq.{take-all, take-suc, drop-cons, length-take-le}
+use Rattle.casefile.specs.Line.{Line, line, with, withAll, Within, Counts, Put, digits, decimalOf, wordsOf, digitOf, hexOf, weighted}
 
 -- an element that is there does not depend on what stands for one that is not
 pub there : (l : List ℕ) (i d e : ℕ) → i < length l → getD l i d ≡ getD l i e
@@ -31,6 +31,9 @@ set-past (x ∷ l) (suc i) b h = ap (λ (t : List ℕ). x ∷ t) (set-past l i b
 -- one step within the room that is left, and then another
 pub within-more : (old mid : List ℕ) (at m r : ℕ) → Within old at m → length mid ≡ length old → Within mid m r → Within old at r
 within-more old mid at m r p e q = omega arith
+
+pub counts : (n : ℕ) (s : List ℕ) → n ≤ length s → Counts n s
+counts n s h = (h, sym (length-take-le n s h))
 
 pub put-none : (old : List ℕ) (at : ℕ) → Put old at [] old at
 unfolding withAll
@@ -77,15 +80,27 @@ decimal-more n h =
     let e : digits n (n / 10) ≡ digits (suc (n / 10)) (n / 10) = digits-enough n (suc (n / 10)) (n / 10) (omega arith) (omega arith) in
     simp (le-ltb n 10 h, e)
 
+pub words-more : (xs : List ℕ) (n : ℕ) → wordsOf (xs ++ (n ∷ [])) ≡ wordsOf xs ++ (32 ∷ decimalOf n)
+unfolding wordsOf
+words-more [] n = simp append-nil
+words-more (x ∷ xs) n =
+    let ih = words-more xs n in
+    rw append-assoc (ap (λ (t : List ℕ). 32 ∷ (decimalOf x ++ t)) ih)
+
 pub hex-more : (xs : List ℕ) (b : ℕ) → hexOf (xs ++ (b ∷ [])) ≡ hexOf xs ++ (digitOf (b / 16) ∷ digitOf (b % 16) ∷ [])
 unfolding hexOf
 hex-more [] b = refl
 hex-more (x ∷ xs) b = ap (λ (t : List ℕ). digitOf (x / 16) ∷ digitOf (x % 16) ∷ t) (hex-more xs b)
 
--- a turn of the loop that puts down a text, and of the one that puts down bytes in hex
+-- a turn of the loop that puts down a text, of the one that puts down numbers, and of the one that puts down bytes in hex
 module _ (s old : List ℕ) (at i : ℕ) (here : i < length s) (mid : List ℕ) (m : ℕ) (long : length mid ≡ length old) where
   pub text-turn : (new : List ℕ) (r : ℕ) → Put old at (take i s) mid m → Put mid m (getD s i 0 ∷ []) new r → Put old at (take (i + 1) s) new r
   text-turn new r p q = rw (add-one, take-suc s i 0) (put-more old at (take i s) mid m (getD s i 0 ∷ []) new r p long q)
+
+  pub words-turn : (mid′ : List ℕ) (m′ : ℕ) → length mid′ ≡ length mid → (new : List ℕ) (r : ℕ) → Put old at (wordsOf (take i s)) mid m → Put mid m (32 ∷ []) mid′ m′ → Put mid′ m′ (decimalOf (getD s i 0)) new r → Put old at (wordsOf (take (i + 1) s)) new r
+  words-turn mid′ m′ g new r p q t =
+      let both : Put mid m (32 ∷ decimalOf (getD s i 0)) new r = put-more mid m (32 ∷ []) mid′ m′ (decimalOf (getD s i 0)) new r q g t in
+      rw (add-one, take-suc s i 0, words-more) (put-more old at (wordsOf (take i s)) mid m _ new r p long both)
 
   pub hex-turn : (high low : ℕ) → high ≡ digitOf (getD s i 0 / 16) → low ≡ digitOf (getD s i 0 % 16) → (mid′ : List ℕ) (m′ : ℕ) → length mid′ ≡ length mid → (new : List ℕ) (r : ℕ) → Put old at (hexOf (take i s)) mid m → Put mid m (high ∷ []) mid′ m′ → Put mid′ m′ (low ∷ []) new r → Put old at (hexOf (take (i + 1) s)) new r
   hex-turn high low e f mid′ m′ g new r p q t =

@@ -5,38 +5,42 @@ use Rattle.casefile.specs.Line.Laws.{within-more}
 use Rattle.vectors_c40.proofs.report.Statement.{statement}
 use Rattle.vectors_c40.proofs.report.Tie as tie
 
-put-answer-requires : tie.Need-put-answer-requires
-put-answer-requires c κs = search needs
+put-number-requires : tie.Need-put-number-requires
+put-number-requires c κs = search needs
 
-put-kept-requires : tie.Need-put-kept-requires
-put-kept-requires c κs = search needs
+slice-aggregate-put-text : tie.Need-slice-aggregate-put-text
+slice-aggregate-put-text c = search needs
 
-put-written-requires : tie.Need-put-written-requires
-put-written-requires c κs = search needs
+put-text-requires : tie.Need-put-text-requires
+put-text-requires c κs = search needs
 
-put-requires : tie.Need-put-requires
-put-requires c κs = search needs
+put-number-requires-2 : tie.Need-put-number-requires-2
+put-number-requires-2 c κs = search needs
+
+put-filled-requires : tie.Need-put-filled-requires
+put-filled-requires c κs = search needs
 
 same-length : tie.Need-same-length
 same-length c = search needs
 
 returns : tie.Need-returns
 returns c =
-    let one = c .before .before .before .before .before .before .before .before .before .before .before .before .before .before .put-answer in
-    let two = c .before .before .before .before .before .before .before .before .before .before .put-kept in
-    let three = c .before .before .before .before .before .before .put-written in
-    let four = c .before .before .put in
-    within-more _ _ _ _ _ (one .ensures) (one .kept .1 .0)
-    (within-more _ _ _ _ _ (two .ensures) (two .kept .1 .1 .0)
-    (within-more _ _ _ _ _ (three .ensures) (three .kept .1 .1 .0) (four .ensures .within)))
+    let four = c .before .before in
+    let three = four .before .before .before .before in
+    let two = three .before .before .before .before in
+    let one = two .before .before .before .before .before in
+    within-more _ _ _ _ _ (one .put-number .ensures .within) (one .put-number .kept .0)
+    (within-more _ _ _ _ _ (two .put-text .ensures .within) (two .put-text .kept .0)
+    (within-more _ _ _ _ _ (three .put-number2 .ensures .within) (three .put-number2 .kept .0) (four .put-filled .ensures)))
 
 pub report-spec : {M : Type 1} → statement M
 report-spec =
     tie.close
     (tie.spec
-    put-answer-requires
-    put-kept-requires
-    put-written-requires
-    put-requires
+    put-number-requires
+    slice-aggregate-put-text
+    put-text-requires
+    put-number-requires-2
+    put-filled-requires
     same-length
     returns)

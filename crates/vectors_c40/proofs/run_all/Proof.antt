@@ -5,6 +5,7 @@ use native.Mathlib.Omega.{arith}
 use mathlib.Core.Path.{_≡_, refl, _∙_}
 use Prim.Native.Nat.{_-_, _≤_}
 use lib.ListN.{length}
+use Rattle.casefile.specs.Line.Laws.{counts}
 use Rattle.vectors_c40.proofs.run_all.Statement.{statement}
 use Rattle.vectors_c40.proofs.run_all.Tie as tie
 
@@ -45,7 +46,7 @@ same-length : tie.Need-same-length Inv-loop μ-loop
 same-length c = c .before .loop .inv .0
 
 returns : tie.Need-returns Inv-loop μ-loop
-returns c = omega arith
+returns c = counts _ _ (omega (arith, c .before .loop .inv .0))
 
 pub run-all-spec : {M : Type 1} → statement M
 run-all-spec =

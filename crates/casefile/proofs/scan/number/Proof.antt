@@ -10,7 +10,7 @@ use Rattle.casefile.proofs.scan.number.Statement.{statement}
 use Rattle.casefile.proofs.scan.number.Tie as tie
 
 abbrev Inv-loop : tie.InvT-loop
-Inv-loop s from i₀ value₀ i value = (value < 1000000000) × Numeral s from value i
+Inv-loop s from i₀ value₀ i value = (value < 9223372036854775810) × Numeral s from value i
 
 abbrev μ-loop : tie.MeasureT-loop
 μ-loop s from i₀ value₀ i value = length s - i

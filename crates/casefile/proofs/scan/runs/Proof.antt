@@ -5,6 +5,7 @@ use native.Mathlib.Omega.{arith}
 use mathlib.Core.Path.{_≡_, refl, _∙_}
 use Prim.Native.Nat.{_-_, _≤_}
 use lib.ListN.{length}
+use Rattle.casefile.specs.Line.Laws.{counts}
 use Rattle.casefile.proofs.scan.runs.Statement.{statement}
 use Rattle.casefile.proofs.scan.runs.Tie as tie
 
@@ -24,7 +25,7 @@ same-length : tie.Need-same-length Inv-loop μ-loop
 same-length c = c .before .before .before .loop .inv .0
 
 returns : tie.Need-returns Inv-loop μ-loop
-returns c = omega arith
+returns c = counts _ _ (omega (arith, c .before .before .before .loop .inv .0))
 
 add-take-run : tie.Need-add-take-run Inv-loop μ-loop
 add-take-run c = omega arith
@@ -42,7 +43,7 @@ same-length-2 : tie.Need-same-length-2 Inv-loop μ-loop
 same-length-2 c = c .before .loop .inv .0
 
 returns-2 : tie.Need-returns-2 Inv-loop μ-loop
-returns-2 c = omega arith
+returns-2 c = counts _ _ (omega (arith, c .before .loop .inv .0))
 
 pub runs-spec : {M : Type 1} → statement M
 runs-spec =

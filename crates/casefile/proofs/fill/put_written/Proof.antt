@@ -1,12 +1,12 @@
--- `vectors_c40::put_written` meets its contract.
+-- `casefile::fill::put_written` meets its contract.
 -- Assumes nothing.
 use borrow.Author.Needs.{needs}
 use native.Mathlib.Omega.{arith}
 use mathlib.Core.Path.{sym}
 use denote.Ref.{now}
 use lib.Seq.{length-take-le}
-use Rattle.vectors_c40.proofs.put_written.Statement.{statement}
-use Rattle.vectors_c40.proofs.put_written.Tie as tie
+use Rattle.casefile.proofs.fill.put_written.Statement.{statement}
+use Rattle.casefile.proofs.fill.put_written.Tie as tie
 
 returns : tie.Need-returns
 returns c = search needs

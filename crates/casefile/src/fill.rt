@@ -1,0 +1,83 @@
+// The buffer that a call of a case is to fill, and a line's words on what the call left in it.
+ghost use mathlib.Core.Path.{_≡_};
+ghost use lib.ListN.{length};
+ghost use Rattle.casefile.specs.Line.{Within};
+use crate::line::put;
+use crate::line::put_bytes;
+use crate::line::put_number;
+use crate::line::put_text;
+use crate::line::unchanged;
+
+// What every byte of the buffer is before the call.
+const FILLING: u8 = 0x5A;
+
+// The most bytes of room that a case gives; 16 guard bytes more stand past them.
+pub const MOST: usize = 7000;
+
+// What a call answered that fills a buffer, in numbers.
+pub struct Answer {
+    pub number: usize,
+    pub place: usize,
+    pub count: usize,
+}
+
+// An answer of these three numbers.
+pub fn answer_of(number: usize, place: usize, count: usize) -> Answer
+    ensures { λ r. ⌜ (r .number ≡ number) × ((r .place ≡ place) × (r .count ≡ count)) ⌝ }
+{
+    Answer {
+        number,
+        place,
+        count,
+    }
+}
+
+// Room for the largest case and the guard bytes past it, all filled.
+pub fn filled() -> [u8; 7016]
+    ensures { λ r. ⌜ 7016 ≡ length r ⌝ }
+{
+    [FILLING; 7016]
+}
+
+// Puts down whether the call left every byte past the count alone, the guard bytes too.
+fn put_kept(buffer: &[u8], count: usize, out: &mut [u8], to: usize) -> usize
+    ensures { λ r. ⌜ Within (now (out .entry)) to r ⌝ }
+{
+    if unchanged(buffer, count, FILLING) {
+        return put_text(out, to, b" kept");
+    }
+    put_text(out, to, b" changed")
+}
+
+// Puts down the bytes that the call wrote, if there are any.
+fn put_written(buffer: &[u8], count: usize, out: &mut [u8], to: usize) -> usize
+    ensures { λ r. ⌜ Within (now (out .entry)) to r ⌝ }
+{
+    if count == 0 {
+        return to;
+    }
+    if buffer.len() < count {
+        return put_text(out, to, b" more than the buffer has");
+    }
+    let o = put(out, to, b' ');
+    put_bytes(out, o, &buffer[..count])
+}
+
+// Puts down the rest of a case's line: the count that the call answered, and what the whole buffer holds after it.
+pub fn put_filled(buffer: &[u8], count: usize, out: &mut [u8], to: usize) -> usize
+    ensures { λ r. ⌜ Within (now (out .entry)) to r ⌝ }
+{
+    let mut o = put_text(out, to, b" wrote ");
+    o = put_number(out, o, count);
+    o = put_kept(buffer, count, out, o);
+    o = put_written(buffer, count, out, o);
+    put(out, o, b'\n')
+}
+
+// Puts down the line of a call that fills a buffer and answers no place.
+pub fn put_call(a: Answer, buffer: &[u8], out: &mut [u8], to: usize) -> usize
+    ensures { λ r. ⌜ Within (now (out .entry)) to r ⌝ }
+{
+    let o = put_number(out, to, a.number);
+    put_filled(buffer, a.count, out, o)
+}
