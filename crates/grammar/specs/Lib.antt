@@ -1,0 +1,9 @@
+pub mod Content
+pub mod Publish
+pub mod Legal
+pub mod Parts
+pub mod Zones
+pub mod Theorems
+pub mod Sizes
+pub mod Examples
+pub mod Pins
