@@ -74,7 +74,11 @@ Unused tag used = All (λ t. tag ≡ t → ⊥) used
 abbrev pub LegalFeatures : Version → List ℕ → List Feature → Type 0
 LegalFeatures v used [] = Unit
 LegalFeatures v used (f ∷ fs) =
-    (f .tag ≤ 254) × Unused (f .tag) used × ValueSize v (length (f .value)) × Bytes (f .value) × LegalFeatures v (f .tag ∷ used) fs
+    (f .tag ≤ 254)
+    × Unused (f .tag) used
+    × ValueSize v (length (f .value))
+    × Bytes (f .value)
+    × LegalFeatures v (f .tag ∷ used) fs
 
 -- Signature (Sizes): n is 28, 32, 48, 64 or 66, and the raw length 2n
 pub data SignatureSize : ℕ → Type 0 where

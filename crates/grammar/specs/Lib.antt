@@ -5,5 +5,8 @@ pub mod Parts
 pub mod Zones
 pub mod Theorems
 pub mod Sizes
+pub mod ByteString
 pub mod Examples
 pub mod Pins
+pub mod Illegal
+pub mod Seals

@@ -1,9 +1,8 @@
 -- The law `Cut` of each part of a header: country, signer and reference.
 -- Assumes nothing.
-use mathlib.Core.Path.{_≡_, refl, ap, ap₂, sym, subst, _∙_}
-use mathlib.Core.Logic.{_⊎_, ⊎-elim, inl, inr}
-use mathlib.Core.Bool.{Bool, true, false}
-use Prim.Native.Nat.{ℕ, suc, _+_, _-_, _*_, _/_, _%_, _<_, _≤_}
+use mathlib.Core.Path.{_≡_, refl, ap, ap₂, sym, _∙_}
+use mathlib.Core.Logic.{_⊎_, ⊎-elim}
+use Prim.Native.Nat.{ℕ, _+_, _-_, _*_, _/_, _%_, _<_, _≤_}
 use native.Mathlib.Omega.{arith}
 use borrow.Author.Tests.{lt-ltb, le-ltb, ltb-true, ltb-false, eq-eqb, ne-eqb}
 use mathlib.Core.List.{List, [], _∷_, _++_, map, append-assoc}
@@ -11,7 +10,7 @@ use lib.Dec.{ltb, eqb}
 use lib.ListN.{length, take, drop, getD, length-append, length-map, length-drop, take-append-drop}
 use lib.Seq.{take-at, drop-at, length-take-le}
 use Rattle.format.specs.Bytes.{All}
-use Rattle.format.specs.Bytes.Laws.{all-append, all-of}
+use Rattle.format.specs.Bytes.Laws.{all-append}
 use Rattle.format.specs.Choice.{pick}
 use Rattle.format.specs.Choice.Laws.{by-test}
 use Rattle.format.specs.Cut.{Cut}
@@ -22,7 +21,7 @@ use Rattle.c40.specs.Text.{Text, TextOf, publish as c40}
 use Rattle.c40.specs.Exact.{three-ahead, cut-text}
 use Rattle.grammar.specs.Content.{Version, three, four}
 use Rattle.grammar.specs.Publish.{carried, hexDigit, hexDigits, names}
-use Rattle.grammar.specs.Legal.{Letter, Digit, LetterOrDigit, Filler, Country, Signer, ReferenceCharacter, ReferenceSize}
+use Rattle.grammar.specs.Legal.{Letter, LetterOrDigit, Filler, Country, Signer, ReferenceCharacter, ReferenceSize}
 
 -- a rule of each element goes through a map
 all-map : (P Q : ℕ → Type 0) (f : ℕ → ℕ) → ((c : ℕ) → P c → Q (f c)) → (t : List ℕ) → All P t → All Q (map f t)
@@ -144,10 +143,10 @@ cut-three a b t u la lb e =
     (λ i. (d .0 i, d .1 i), c .1)
 
 -- version 4: six characters, which give the reference's length, and then the reference
-six : List ℕ × List ℕ → List ℕ
+pub six : List ℕ × List ℕ → List ℕ
 six p = p .0 ++ hexDigits (length (p .1))
 
-six-text : (p : List ℕ × List ℕ) → Names four p → TextOf 6 (six p)
+pub six-text : (p : List ℕ × List ℕ) → Names four p → TextOf 6 (six p)
 unfolding six
 six-text p n =
     let s = signer-text (p .0) (n .signer) in (
@@ -155,7 +154,7 @@ six-text p n =
       all-append InChart (p .0) (hexDigits (length (p .1))) (s .1) (hex-text (length (p .1)) (n .size .1)),
     )
 
-four-form : (p : List ℕ × List ℕ) → Names four p → names four (p .0) (p .1) ≡ c40 (six p) ++ c40 (p .1)
+pub four-form : (p : List ℕ × List ℕ) → Names four p → names four (p .0) (p .1) ≡ c40 (six p) ++ c40 (p .1)
 unfolding six
 four-form p n = six-ahead (p .0 ++ hexDigits (length (p .1))) (p .1) (six-text p n .0)
 

@@ -1,10 +1,10 @@
 -- Computed examples that fix what the laws leave open: which bytes are published, and what is legal and what is not.
 -- Assumes nothing.
 use mathlib.Core.Path.{_≡_, refl, ap}
-use mathlib.Core.Logic.{_⊎_, inl, inr, ⊎-elim}
-use Prim.Native.Nat.{ℕ, zero, suc, _+_, _≤_, _<_}
+use mathlib.Core.Logic.{_⊎_, inl, inr}
+use Prim.Native.Nat.{ℕ, zero, suc, _+_, _*_, _<_}
 use native.Mathlib.Omega.{arith}
-use mathlib.Core.List.{List, [], _∷_, _++_, map}
+use mathlib.Core.List.{[], _∷_, _++_, map}
 use lib.ListN.{length, getD, replicate}
 use Rattle.format.specs.Numbers.{be}
 use Rattle.format.specs.Bytes.{Bytes}
@@ -13,10 +13,10 @@ use Rattle.c40.specs.Chart.{theChart, valueOf}
 use Rattle.c40.specs.Text.{triple, publish as c40}
 use Rattle.dates.specs.Days.{isDay, publish as date}
 use Rattle.der.specs.Length.{form}
-use Rattle.grammar.specs.Content.{Version, three, four, Header, Feature, Content}
-use Rattle.grammar.specs.Publish.{versionByte, carried, hexDigits, names, headerZone, lengthOf, feature, messageZone, signatureZone, signedBytes, publish}
-use Rattle.grammar.specs.Legal.{Letter, LetterOrDigit, Filler, Country, Signer, ReferenceSize, LastByte, ValueSize, LegalHeader, LegalFeatures, SignatureSize, n28, n32, n48, n64, n66, Legal}
-use Rattle.grammar.specs.Examples.{uto, utab, ref-00001, d-fillers, spring, header-a, visa01, content-a, seal-a}
+use Rattle.grammar.specs.Content.{three, four}
+use Rattle.grammar.specs.Publish.{versionByte, carried, hexDigits, names, headerZone, lengthOf, messageZone, signatureZone, signedBytes, publish}
+use Rattle.grammar.specs.Legal.{LetterOrDigit, Filler, Country, Signer, ReferenceSize, LastByte, ValueSize, LegalHeader, LegalFeatures, SignatureSize, n28, n32, n48, n64, n66, Legal}
+use Rattle.grammar.specs.Examples.{uto, utab, ref-00001, d-fillers, header-a, content-a, seal-a}
 
 -- Seal A is the published form of its content
 pub seal-a-published : publish content-a ≡ seal-a
@@ -59,22 +59,60 @@ length-four : lengthOf four 128 ≡ 0x81 ∷ 0x80 ∷ []
 unfolding form be
 length-four = refl
 
+length-four-127 : lengthOf four 127 ≡ 0x7F ∷ []
+unfolding form be
+length-four-127 = refl
+
+length-four-255 : lengthOf four 255 ≡ 0x81 ∷ 0xFF ∷ []
+unfolding form be
+length-four-255 = refl
+
+length-four-256 : lengthOf four 256 ≡ 0x82 ∷ 0x01 ∷ 0x00 ∷ []
+unfolding form be
+length-four-256 = refl
+
+-- the digits of L: 0A, 1A, 9F, FF
+hex-10 : hexDigits 10 ≡ 48 ∷ 65 ∷ []
+hex-10 = refl
+
+hex-26 : hexDigits 26 ≡ 49 ∷ 65 ∷ []
+hex-26 = refl
+
+hex-159 : hexDigits 159 ≡ 57 ∷ 70 ∷ []
+hex-159 = refl
+
+hex-255 : hexDigits 255 ≡ 70 ∷ 70 ∷ []
+hex-255 = refl
+
 -- the signature's length is DER in both versions
 signature-length : signatureZone (replicate 128 0xAA) ≡ 0xFF ∷ 0x81 ∷ 0x80 ∷ replicate 128 0xAA
 unfolding signatureZone form be
 signature-length = refl
 
--- sizes: 56 to 132 and not 65; 254 and not 255 nor 0; 4,096 and no more
-not-65 : (n : ℕ) → SignatureSize n → n ≡ 65 → ⊥
-not-65 n n28 e = omega arith
-not-65 n n32 e = omega arith
-not-65 n n48 e = omega arith
-not-65 n n64 e = omega arith
-not-65 n n66 e = omega arith
+-- signature sizes: 2n for these five n and for no other
+sizes-only : (n : ℕ) → SignatureSize n → (n ≡ 2 * 28) ⊎ (n ≡ 2 * 32) ⊎ (n ≡ 2 * 48) ⊎ (n ≡ 2 * 64) ⊎ (n ≡ 2 * 66)
+sizes-only n n28 = inl refl
+sizes-only n n32 = inr (inl refl)
+sizes-only n n48 = inr (inr (inl refl))
+sizes-only n n64 = inr (inr (inr (inl refl)))
+sizes-only n n66 = inr (inr (inr (inr refl)))
 
-size-65 : SignatureSize 65 → ⊥
-size-65 s = not-65 65 s refl
+size-28 : SignatureSize (2 * 28)
+size-28 = n28
 
+size-32 : SignatureSize (2 * 32)
+size-32 = n32
+
+size-48 : SignatureSize (2 * 48)
+size-48 = n48
+
+size-64 : SignatureSize (2 * 64)
+size-64 = n64
+
+size-66 : SignatureSize (2 * 66)
+size-66 = n66
+
+-- definition and category: 254 and not 255 nor 0
 last-254 : LastByte 254
 last-254 = (omega arith, omega arith)
 
@@ -91,6 +129,9 @@ reference-three e = omega arith
 reference-four-0 : ReferenceSize four 0 → ⊥
 reference-four-0 l = omega (arith, l .0)
 
+reference-four-1 : ReferenceSize four 1
+reference-four-1 = (omega arith, omega arith)
+
 reference-four-255 : ReferenceSize four 255
 reference-four-255 = (omega arith, omega arith)
 
@@ -104,28 +145,19 @@ value-255 = omega arith
 value-256 : ValueSize three 256 → ⊥
 value-256 l = omega arith
 
--- countries: D<< is legal; a filler before a letter, and a filler first, are not
-filled-d : (i : ℕ) → i < 2 → Filler (getD d-fillers i 0) → Filler (getD d-fillers (i + 1) 0)
-filled-d zero h e = refl
-filled-d (suc zero) h e = refl
-filled-d (suc (suc i)) h e = absurd (omega arith)
+-- countries: D<< is legal
+pub filled-three : (a b c : ℕ) → (Filler a → Filler b) → (Filler b → Filler c) → (i : ℕ) → i < 2 → Filler (getD (a ∷ b ∷ c ∷ []) i 0) → Filler (getD (a ∷ b ∷ c ∷ []) (i + 1) 0)
+filled-three a b c f g zero h e = f e
+filled-three a b c f g (suc zero) h e = g e
+filled-three a b c f g (suc (suc i)) h e = absurd (omega arith)
 
-country-d : Country d-fillers
+pub country-d : Country d-fillers
 country-d = record {
   size = refl;
   letters = (inl (omega arith, omega arith), (inr refl, (inr refl, tt)));
   first = (omega arith, omega arith);
-  filled = filled-d;
+  filled = filled-three 68 60 60 (λ e. refl) (λ e. refl);
 }
-
-country-filler-inside : Country (68 ∷ 60 ∷ 68 ∷ []) → ⊥
-country-filler-inside c = let e = c .filled 1 (omega arith) refl in omega arith
-
-country-filler-first : Country (60 ∷ 68 ∷ 68 ∷ []) → ⊥
-country-filler-first c = omega (arith, c .first .0)
-
-country-space : Country (68 ∷ 32 ∷ 32 ∷ []) → ⊥
-country-space c = ⊎-elim (λ l. omega (arith, l .0)) (λ e. omega arith) (c .letters .1 .0)
 
 -- features: tag 254 and not 255, and no tag twice
 tag-255 : LegalFeatures four [] (record { tag = 255; value = [] } ∷ []) → ⊥
@@ -138,17 +170,26 @@ tag-twice : LegalFeatures four [] (record { tag = 7; value = [] } ∷ record { t
 tag-twice l = l .4 .1 .0 refl
 
 -- Seal A's content is legal
-letter : (c : ℕ) → 65 ≤ c → c ≤ 90 → Letter c
-letter c low high = (low, high)
-
-bytes-of : (n x : ℕ) → x < 256 → Bytes (replicate n x)
+pub bytes-of : (n x : ℕ) → x < 256 → Bytes (replicate n x)
 bytes-of zero x h = bytes-nil
 bytes-of (suc n) x h = bytes-cons x (replicate n x) h (bytes-of n x h)
 
-filled-uto : (i : ℕ) → i < 2 → Filler (getD uto i 0) → Filler (getD uto (i + 1) 0)
-filled-uto zero h e = absurd (omega arith)
-filled-uto (suc zero) h e = absurd (omega arith)
-filled-uto (suc (suc i)) h e = absurd (omega arith)
+pub country-uto : Country uto
+country-uto = record {
+  size = refl;
+  letters = (inl (omega arith, omega arith), (inl (omega arith, omega arith), (inl (omega arith, omega arith), tt)));
+  first = (omega arith, omega arith);
+  filled = filled-three 85 84 79 (λ e. absurd (omega arith)) (λ e. absurd (omega arith));
+}
+
+pub signer-utab : Signer utab
+signer-utab = record {
+  size = refl;
+  first = (omega arith, omega arith);
+  second = (omega arith, omega arith);
+  third = inl (omega arith, omega arith);
+  fourth = inl (omega arith, omega arith);
+}
 
 zero-digit : LetterOrDigit 48
 zero-digit = inr (omega arith, omega arith)
@@ -156,19 +197,8 @@ zero-digit = inr (omega arith, omega arith)
 header-a-legal : LegalHeader header-a
 unfolding isDay
 header-a-legal = record {
-  country = record {
-    size = refl;
-    letters = (inl (omega arith, omega arith), (inl (omega arith, omega arith), (inl (omega arith, omega arith), tt)));
-    first = (omega arith, omega arith);
-    filled = filled-uto;
-  };
-  signer = record {
-    size = refl;
-    first = (omega arith, omega arith);
-    second = (omega arith, omega arith);
-    third = inl (omega arith, omega arith);
-    fourth = inl (omega arith, omega arith);
-  };
+  country = country-uto;
+  signer = signer-utab;
   reference = (zero-digit, (zero-digit, (zero-digit, (zero-digit, (inr (omega arith, omega arith), tt)))));
   size = refl;
   issued = refl;

@@ -1,10 +1,10 @@
 -- Sizes (document 01): a legal seal has 76 to 4,096 bytes, a header 18 or 18 to 186, and there are at most 255 features.
 -- Assumes nothing.
-use mathlib.Core.Path.{_≡_, refl, ap, sym, subst, _∙_}
-use mathlib.Core.Bool.{Bool, true, false}
+use mathlib.Core.Path.{_≡_, refl, ap, subst, _∙_}
+use mathlib.Core.Bool.{Bool, false}
 use Prim.Native.Nat.{ℕ, zero, suc, _+_, _*_, _/_, _<_, _≤_}
 use native.Mathlib.Omega.{arith}
-use borrow.Author.Tests.{eq-eqb, ne-eqb, eqb-true, eqb-false}
+use borrow.Author.Tests.{ne-eqb, eqb-true, eqb-false}
 use mathlib.Core.List.{List, [], _∷_, _++_, map}
 use lib.Dec.{eqb}
 use lib.ListN.{length, length-append, length-map}
@@ -13,26 +13,29 @@ use Rattle.format.specs.Choice.Laws.{by-test}
 use Rattle.format.specs.Table.{either}
 use Rattle.c40.specs.Text.{width, publish as c40}
 use Rattle.c40.specs.Text.Laws.{length-publish}
-use Rattle.dates.specs.Days.{publish as date}
 use Rattle.dates.specs.Days.Laws.{length-publish as length-date}
 use Rattle.der.specs.Length.{form}
 use Rattle.der.specs.Length.Exact.{form-some}
 use Rattle.grammar.specs.Content.{Version, three, four, Header, Feature, Content}
-use Rattle.grammar.specs.Publish.{carried, hexDigits, names, headerZone, messageZone, signatureZone, publish}
+use Rattle.grammar.specs.Publish.{carried, hexDigits, names, headerZone, signatureZone, publish}
 use Rattle.grammar.specs.Legal.{ReferenceSize, LegalHeader, Unused, LegalFeatures, SignatureSize, n28, n32, n48, n64, n66, Legal}
 use Rattle.grammar.specs.Theorems.{zones-add-up}
 
--- names: 6 bytes in version 3, 2 x ceil((6 + L) / 3) in version 4
+-- "signer and reference: version 4: 2 x ceil((6 + L) / 3) bytes"
+pub names-width : (s r : List ℕ) → length s ≡ 4 → length (names four s r) ≡ 2 * ((6 + length r + 2) / 3)
+names-width s r hs =
+    let e = length-publish (s ++ hexDigits (length r) ++ r) in
+    let l = length-append (s ++ hexDigits (length r)) r in
+    let m = length-append s (hexDigits (length r)) in
+    omega arith
+
+-- names: 6 bytes in version 3, 6 to 174 in version 4
 names-size : (v : Version) (s r : List ℕ) → length s ≡ 4 → ReferenceSize v (length r) → (6 ≤ length (names v s r)) × (length (names v s r) ≤ 174)
 names-size three s r hs hr =
     let e = length-publish (s ++ r) in
     let l = length-append s r in
     (omega arith, omega arith)
-names-size four s r hs hr =
-    let e = length-publish (s ++ hexDigits (length r) ++ r) in
-    let l = length-append (s ++ hexDigits (length r)) r in
-    let m = length-append s (hexDigits (length r)) in
-    (omega arith, omega arith)
+names-size four s r hs hr = let e = names-width s r hs in (omega arith, omega arith)
 
 header-length : (h : Header) → LegalHeader h → length (headerZone h) ≡ 12 + length (names (h .version) (h .signer) (h .reference))
 unfolding headerZone

@@ -1,21 +1,15 @@
 -- What is proved of legal contents and their published form, named after the tender's sentences (condition 3).
 -- Assumes nothing.
-use mathlib.Core.Path.{_≡_, refl, ap, sym, subst, _∙_}
-use mathlib.Core.Logic.{⊎-elim}
-use Prim.Native.Nat.{ℕ, suc, _+_, _*_, _/_, _<_, _≤_}
+use mathlib.Core.Path.{_≡_, ap, sym, _∙_}
+use Prim.Native.Nat.{ℕ, _+_}
 use native.Mathlib.Omega.{arith}
-use mathlib.Core.List.{List, [], _∷_, _++_, map, append-assoc}
-use lib.ListN.{length, take, drop, length-append, length-map}
+use mathlib.Core.List.{List, [], _∷_, _++_, append-assoc}
+use lib.ListN.{length, take, length-append}
 use lib.Seq.{take-at}
 use Rattle.format.specs.Cut.Laws.{one-reading, no-front}
-use Rattle.c40.specs.Text.{width}
-use Rattle.c40.specs.Text.Laws.{length-publish}
-use Rattle.dates.specs.Days.Laws.{length-publish as length-date}
-use Rattle.der.specs.Length.{form}
-use Rattle.der.specs.Length.Exact.{form-short, form-long}
-use Rattle.grammar.specs.Content.{Version, three, four, Header, Feature, Content}
-use Rattle.grammar.specs.Publish.{carried, hexDigits, names, headerZone, messageZone, signatureZone, signedBytes, publish}
-use Rattle.grammar.specs.Legal.{ReferenceSize, LegalHeader, LegalFeatures, SignatureSize, n28, n32, n48, n64, n66, Legal}
+use Rattle.grammar.specs.Content.{Content}
+use Rattle.grammar.specs.Publish.{headerZone, messageZone, signatureZone, signedBytes, publish}
+use Rattle.grammar.specs.Legal.{Legal}
 use Rattle.grammar.specs.Zones.{cut-front, cut-seal}
 
 -- "That content is then the only one": two legal contents with the same published form are equal.

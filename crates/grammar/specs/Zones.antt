@@ -1,7 +1,7 @@
 -- The law `Cut` of header, features and seal, by peeling the parts off the left in the order of the Layout.
 -- Assumes nothing.
 use mathlib.Core.Path.{_≡_, refl, ap, sym, subst, _∙_}
-use Prim.Native.Nat.{ℕ, suc, _+_, _^_, _<_, _≤_}
+use Prim.Native.Nat.{ℕ, _^_, _<_, _≤_}
 use native.Mathlib.Omega.{arith}
 use mathlib.Core.List.{List, [], _∷_, _++_, map, append-assoc}
 use lib.ListN.{length, length-append}
@@ -9,13 +9,13 @@ use Rattle.format.specs.Bytes.{All}
 use Rattle.format.specs.Cut.{Cut, counted, each, NotFrom}
 use Rattle.format.specs.Cut.Laws.{cut-byte, cut-counted, cut-until}
 use Rattle.c40.specs.Text.{publish as c40}
-use Rattle.dates.specs.Days.{Day, publish as date}
+use Rattle.dates.specs.Days.{publish as date}
 use Rattle.dates.specs.Days.Laws.{cut-date}
 use Rattle.der.specs.Length.{Sized, form}
 use Rattle.der.specs.Length.Exact.{cut-form}
 use Rattle.grammar.specs.Content.{Version, three, four, Header, Feature, Content}
 use Rattle.grammar.specs.Publish.{versionByte, carried, names, headerZone, lengthOf, feature, messageZone, signatureZone, signedBytes, publish}
-use Rattle.grammar.specs.Legal.{LegalHeader, LegalFeatures, ValueSize, SignatureSize, n28, n32, n48, n64, n66, Legal}
+use Rattle.grammar.specs.Legal.{LegalHeader, LegalFeatures, SignatureSize, n28, n32, n48, n64, n66, Legal}
 use Rattle.grammar.specs.Parts.{cut-country, Names, cut-names}
 
 one-version : (a b : Version) → versionByte a ≡ versionByte b → a ≡ b
@@ -25,11 +25,11 @@ one-version four three e = absurd (omega arith)
 one-version four four e = refl
 
 -- the header's parts, bracketed to the right
-header-parts : (h : Header) (t : List ℕ) → headerZone h ++ t ≡ 0xDC ∷ versionByte (h .version) ∷ (c40 (map carried (h .country)) ++ (names (h .version) (h .signer) (h .reference) ++ (date (h .issued) ++ (date (h .signed) ++ (h .definition ∷ h .category ∷ t)))))
+pub header-parts : (h : Header) (t : List ℕ) → headerZone h ++ t ≡ 0xDC ∷ versionByte (h .version) ∷ (c40 (map carried (h .country)) ++ (names (h .version) (h .signer) (h .reference) ++ (date (h .issued) ++ (date (h .signed) ++ (h .definition ∷ h .category ∷ t)))))
 unfolding headerZone
 header-parts h t = simp append-assoc
 
-legal-names : (h : Header) → LegalHeader h → Names (h .version) (h .signer, h .reference)
+pub legal-names : (h : Header) → LegalHeader h → Names (h .version) (h .signer, h .reference)
 legal-names h l = record { signer = l .signer; reference = l .reference; size = l .size }
 
 pub cut-header : Cut LegalHeader headerZone

@@ -1,0 +1,83 @@
+-- The published form of a legal content is a byte string.
+-- Assumes nothing.
+use mathlib.Core.Path.{_≡_, subst, sym, _∙_}
+use Prim.Native.Nat.{ℕ}
+use native.Mathlib.Omega.{arith}
+use borrow.Author.Tests.{ltb-true}
+use mathlib.Core.List.{List, [], _∷_, _++_, map, append-nil}
+use lib.Dec.{ltb}
+use lib.ListN.{length}
+use Rattle.format.specs.Numbers.{be}
+use Rattle.format.specs.Numbers.Laws.{be-bytes}
+use Rattle.format.specs.Bytes.{Byte, Bytes}
+use Rattle.format.specs.Bytes.Laws.{bytes-nil, bytes-cons, bytes-append, all-append}
+use Rattle.format.specs.Choice.Laws.{by-test}
+use Rattle.c40.specs.Chart.{InChart}
+use Rattle.c40.specs.Text.{publish as c40}
+use Rattle.c40.specs.Text.Laws.{publish-bytes}
+use Rattle.dates.specs.Days.{publish as date}
+use Rattle.der.specs.Length.{form}
+use Rattle.grammar.specs.Content.{Version, three, four, Header, Feature, Content}
+use Rattle.grammar.specs.Publish.{versionByte, carried, names, headerZone, lengthOf, feature, messageZone, signatureZone, signedBytes, publish}
+use Rattle.grammar.specs.Legal.{LegalHeader, ValueSize, LegalFeatures, Legal}
+use Rattle.grammar.specs.Parts.{country-text, signer-text, reference-text, Names, six-text, four-form, six}
+use Rattle.grammar.specs.Zones.{legal-names, header-parts}
+
+byte : (x : ℕ) → Byte x → Bytes (x ∷ [])
+byte x h = bytes-cons x [] h bytes-nil
+
+date-bytes : (d : _) → Bytes (date d)
+unfolding date
+date-bytes d = be-bytes 3 _
+
+form-bytes : (n : ℕ) → Bytes (form n)
+unfolding form
+form-bytes n =
+    by-test (ltb n 0x80) (λ e. simp e (byte n (omega (arith, ltb-true n 0x80 e))))
+    (λ a. by-test (ltb n 0x100) (λ e. simp (a, e) (bytes-cons 0x81 (be 1 n) (omega arith) (be-bytes 1 n)))
+    (λ b. by-test (ltb n 0x10000) (λ e. simp (a, b, e) (bytes-cons 0x82 (be 2 n) (omega arith) (be-bytes 2 n)))
+    (λ c. by-test (ltb n 0x1000000) (λ e. simp (a, b, c, e) (bytes-cons 0x83 (be 3 n) (omega arith) (be-bytes 3 n)))
+    (λ d. simp (a, b, c, d) (bytes-cons 0x84 (be 4 n) (omega arith) (be-bytes 4 n))))))
+
+version-byte : (v : Version) → Byte (versionByte v)
+version-byte three = omega arith
+version-byte four = omega arith
+
+names-bytes : (v : Version) (s r : List ℕ) → Names v (s, r) → Bytes (names v s r)
+names-bytes three s r n = publish-bytes (s ++ r) (all-append InChart s r (signer-text s (n .signer) .1) (reference-text r (n .reference)))
+names-bytes four s r n =
+    subst Bytes (sym (four-form (s, r) n)) (bytes-append (c40 (six (s, r))) (c40 r) (publish-bytes (six (s, r)) (six-text (s, r) n .1)) (publish-bytes r (reference-text r (n .reference))))
+
+header-bytes : (h : Header) → LegalHeader h → Bytes (headerZone h)
+header-bytes h l =
+    let p7 : List ℕ = h .definition ∷ h .category ∷ [] in
+    let p6 = date (h .signed) ++ p7 in
+    let p5 = date (h .issued) ++ p6 in
+    let p4 = names (h .version) (h .signer) (h .reference) ++ p5 in
+    let p3 = c40 (map carried (h .country)) ++ p4 in
+    let b7 : Bytes p7 = bytes-cons (h .definition) (h .category ∷ []) (omega (arith, l .definition .1)) (byte (h .category) (omega (arith, l .category .1))) in
+    let b6 : Bytes p6 = bytes-append (date (h .signed)) p7 (date-bytes (h .signed)) b7 in
+    let b5 : Bytes p5 = bytes-append (date (h .issued)) p6 (date-bytes (h .issued)) b6 in
+    let b4 : Bytes p4 = bytes-append (names (h .version) (h .signer) (h .reference)) p5 (names-bytes (h .version) (h .signer) (h .reference) (legal-names h l)) b5 in
+    let b3 : Bytes p3 = bytes-append (c40 (map carried (h .country))) p4 (publish-bytes (map carried (h .country)) (country-text (h .country) (l .country) .1)) b4 in
+    subst Bytes (sym (sym (append-nil (headerZone h)) ∙ header-parts h []))
+    (bytes-cons 0xDC (versionByte (h .version) ∷ p3) (omega arith) (bytes-cons (versionByte (h .version)) p3 (version-byte (h .version)) b3))
+
+length-bytes : (v : Version) (n : ℕ) → ValueSize v n → Bytes (lengthOf v n)
+length-bytes three n h = byte n (omega arith)
+length-bytes four n h = form-bytes n
+
+message-bytes : (v : Version) (used : List ℕ) (fs : List Feature) → LegalFeatures v used fs → Bytes (messageZone v fs)
+unfolding messageZone
+message-bytes v used [] l = bytes-nil
+message-bytes v used (f ∷ fs) l =
+    bytes-append (feature v f) (messageZone v fs)
+    (bytes-cons (f .tag) (lengthOf v (length (f .value)) ++ f .value) (omega (arith, l .0)) (bytes-append (lengthOf v (length (f .value))) (f .value) (length-bytes v (length (f .value)) (l .2)) (l .3)))
+    (message-bytes v (f .tag ∷ used) fs (l .4))
+
+pub published-bytes : (c : Content) → Legal c → Bytes (publish c)
+unfolding publish signedBytes signatureZone
+published-bytes c l =
+    bytes-append (signedBytes c) (signatureZone (c .signature))
+    (bytes-append (headerZone (c .header)) (messageZone (c .header .version) (c .features)) (header-bytes (c .header) (l .header)) (message-bytes (c .header .version) [] (c .features) (l .features)))
+    (bytes-cons 0xFF (form (length (c .signature)) ++ c .signature) (omega arith) (bytes-append (form (length (c .signature))) (c .signature) (form-bytes (length (c .signature))) (l .bytes)))
