@@ -1,30 +1,29 @@
 -- The codec, exactly: what is written is the published form, what is read is the text whose published form it is, and text of k characters can be
 -- cut off the front of a byte string in one way only.
 -- Assumes nothing.
-use mathlib.Core.Path.{_≡_, refl, ap, ap₂, sym, subst, _∙_}
-use mathlib.Core.Bool.{Bool, true, false}
-use Prim.Native.Nat.{ℕ, zero, suc, _+_, _*_, _/_, _%_, _<_, _≤_}
+use mathlib.Core.Path.{_≡_, refl, ap, sym, subst, _∙_}
+use mathlib.Core.Bool.{true, false}
+use Prim.Native.Nat.{ℕ, suc, _+_, _%_, _<_, _≤_}
 use native.Mathlib.Omega.{arith}
 use borrow.Author.Tests.{ltb-true, ltb-false, eqb-true, eqb-false}
 use mathlib.Core.List.{List, [], _∷_, _++_, append-nil}
 use lib.Dec.{ltb, eqb}
-use lib.ListN.{length, take, drop, length-append}
-use lib.Seq.{take-at, drop-at}
+use lib.ListN.{length}
 use Rattle.format.specs.Bytes.{Byte, Bytes}
 use Rattle.format.specs.Bytes.Laws.{all-append}
 use Rattle.format.specs.Choice.Laws.{by-test}
 use Rattle.format.specs.Cut.{Cut}
 use Rattle.format.specs.Cut.Laws.{cut-sized}
-use Rattle.format.specs.Answers.{Outcome, done, refused}
+use Rattle.format.specs.Answers.{done, refused}
 use Rattle.c40.specs.Chart.{valueOf, InChart}
-use Rattle.c40.specs.Text.{Text, TextOf, packedOf, triple, publish, width}
+use Rattle.c40.specs.Text.{Text, TextOf, triple, publish, width}
 use Rattle.c40.specs.Text.Laws.{triple-is, length-publish, publish-three, publish-two, publish-one, publish-none}
 use Rattle.c40.specs.Pairs.{pairOf, charsOf}
-use Rattle.c40.specs.Pairs.Laws.{apart, chars-some}
-use Rattle.c40.specs.Pairs.Exact.{pair-three, pair-two, pair-one, pair-sound, Carries}
+use Rattle.c40.specs.Pairs.Laws.{chars-some}
+use Rattle.c40.specs.Pairs.Exact.{pair-three, pair-two, pair-one, pair-sound}
 use Rattle.c40.specs.Decode.{Decoded, text, wrong, ahead, follow, none, decode}
 use Rattle.c40.specs.Decode.Laws.{follow-good, follow-wrong, ahead-text, wrong-text}
-use Rattle.c40.specs.Calls.{known, inRoom, reading, writing}
+use Rattle.c40.specs.Calls.{known, reading, writing}
 use Rattle.c40.specs.Calls.Laws.{known-text, text-known, reading-long, reading-odd, reading-wrong, reading-no-room, reading-done, writing-long, writing-stranger, writing-no-room, writing-done}
 
 -- the published form of text decodes as that text

@@ -2,12 +2,12 @@
 -- Assumes nothing.
 pub mod Laws
 pub mod Exact
-use mathlib.Core.Bool.{Bool, true, false}
+use mathlib.Core.Bool.{Bool}
 use Prim.Native.Nat.{ℕ, _+_, _-_, _*_, _/_, _%_}
 use mathlib.Core.List.{List, [], _∷_}
 use lib.Dec.{ltb, eqb}
 use Rattle.format.specs.Choice.{pick}
-use Rattle.c40.specs.Chart.{char, shift, valueOf, inChart}
+use Rattle.c40.specs.Chart.{char, shift, inChart}
 use Rattle.c40.specs.declared.decode.Pair.{Pair}
 use Rattle.c40.specs.declared.decode.Pair.the-variants.{Three, Two, One, Wrong}
 

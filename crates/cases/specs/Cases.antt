@@ -1,8 +1,7 @@
 -- Every case that document 01 marks P, as one list under one statement, which the checker computes.
 -- Assumes nothing.
 use mathlib.Core.Path.{_≡_, refl}
-use mathlib.Core.List.{List, [], _∷_, _++_, map}
-use Rattle.format.specs.Answers.{Outcome}
+use mathlib.Core.List.{List, _++_, map}
 use Rattle.format.specs.Numbers.{be, val}
 use Rattle.c40.specs.Chart.{theChart, valueOf}
 use Rattle.c40.specs.Text.{triple, publish}

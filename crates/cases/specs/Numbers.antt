@@ -4,9 +4,9 @@ use mathlib.Core.List.{List, [], _∷_}
 use Prim.Native.Nat.{ℕ}
 use lib.IntN.{ℤ, pos, negsuc}
 use Rattle.format.specs.Numbers.{val}
-use Rattle.format.specs.Answers.{Outcome, Given, done, refused}
-use Rattle.dates.specs.Days.{publish, numberOf}
-use Rattle.dates.specs.Calls.{fromNumber, toNumber}
+use Rattle.format.specs.Answers.{Outcome, Given, done}
+use Rattle.dates.specs.Days.{publish}
+use Rattle.dates.specs.Calls.{fromNumber}
 use Rattle.dates.specs.declared.Date.{Date}
 use Rattle.integers.specs.Calls.{reading, writing}
 use Rattle.cases.specs.Case.{Case}

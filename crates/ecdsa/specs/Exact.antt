@@ -1,7 +1,7 @@
 -- Raw and DER there and back, once over n: what one call writes the other takes, and gives back what was given.
 -- Assumes nothing.
 use mathlib.Core.Path.{_≡_, refl, ap, sym, subst, _∙_}
-use mathlib.Core.Bool.{Bool, true, false}
+use mathlib.Core.Bool.{true}
 use Prim.Native.Nat.{ℕ, _*_, _<_, _≤_}
 use native.Mathlib.Omega.{arith}
 use borrow.Author.Tests.{ltb-true, ltb-false, eqb-true, eqb-false}
@@ -10,7 +10,7 @@ use lib.Dec.{ltb, eqb}
 use lib.ListN.{length, take, drop}
 use Rattle.format.specs.Bytes.{Bytes}
 use Rattle.format.specs.Choice.Laws.{by-test}
-use Rattle.format.specs.Answers.{Outcome, done, refused}
+use Rattle.format.specs.Answers.{done, refused}
 use Rattle.ecdsa.specs.Signature.{isSize, pairOf, derOf}
 use Rattle.ecdsa.specs.Signature.Laws.{size-bounds}
 use Rattle.ecdsa.specs.Sizes.{content-most}
@@ -18,7 +18,7 @@ use Rattle.ecdsa.specs.Strict.{Raw, raw, none, rawOf}
 use Rattle.ecdsa.specs.Strict.ToRaw.{toRaw-no-size, toRaw-not-strict, toRaw-no-room, toRaw-done}
 use Rattle.ecdsa.specs.Strict.Exact.{raw-found, raw-sound}
 use Rattle.ecdsa.specs.Calls.{toDer, toRaw}
-use Rattle.ecdsa.specs.Calls.Laws.{to-der-no-size, to-der-wrong, to-der-formed, formed-long, formed-no-room, formed-done}
+use Rattle.ecdsa.specs.Calls.Laws.{to-der-no-size, to-der-wrong, to-der-formed, formed-no-room, formed-done}
 
 -- `to_der` answers 0 exactly when n is a size, the length is 2n and there is room; it then writes the DER form
 pub to-der-writes : (n : ℕ) (bytes : List ℕ) (room : ℕ) → isSize n ≡ true → length bytes ≡ 2 * n → length (derOf n bytes) ≤ room → toDer n bytes room ≡ done (derOf n bytes)

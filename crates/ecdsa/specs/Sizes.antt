@@ -1,20 +1,20 @@
 -- How long the DER form is (document 01: at least 8 bytes and at most 2n + 9), once over n.
 -- Assumes nothing.
-use mathlib.Core.Path.{_≡_, ap, sym, _∙_}
+use mathlib.Core.Path.{_≡_, ap, _∙_}
 use mathlib.Core.Bool.{true}
-use Prim.Native.Nat.{ℕ, suc, _+_, _*_, _<_, _≤_}
+use Prim.Native.Nat.{ℕ, _+_, _*_, _<_, _≤_}
 use native.Mathlib.Omega.{arith}
 use borrow.Author.Tests.{ltb-true, ltb-false}
-use mathlib.Core.List.{List, _∷_, _++_}
+use mathlib.Core.List.{List, _∷_}
 use lib.Dec.{ltb}
 use lib.ListN.{length, take, drop, length-append, length-drop}
 use lib.Seq.{length-take-le}
 use Rattle.format.specs.Choice.Laws.{by-test}
 use Rattle.der.specs.Length.{form}
 use Rattle.der.specs.Length.Exact.{form-short}
-use Rattle.der.specs.Content.{shortest, integer}
+use Rattle.der.specs.Content.{shortest}
 use Rattle.der.specs.Content.Laws.{shortest-size}
-use Rattle.ecdsa.specs.Signature.{isSize, unsigned, integers, signature, pairOf, derOf}
+use Rattle.ecdsa.specs.Signature.{isSize, unsigned, pairOf, derOf}
 use Rattle.ecdsa.specs.Signature.Laws.{integer-is, form-two, size-bounds}
 
 -- an INTEGER of a number in n bytes takes 3 to n + 3

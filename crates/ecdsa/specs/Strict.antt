@@ -4,7 +4,6 @@ pub mod Laws
 pub mod Exact
 pub mod ToRaw
 pub mod Shortest
-use mathlib.Core.Bool.{Bool}
 use Prim.Native.Nat.{ℕ, _+_, _-_}
 use mathlib.Core.List.{List, _++_}
 use lib.Dec.{ltb, eqb}

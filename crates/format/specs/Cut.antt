@@ -6,7 +6,6 @@ use mathlib.Core.Path.{_≡_}
 use Prim.Native.Nat.{ℕ}
 use mathlib.Core.List.{List, [], _∷_, _++_}
 use lib.ListN.{length}
-use Rattle.format.specs.Bytes.{All}
 
 abbrev pub Cut : {A : Type 0} → (A → Type 0) → (A → List ℕ) → Type 0
 Cut {A} Legal publish =

@@ -1,8 +1,7 @@
 -- Computed examples that fix what the laws leave open.
 -- Assumes nothing.
 use mathlib.Core.Path.{_≡_, refl}
-use Prim.Native.Nat.{ℕ}
-use mathlib.Core.List.{List, [], _∷_}
+use mathlib.Core.List.{[], _∷_}
 use Rattle.format.specs.Numbers.{be, val}
 use Rattle.format.specs.Buffer.{over}
 

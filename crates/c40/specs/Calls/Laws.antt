@@ -1,14 +1,12 @@
 -- Laws of the two calls: the outcome by the tests that lead there, and which characters are known.
 -- Assumes nothing.
-use mathlib.Core.Path.{_≡_, refl, ap, sym, _∙_}
-use mathlib.Core.Bool.{Bool, true, false}
-use Prim.Native.Nat.{ℕ, zero, suc, _+_, _%_, _<_, _≤_}
+use mathlib.Core.Path.{_≡_, refl, ap, _∙_}
+use Prim.Native.Nat.{ℕ, suc, _+_, _%_, _<_, _≤_}
 use native.Mathlib.Omega.{arith}
 use borrow.Author.Tests.{eq-eqb, ne-eqb, eqb-true, eqb-false, lt-ltb, le-ltb}
 use mathlib.Core.List.{List, [], _∷_}
 use lib.Dec.{eqb}
 use lib.ListN.{length, getD, drop}
-use Rattle.format.specs.Bytes.{All}
 use Rattle.format.specs.Choice.Laws.{by-test}
 use Rattle.format.specs.Places.{at-place, past-end}
 use Rattle.c40.specs.Chart.{char, valueOf, InChart}

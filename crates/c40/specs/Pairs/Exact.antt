@@ -2,7 +2,7 @@
 -- Assumes nothing.
 use mathlib.Core.Path.{_≡_, refl, ap, ap₂, sym, subst, _∙_}
 use mathlib.Core.Bool.{Bool, true, false}
-use Prim.Native.Nat.{ℕ, _+_, _-_, _*_, _/_, _%_, _<_, _≤_}
+use Prim.Native.Nat.{ℕ, _+_, _-_, _/_, _%_, _<_, _≤_}
 use native.Mathlib.Omega.{arith}
 use mathlib.Core.List.{List, [], _∷_, _++_}
 use lib.ListN.{length}
@@ -12,7 +12,6 @@ use Rattle.c40.specs.Text.{Text, packedOf, triple, publish}
 use Rattle.c40.specs.Text.Laws.{triple-is, publish-three, publish-two, publish-one, publish-none}
 use Rattle.c40.specs.Pairs.{number, first, second, third, pairOf, charsOf}
 use Rattle.c40.specs.Pairs.Laws.{pair-cases, pair-values, pair-single, values-three, values-two, single-one, apart}
-use Rattle.c40.specs.declared.decode.Pair.{Pair}
 use Rattle.c40.specs.declared.decode.Pair.the-variants.{Three, Two, One, Wrong}
 
 -- three values and their number, there and back

@@ -9,7 +9,6 @@ use lib.ListN.{length, getD, drop, length-drop}
 use lib.Seq.{drop-cons}
 use Rattle.der.specs.Length.{readLength}
 use Rattle.der.specs.Element.{bodyIn, elementIn}
-use Rattle.der.specs.declared.Length.{Length}
 use Rattle.der.specs.declared.Length.the-variants as is
 use Rattle.der.specs.declared.Element.the-variants.{Body, Nothing}
 

@@ -1,24 +1,15 @@
 -- Reading a length by the tests that lead there; and that it is exact for the form.
 -- Assumes nothing.
-use mathlib.Core.Path.{_≡_, refl, ap, ap₂, sym, subst, _∙_}
-use mathlib.Core.Bool.{Bool, true, false}
-use Prim.Native.Nat.{ℕ, zero, suc, _+_, _-_, _*_, _/_, _%_, _^_, _<_, _≤_}
+use mathlib.Core.Path.{_≡_, refl, ap, sym, subst, _∙_}
+use Prim.Native.Nat.{ℕ, _+_, _-_, _<_, _≤_}
 use native.Mathlib.Omega.{arith}
-use native.Mathlib.Nat.{pow-le-pow-right}
-use borrow.Author.Tests.{lt-ltb, le-ltb, ltb-true, ltb-false, eq-eqb, ne-eqb}
-use mathlib.Core.List.{List, [], _∷_, _++_, append-cancel-left}
-use lib.Dec.{ltb, eqb}
-use lib.ListN.{length, getD, take, drop, length-append, length-drop}
+use borrow.Author.Tests.{lt-ltb, le-ltb}
+use mathlib.Core.List.{List, [], _∷_}
+use lib.ListN.{length, getD, drop, length-drop}
 use lib.Seq.{drop-cons}
-use Rattle.format.specs.Bytes.{Bytes}
-use Rattle.format.specs.Bytes.Laws.{bytes-drop}
-use Rattle.format.specs.Choice.{pick}
-use Rattle.format.specs.Choice.Laws.{by-test}
 use Rattle.format.specs.Cut.{Cut}
-use Rattle.format.specs.Numbers.{be, val}
-use Rattle.format.specs.Numbers.Laws.{length-be, val-be, be-val, val-append, val-below}
-use Rattle.der.specs.Length.{Sized, form, least, longForm, readLength}
-use Rattle.der.specs.declared.Length.{Length}
+use Rattle.format.specs.Numbers.{val}
+use Rattle.der.specs.Length.{form, least, longForm, readLength}
 use Rattle.der.specs.declared.Length.the-variants as is
 
 -- k bytes after the first, by the tests

@@ -1,12 +1,12 @@
 -- Laws of the calls to DER and of the hash: the outcome by the tests that lead there.
 -- Assumes nothing.
-use mathlib.Core.Path.{_≡_, refl, ap, sym, _∙_}
-use mathlib.Core.Bool.{Bool, true, false}
+use mathlib.Core.Path.{_≡_}
+use mathlib.Core.Bool.{true, false}
 use Prim.Native.Nat.{ℕ, _*_, _<_, _≤_}
 use borrow.Author.Tests.{lt-ltb, le-ltb, eq-eqb, ne-eqb}
 use mathlib.Core.List.{List}
 use lib.ListN.{length, take, drop}
-use Rattle.format.specs.Answers.{done, refused, given, refusal}
+use Rattle.format.specs.Answers.{done, refused, refusal}
 use Rattle.ecdsa.specs.Signature.{isSize, integers, signature}
 use Rattle.ecdsa.specs.Calls.{formed, toDer, hashFor}
 

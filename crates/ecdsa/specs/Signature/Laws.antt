@@ -1,24 +1,23 @@
 -- Laws of the DER form: where a number's digits start, its size, the bytes of head and INTEGER.
 -- Assumes nothing.
-use mathlib.Core.Path.{_≡_, refl, ap, ap₂, sym, subst, _∙_}
-use mathlib.Core.Bool.{Bool, true, false}
-use Prim.Native.Nat.{ℕ, zero, suc, _+_, _-_, _*_, _%_, _<_, _≤_}
+use mathlib.Core.Path.{_≡_, ap, sym, _∙_}
+use mathlib.Core.Bool.{true, false}
+use Prim.Native.Nat.{ℕ, suc, _+_, _-_, _%_, _<_, _≤_}
 use native.Mathlib.Omega.{arith}
 use native.Mathlib.Numerals.{add-one}
 use borrow.Author.Tests.{lt-ltb, le-ltb, ltb-true, ltb-false, eqb-true}
 use mathlib.Core.List.{List, [], _∷_, _++_}
 use lib.Dec.{ltb, eqb}
-use lib.ListN.{length, getD, take, drop, length-append, length-drop}
-use Rattle.format.specs.Bytes.{Bytes}
+use lib.ListN.{length, getD, drop, length-drop}
 use Rattle.format.specs.Choice.{pick}
 use Rattle.format.specs.Choice.Laws.{by-test}
 use Rattle.format.specs.Numbers.{be}
 use Rattle.format.specs.Places.{at-place, past-end}
 use Rattle.der.specs.Length.{form}
 use Rattle.der.specs.Length.Exact.{form-short, form-long}
-use Rattle.der.specs.Content.{redundant, shortest, integer}
+use Rattle.der.specs.Content.{shortest, integer}
 use Rattle.der.specs.Content.Laws.{shortest-drop, shortest-keep, shortest-one, zero-redundant, zero-needed, byte-needed}
-use Rattle.ecdsa.specs.Signature.{isSize, unsigned, contentFrom, pairOf, derOf}
+use Rattle.ecdsa.specs.Signature.{isSize, contentFrom}
 
 -- the content, by the first digit's top bit
 module _ (number : List ℕ) (k : ℕ) where

@@ -4,9 +4,8 @@ use mathlib.Core.Path.{_≡_, refl, ap, ap₂, sym, subst, _∙_}
 use mathlib.Core.Bool.{true, false}
 use Prim.Native.Nat.{ℕ, _+_, _-_, _*_, _<_, _≤_}
 use native.Mathlib.Omega.{arith}
-use borrow.Author.Tests.{lt-ltb, le-ltb, eqb-true}
+use borrow.Author.Tests.{lt-ltb, le-ltb}
 use mathlib.Core.List.{List, _++_}
-use lib.Dec.{eqb}
 use lib.ListN.{length, take, drop, length-append, length-drop}
 use lib.Seq.{take-all}
 use Rattle.format.specs.Answers.{done, refused}
@@ -14,12 +13,11 @@ use Rattle.format.specs.Buffer.{over}
 use Rattle.format.specs.Buffer.Laws.{over-over, length-over}
 use Rattle.format.specs.Bytes.{Bytes}
 use Rattle.format.specs.Bytes.Laws.{bytes-drop}
-use Rattle.format.specs.Choice.Laws.{by-test}
 use Rattle.der.specs.Element.{elementIn}
 use Rattle.der.specs.declared.Element.the-variants as found
 use Rattle.ecdsa.specs.Signature.{isSize}
 use Rattle.ecdsa.specs.Strict.{Raw, part, numberIn, padded, rawOf}
-use Rattle.ecdsa.specs.Strict.Laws.{never, Inside, number-inside, raw-no-r, raw-no-s, raw-left, raw-is, length-part, length-padded}
+use Rattle.ecdsa.specs.Strict.Laws.{Inside, number-inside, raw-no-r, raw-no-s, raw-left, raw-is, length-part, length-padded}
 use Rattle.ecdsa.specs.Calls.{inRoom, toRaw}
 use Rattle.ecdsa.specs.declared.raw_form.Number.the-variants.{Digits, Nothing}
 

@@ -1,12 +1,12 @@
 -- What is to be shown of a call's answer and buffer, from the outcome.
 -- Assumes nothing.
-use mathlib.Core.Path.{_≡_, refl, ap, sym, _∙_}
+use mathlib.Core.Path.{_≡_, ap, sym, _∙_}
 use Prim.Native.Nat.{ℕ}
-use mathlib.Core.List.{List, [], _++_}
-use lib.ListN.{length, drop}
+use mathlib.Core.List.{List}
+use lib.ListN.{length}
 use Rattle.format.specs.Buffer.{over}
 use Rattle.format.specs.Buffer.Laws.{over-start}
-use Rattle.format.specs.Answers.{Outcome, Answer, done, refused, told, filled}
+use Rattle.format.specs.Answers.{Outcome, done, refused, told, filled}
 
 -- a refusal: the number and the place, and the buffer as it was
 pub refuses : (o : Outcome) (number place : ℕ) (out : List ℕ) → o ≡ refused number place → (record { number = number; place = place; count = 0 } ≡ told o) × (out ≡ filled o out)

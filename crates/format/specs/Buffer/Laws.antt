@@ -1,13 +1,13 @@
 -- Laws of writes: nothing written, a write at the start, one write after another, a single store.
 -- Assumes nothing.
 use mathlib.Core.Path.{_≡_, refl, ap, ap₂, sym, _∙_}
-use Prim.Native.Nat.{ℕ, zero, suc, _+_, _<_, _≤_, min}
+use Prim.Native.Nat.{ℕ, _+_, _<_, _≤_}
 use native.Mathlib.Omega.{arith}
 use native.Mathlib.Nat.{add-zero, zero-add}
 use native.Mathlib.Numerals.{add-one}
 use mathlib.Core.List.{List, [], _∷_, _++_, append-assoc, append-nil}
 use lib.ListN.{length, take, drop, set, length-append, length-take, length-drop, take-append-drop}
-use lib.Seq.{set-split, length-take-le, take-at, drop-drop, drop-at}
+use lib.Seq.{set-split, take-at, drop-drop, drop-at}
 use Rattle.format.specs.Buffer.{over}
 
 pub over-none : (out : List ℕ) (at : ℕ) → over out at [] ≡ out
