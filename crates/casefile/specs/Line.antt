@@ -3,10 +3,10 @@
 pub mod Laws
 use Prim.Native.Nat.{ℕ, zero, suc, _+_, _*_, _-_, _/_, _%_, _≤_, _<_}
 use mathlib.Core.Path.{_≡_}
-use mathlib.Core.Bool.{Bool, true, false, cond}
+use mathlib.Core.Bool.{cond}
 use mathlib.Core.List.{List, [], _∷_, _++_}
 use lib.Dec.{ltb, leb}
-use lib.ListN.{length, getD, set, take, drop}
+use lib.ListN.{length, set, take, drop}
 
 -- a buffer, and the place where the next byte goes
 pub record Line : Type 0 where
@@ -71,8 +71,3 @@ unfoldable pub shown : List ℕ → List ℕ
 shown s =
     cond (leb (length s) 24) (hexOf s)
     (hexOf (take 8 s) ++ ((46 ∷ 46 ∷ []) ++ (hexOf (drop (length s - 8) s) ++ ((32 ∷ 115 ∷ 117 ∷ 109 ∷ 32 ∷ []) ++ decimalOf (weighted 1 s % 65521)))))
-
--- every byte from a place on is `filling`, or there is one that is not
-abbrev pub Unchanged : List ℕ → ℕ → ℕ → Bool → Type 0
-Unchanged buffer from filling true = (i : ℕ) → i < length buffer → from ≤ i → getD buffer i 0 ≡ filling
-Unchanged buffer from filling false = (i : ℕ) × (i < length buffer) × (from ≤ i) × (getD buffer i 0 ≡ filling → ⊥)

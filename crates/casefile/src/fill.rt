@@ -1,7 +1,9 @@
 // The buffer that a call of a case is to fill, and a line's words on what the call left in it.
 ghost use mathlib.Core.Path.{_≡_};
-ghost use lib.ListN.{length};
-ghost use Rattle.casefile.specs.Line.{Within};
+ghost use mathlib.Core.List.{_++_};
+ghost use lib.ListN.{replicate};
+ghost use Rattle.casefile.specs.Line.{Put, decimalOf};
+ghost use Rattle.casefile.specs.Fill.{keptWords, writtenWords, filledLine};
 use crate::line::put;
 use crate::line::put_bytes;
 use crate::line::put_number;
@@ -34,14 +36,14 @@ pub fn answer_of(number: usize, place: usize, count: usize) -> Answer
 
 // Room for the largest case and the guard bytes past it, all filled.
 pub fn filled() -> [u8; 7016]
-    ensures { λ r. ⌜ 7016 ≡ length r ⌝ }
+    ensures { λ r. ⌜ r ≡ replicate 7016 0x5A ⌝ }
 {
     [FILLING; 7016]
 }
 
 // Puts down whether the call left every byte past the count alone, the guard bytes too.
 fn put_kept(buffer: &[u8], count: usize, out: &mut [u8], to: usize) -> usize
-    ensures { λ r. ⌜ Within (now (out .entry)) to r ⌝ }
+    ensures { λ r. ⌜ Put (now (out .entry)) to (keptWords (now (buffer .entry)) count) (now (out .exit)) r ⌝ }
 {
     if unchanged(buffer, count, FILLING) {
         return put_text(out, to, b" kept");
@@ -51,7 +53,7 @@ fn put_kept(buffer: &[u8], count: usize, out: &mut [u8], to: usize) -> usize
 
 // Puts down the bytes that the call wrote, if there are any.
 fn put_written(buffer: &[u8], count: usize, out: &mut [u8], to: usize) -> usize
-    ensures { λ r. ⌜ Within (now (out .entry)) to r ⌝ }
+    ensures { λ r. ⌜ Put (now (out .entry)) to (writtenWords (now (buffer .entry)) count) (now (out .exit)) r ⌝ }
 {
     if count == 0 {
         return to;
@@ -65,7 +67,7 @@ fn put_written(buffer: &[u8], count: usize, out: &mut [u8], to: usize) -> usize
 
 // Puts down the rest of a case's line: the count that the call answered, and what the whole buffer holds after it.
 pub fn put_filled(buffer: &[u8], count: usize, out: &mut [u8], to: usize) -> usize
-    ensures { λ r. ⌜ Within (now (out .entry)) to r ⌝ }
+    ensures { λ r. ⌜ Put (now (out .entry)) to (filledLine (now (buffer .entry)) count) (now (out .exit)) r ⌝ }
 {
     let mut o = put_text(out, to, b" wrote ");
     o = put_number(out, o, count);
@@ -76,7 +78,7 @@ pub fn put_filled(buffer: &[u8], count: usize, out: &mut [u8], to: usize) -> usi
 
 // Puts down the line of a call that fills a buffer and answers no place.
 pub fn put_call(a: Answer, buffer: &[u8], out: &mut [u8], to: usize) -> usize
-    ensures { λ r. ⌜ Within (now (out .entry)) to r ⌝ }
+    ensures { λ r. ⌜ Put (now (out .entry)) to (decimalOf (a .number) ++ filledLine (now (buffer .entry)) (a .count)) (now (out .exit)) r ⌝ }
 {
     let o = put_number(out, to, a.number);
     put_filled(buffer, a.count, out, o)

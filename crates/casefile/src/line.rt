@@ -2,7 +2,9 @@
 ghost use mathlib.Core.Path.{_≡_};
 ghost use mathlib.Core.List.{[], _∷_, _++_};
 ghost use Prim.Native.Nat.{_%_, _<_};
-ghost use Rattle.casefile.specs.Line.{Put, hexOf, digitOf, decimalOf, wordsOf, weighted, shown, Unchanged};
+ghost use Rattle.casefile.specs.Line.{Put, hexOf, digitOf, decimalOf, wordsOf, weighted, shown};
+ghost use Rattle.casefile.specs.Fill.{allAre};
+ghost use lib.ListN.{drop};
 use octets::wide;
 
 // Puts down a byte.
@@ -119,7 +121,7 @@ pub fn put_bytes(out: &mut [u8], at: usize, bytes: &[u8]) -> usize
 
 // Whether every byte from a place on is the byte that the buffer was filled with.
 pub fn unchanged(buffer: &[u8], from: usize, filling: u8) -> bool
-    ensures { λ r. ⌜ Unchanged (now (buffer .entry)) from filling r ⌝ }
+    ensures { λ r. ⌜ r ≡ allAre filling (drop from (now (buffer .entry))) ⌝ }
 {
     let mut i = from;
     while i < buffer.len() {

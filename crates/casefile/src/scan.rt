@@ -1,9 +1,9 @@
 // Scanning a line of cases: where it ends, a byte, a decimal number, and bytes as runs of hex digits.
 ghost use mathlib.Core.Path.{_≡_};
-ghost use Prim.Native.Nat.{_≤_, _<_};
+ghost use Prim.Native.Nat.{_-_};
 ghost use lib.ListN.{getD};
-ghost use Rattle.casefile.specs.Line.{Within, Counts};
-ghost use Rattle.casefile.specs.Scan.{LineEnd, Numeral, HexDigit};
+ghost use Rattle.casefile.specs.Line.{Put, Counts};
+ghost use Rattle.casefile.specs.Scan.{LineEnd, Numeral, numberAt, numberEnd, HexDigit, pairsAt, pairsEnd, times, runAt, runEnd, runsAt};
 use crate::line::put;
 use octets::wide;
 
@@ -42,7 +42,7 @@ pub fn line_end(s: &[u8], from: usize) -> usize
 
 // The decimal number at a place: as many digits as there are, but no more once another could take it past 2 to the 63 and 1.
 pub fn number(s: &[u8], from: usize) -> Decimal
-    ensures { λ r. ⌜ Numeral (now (s .entry)) from (r .value) (r .next) ⌝ }
+    ensures { λ r. ⌜ Numeral (now (s .entry)) from (r .value) (r .next) × ((r .value ≡ numberAt (now (s .entry)) from) × (r .next ≡ numberEnd (now (s .entry)) from)) ⌝ }
 {
     let mut i = from;
     let mut value: usize = 0;
@@ -84,7 +84,7 @@ pub(crate) fn hex_value(b: u8) -> u8
 
 // The bytes of the pairs of hex digits that stand at `from`, into `out` from `to` on.
 fn take_pairs(s: &[u8], from: usize, out: &mut [u8], to: usize) -> Taken
-    ensures { λ r. ⌜ (from ≤ r .next) × Within (now (out .entry)) to (r .to) ⌝ }
+    ensures { λ r. ⌜ (r .next ≡ pairsEnd (now (s .entry)) from) × Put (now (out .entry)) to (pairsAt (now (s .entry)) from) (now (out .exit)) (r .to) ⌝ }
 {
     let mut i = from;
     let mut o = to;
@@ -103,27 +103,15 @@ fn take_pairs(s: &[u8], from: usize, out: &mut [u8], to: usize) -> Taken
     Taken { next: i, to: o }
 }
 
-// The bytes of `out` from `first` to `last`, put down once more from `to` on.
-fn copy(out: &mut [u8], first: usize, last: usize, to: usize) -> usize
-    ensures { λ r. ⌜ Within (now (out .entry)) to r ⌝ }
-{
-    let mut i = first;
-    let mut o = to;
-    while i < last {
-        o = put(out, o, at(out, i));
-        i += 1;
-    }
-    o
-}
-
-// The bytes of `out` from `first` to `last`, which stand there once, put down again until they stand there `times` times.
-fn repeat(out: &mut [u8], first: usize, last: usize, times: usize) -> usize
-    ensures { λ r. ⌜ Within (now (out .entry)) last r ⌝ }
+// The bytes of the pairs at `from`, which stand in `out` once, put down again from `to` on until they stand there `count` times.
+fn repeat(s: &[u8], from: usize, count: usize, out: &mut [u8], to: usize) -> usize
+    ensures { λ r. ⌜ Put (now (out .entry)) to (times (count - 1) (pairsAt (now (s .entry)) from)) (now (out .exit)) r ⌝ }
 {
     let mut k: usize = 1;
-    let mut o = last;
-    while k < times {
-        o = copy(out, first, last, o);
+    let mut o = to;
+    while k < count {
+        let more = take_pairs(s, from, out, o);
+        o = more.to;
         k += 1;
     }
     o
@@ -131,17 +119,16 @@ fn repeat(out: &mut [u8], first: usize, last: usize, times: usize) -> usize
 
 // One run, pairs of hex digits and perhaps `*COUNT`, into `out` from `to` on.
 fn take_run(s: &[u8], from: usize, out: &mut [u8], to: usize) -> Taken
-    ensures { λ r. ⌜ (from ≤ r .next) × Within (now (out .entry)) to (r .to) ⌝ }
+    ensures { λ r. ⌜ (r .next ≡ runEnd (now (s .entry)) from) × Put (now (out .entry)) to (runAt (now (s .entry)) from) (now (out .exit)) (r .to) ⌝ }
 {
     let once = take_pairs(s, from, out, to);
     let after = once.next;
-    let end = once.to;
     if after < s.len() {
         if s[after] == b'*' {
-            let times = number(s, after + 1);
-            let all = repeat(out, to, end, times.value);
+            let count = number(s, after + 1);
+            let all = repeat(s, from, count.value, out, once.to);
             return Taken {
-                next: times.next,
+                next: count.next,
                 to: all,
             };
         }
@@ -149,9 +136,9 @@ fn take_run(s: &[u8], from: usize, out: &mut [u8], to: usize) -> Taken
     once
 }
 
-// The bytes of all runs that stand at `from`, each after a space, put at the start of `out` as far as it has room, and how many they are.
+// The bytes of all runs that stand at `from`, each after a space, put at the start of `out` as far as it has room, and how many were put there.
 pub fn runs(s: &[u8], from: usize, out: &mut [u8]) -> usize
-    ensures { λ r. ⌜ Counts r (now (out .exit)) ⌝ }
+    ensures { λ r. ⌜ Counts r (now (out .exit)) × Put (now (out .entry)) 0 (runsAt (now (s .entry)) from) (now (out .exit)) r ⌝ }
 {
     let mut i = from;
     let mut to: usize = 0;

@@ -31,7 +31,7 @@ returns c =
     let one = two .before .before .before .before .before in
     within-more _ _ _ _ _ (one .put-number .ensures .within) (one .put-number .kept .0)
     (within-more _ _ _ _ _ (two .put-text .ensures .within) (two .put-text .kept .0)
-    (within-more _ _ _ _ _ (three .put-number2 .ensures .within) (three .put-number2 .kept .0) (four .put-filled .ensures)))
+    (within-more _ _ _ _ _ (three .put-number2 .ensures .within) (three .put-number2 .kept .0) (four .put-filled .ensures .within)))
 
 pub report-spec : {M : Type 1} → statement M
 report-spec =

@@ -1,7 +1,7 @@
--- `casefile::fill::put_filled` meets its contract: five parts, each within the room that the one before it left.
+-- `casefile::fill::put_filled` meets its contract: five parts, each after the one before it.
 -- Assumes nothing.
 use borrow.Author.Needs.{needs}
-use Rattle.casefile.specs.Line.Laws.{within-more}
+use Rattle.casefile.specs.Line.Laws.{put-more}
 use Rattle.casefile.proofs.fill.put_filled.Statement.{statement}
 use Rattle.casefile.proofs.fill.put_filled.Tie as tie
 
@@ -33,10 +33,10 @@ returns c =
     let kept = bytes .before .before .before .before in
     let count = kept .before .before .before .before in
     let word = count .before .before .before .before in
-    within-more _ _ _ _ _ (word .put-text .ensures .within) (word .put-text .kept .0)
-    (within-more _ _ _ _ _ (count .put-number .ensures .within) (count .put-number .kept .0)
-    (within-more _ _ _ _ _ (kept .put-kept .ensures) (kept .put-kept .kept .1 .1 .0)
-    (within-more _ _ _ _ _ (bytes .put-written .ensures) (bytes .put-written .kept .1 .1 .0) (end .put .ensures .within))))
+    put-more _ _ _ _ _ _ _ _ (word .put-text .ensures) (word .put-text .kept .0)
+    (put-more _ _ _ _ _ _ _ _ (count .put-number .ensures) (count .put-number .kept .0)
+    (put-more _ _ _ _ _ _ _ _ (kept .put-kept .ensures) (kept .put-kept .kept .1 .1 .0)
+    (put-more _ _ _ _ _ _ _ _ (bytes .put-written .ensures) (bytes .put-written .kept .1 .1 .0) (end .put .ensures))))
 
 pub put-filled-spec : {M : Type 1} → statement M
 put-filled-spec =

@@ -5,30 +5,30 @@ use native.Mathlib.Omega.{arith}
 use Prim.Native.Nat.{_-_, _<_}
 use lib.ListN.{length}
 use Rattle.casefile.specs.Scan.{Numeral}
-use Rattle.casefile.specs.Scan.Laws.{numeral-none, numeral-more}
+use Rattle.casefile.specs.Scan.Laws.{NumberTo, numeral-none, numeral-more, number-start, number-past, number-low, number-high, number-large, number-go}
 use Rattle.casefile.proofs.scan.number.Statement.{statement}
 use Rattle.casefile.proofs.scan.number.Tie as tie
 
 abbrev Inv-loop : tie.InvT-loop
-Inv-loop s from i₀ value₀ i value = (value < 9223372036854775810) × Numeral s from value i
+Inv-loop s from i₀ value₀ i value = (value < 9223372036854775810) × Numeral s from value i × NumberTo s from value i
 
 abbrev μ-loop : tie.MeasureT-loop
 μ-loop s from i₀ value₀ i value = length s - i
 
 loop-holds : tie.Need-loop-holds Inv-loop μ-loop
-loop-holds c = (omega arith, numeral-none _ _)
+loop-holds c = (omega arith, numeral-none _ _, number-start _ _)
 
 shared-slice-read-b : tie.Need-shared-slice-read-b Inv-loop μ-loop
 shared-slice-read-b c = omega arith
 
 returns : tie.Need-returns Inv-loop μ-loop
-returns c = c .before .before .before .loop .inv .1
+returns c = let on = c .before .before .before in (on .loop .inv .1, number-low (on .before .before .args .s .now) _ _ _ (on .loop .inv .2) (omega arith) (omega arith))
 
 returns-2 : tie.Need-returns-2 Inv-loop μ-loop
-returns-2 c = c .before .before .before .before .loop .inv .1
+returns-2 c = let on = c .before .before .before .before in (on .loop .inv .1, number-high (on .before .before .args .s .now) _ _ _ (on .loop .inv .2) (omega arith) (omega arith) (omega arith))
 
 returns-3 : tie.Need-returns-3 Inv-loop μ-loop
-returns-3 c = c .before .before .before .before .before .loop .inv .1
+returns-3 c = let on = c .before .before .before .before .before in (on .loop .inv .1, number-large (on .before .before .args .s .now) _ _ _ (on .loop .inv .2) (omega arith) (omega arith) (omega arith) (omega arith))
 
 mul-value : tie.Need-mul-value Inv-loop μ-loop
 mul-value c = omega arith
@@ -49,10 +49,10 @@ loop-again : tie.Need-loop-again Inv-loop μ-loop
 loop-again c =
     let on = c .before .before .before .before .before .before in
     let start = on .before .before in
-    (omega arith, rw (c .wide .ensures) (numeral-more (start .args .s .now) (start .args .from) (on .loop .value) (on .loop .i) (on .loop .inv .1) (omega arith) (omega arith) (omega arith)))
+    (omega arith, rw (c .wide .ensures) (numeral-more (start .args .s .now) (start .args .from) (on .loop .value) (on .loop .i) (on .loop .inv .1) (omega arith) (omega arith) (omega arith)), rw (c .wide .ensures) (number-go (start .args .s .now) (start .args .from) (on .loop .value) (on .loop .i) (on .loop .inv .2) (omega arith) (omega arith) (omega arith) (omega arith)))
 
 returns-4 : tie.Need-returns-4 Inv-loop μ-loop
-returns-4 c = c .before .loop .inv .1
+returns-4 c = let on = c .before in (on .loop .inv .1, number-past (on .before .before .args .s .now) _ _ _ (on .loop .inv .2) (omega arith))
 
 pub number-spec : {M : Type 1} → statement M
 number-spec =

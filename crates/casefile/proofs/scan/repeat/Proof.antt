@@ -1,25 +1,30 @@
--- `casefile::scan::repeat` meets its contract. The loop's invariant: `o` is within its bound.
+-- `casefile::scan::repeat` meets its contract. The loop's invariant: the pairs are put down k - 1 times.
 -- Assumes nothing.
 use borrow.Author.Needs.{needs}
 use native.Mathlib.Omega.{arith}
 use mathlib.Core.Path.{_≡_, refl, _∙_}
-use Prim.Native.Nat.{_-_}
+use Prim.Native.Nat.{_-_, _≤_}
+use denote.Ref.{now}
 use lib.ListN.{length}
-use Rattle.casefile.specs.Line.{Within}
+use Rattle.casefile.specs.Line.{Put}
+use Rattle.casefile.specs.Line.Laws.{put-none}
+use Rattle.casefile.specs.Scan.{times, pairsAt}
+use Rattle.casefile.specs.Scan.Laws.{times-turn, times-done}
 use Rattle.casefile.proofs.scan.repeat.Statement.{statement}
 use Rattle.casefile.proofs.scan.repeat.Tie as tie
 
 abbrev Inv-loop : tie.InvT-loop
-Inv-loop out₀ first last times k₀ o₀ out k o = (length out ≡ length out₀) × Within out₀ last o
+Inv-loop s from count out₀ to k₀ o₀ out k o = (length out ≡ length out₀) × (1 ≤ k) × (k - 1 ≤ count - 1) × Put out₀ to (times (k - 1) (pairsAt s from)) out o
 
 abbrev μ-loop : tie.MeasureT-loop
-μ-loop out₀ first last times k₀ o₀ out k o = times - k
+μ-loop s from count out₀ to k₀ o₀ out k o = count - k
 
 loop-holds : tie.Need-loop-holds Inv-loop μ-loop
-loop-holds c = (refl, omega arith)
+unfolding times
+loop-holds c = (refl, omega arith, omega arith, put-none _ _)
 
-copy-requires : tie.Need-copy-requires Inv-loop μ-loop
-copy-requires c κs = search needs
+take-pairs-requires : tie.Need-take-pairs-requires Inv-loop μ-loop
+take-pairs-requires c κs = search needs
 
 add-k : tie.Need-add-k Inv-loop μ-loop
 add-k c = omega arith
@@ -28,13 +33,16 @@ loop-less : tie.Need-loop-less Inv-loop μ-loop
 loop-less c = omega arith
 
 loop-again : tie.Need-loop-again Inv-loop μ-loop
-loop-again c = (c .before .before .copy .kept .0 ∙ c .before .before .before .before .before .loop .inv .0, omega arith)
+loop-again c =
+    let call = c .before .before in
+    let on = call .before .before .before in
+    (call .take-pairs .kept .1 .1 .0 ∙ on .loop .inv .0, omega arith, omega arith, times-turn _ (on .loop .k) (on .loop .inv .1) _ _ _ _ _ _ (on .loop .inv .3) (on .loop .inv .0) (call .take-pairs .ensures .1))
 
 same-length : tie.Need-same-length Inv-loop μ-loop
 same-length c = c .before .loop .inv .0
 
 returns : tie.Need-returns Inv-loop μ-loop
-returns c = omega arith
+returns c = times-done _ _ _ (omega arith) _ _ _ _ (c .before .loop .inv .3)
 
 pub repeat-spec : {M : Type 1} → statement M
 repeat-spec =
@@ -43,7 +51,7 @@ repeat-spec =
     Inv-loop
     μ-loop
     loop-holds
-    copy-requires
+    take-pairs-requires
     add-k
     loop-less
     loop-again
