@@ -8,7 +8,7 @@ use mathlib.Core.List.{[], _∷_, _++_, map}
 use lib.ListN.{length, getD, replicate}
 use Rattle.format.specs.Numbers.{be}
 use Rattle.format.specs.Bytes.{Bytes}
-use Rattle.format.specs.Bytes.Laws.{bytes-nil, bytes-cons}
+use Rattle.format.specs.Bytes.Laws.{bytes-nil, bytes-cons, bytes-replicate}
 use Rattle.c40.specs.Chart.{theChart, valueOf}
 use Rattle.c40.specs.Text.{triple, publish as c40}
 use Rattle.dates.specs.Days.{isDay, publish as date}
@@ -170,10 +170,6 @@ tag-twice : LegalFeatures four [] (record { tag = 7; value = [] } ∷ record { t
 tag-twice l = l .4 .1 .0 refl
 
 -- Seal A's content is legal
-pub bytes-of : (n x : ℕ) → x < 256 → Bytes (replicate n x)
-bytes-of zero x h = bytes-nil
-bytes-of (suc n) x h = bytes-cons x (replicate n x) h (bytes-of n x h)
-
 pub country-uto : Country uto
 country-uto = record {
   size = refl;
@@ -212,7 +208,7 @@ seal-a-legal = record {
   header = header-a-legal;
   features = (omega arith, tt, omega arith, bytes-visa, tt);
   signature = n28;
-  bytes = bytes-of 56 0xAA (omega arith);
+  bytes = bytes-replicate 56 0xAA (omega arith);
   size = omega (arith, ap length seal-a-published);
 }
   where

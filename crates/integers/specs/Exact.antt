@@ -3,18 +3,18 @@
 -- Assumes nothing.
 use mathlib.Core.Path.{_≡_, refl, ap, sym, subst, _∙_}
 use mathlib.Core.Bool.{true}
-use Prim.Native.Nat.{ℕ, zero, suc, _-_, _<_, _≤_}
+use Prim.Native.Nat.{ℕ, _-_, _<_, _≤_}
 use native.Mathlib.Omega.{arith}
 use borrow.Author.Tests.{ltb-true, ltb-false, eqb-true, eqb-false}
-use mathlib.Core.List.{List, [], _∷_}
+use mathlib.Core.List.{List}
 use lib.Dec.{ltb, eqb}
 use lib.IntN.{ℤ, pos}
-use lib.ListN.{length, take, drop}
+use lib.ListN.{length, drop}
 use mir.Syntax.{w64}
 use mir.Val.{SFits}
 use Rattle.format.specs.Answers.{Outcome, Given, done, refused, given, refusal}
 use Rattle.format.specs.Bytes.{Bytes}
-use Rattle.format.specs.Bytes.Laws.{bytes-nil, bytes-cons, bytes-drop}
+use Rattle.format.specs.Bytes.Laws.{bytes-drop, bytes-take}
 use Rattle.format.specs.Choice.Laws.{by-test}
 use Rattle.format.specs.Numbers.{be}
 use Rattle.format.specs.Numbers.Laws.{length-be}
@@ -40,11 +40,6 @@ written-reads v f =
     ∙ ap content (element-part 0x02 c)
     ∙ content-is c (shortest-is-strict s (omega arith)) few
     ∙ ap given (value-shortest s ∙ value-be v f)
-
-bytes-take : (n : ℕ) (s : List ℕ) → Bytes s → Bytes (take n s)
-bytes-take zero s b = bytes-nil
-bytes-take (suc n) [] b = bytes-nil
-bytes-take (suc n) (x ∷ s) b = bytes-cons x (take n s) (b 0) (bytes-take n s (λ i. b (suc i)))
 
 -- what is read is refused, or is an INTEGER of strict content of eight bytes at most
 module _ {C : Type 0} (s : List ℕ) (bytes : Bytes s) (not-one : reading s ≡ refusal (pos 0) 65 → C) (one : (c : List ℕ) → Bytes c → s ≡ integer c → strict c ≡ true → length c ≤ 8 → reading s ≡ given (valueOf c) → C) where

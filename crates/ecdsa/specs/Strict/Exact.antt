@@ -2,7 +2,7 @@
 -- Assumes nothing.
 use mathlib.Core.Path.{_≡_, refl, ap, ap₂, sym, subst, _∙_}
 use mathlib.Core.Bool.{true}
-use Prim.Native.Nat.{ℕ, zero, suc, _+_, _-_, _*_, _<_, _≤_}
+use Prim.Native.Nat.{ℕ, suc, _+_, _-_, _*_, _<_, _≤_}
 use native.Mathlib.Omega.{arith}
 use borrow.Author.Tests.{eqb-true, eqb-false}
 use mathlib.Core.List.{List, [], _∷_, _++_, append-nil}
@@ -10,7 +10,7 @@ use lib.Dec.{eqb}
 use lib.ListN.{length, take, drop, replicate, length-append, length-drop, take-append-drop}
 use lib.Seq.{take-all, take-at, drop-at, take-add, drop-drop, length-take-le}
 use Rattle.format.specs.Bytes.{Bytes}
-use Rattle.format.specs.Bytes.Laws.{bytes-nil, bytes-cons, bytes-append, bytes-drop}
+use Rattle.format.specs.Bytes.Laws.{bytes-append, bytes-drop, bytes-take, bytes-replicate}
 use Rattle.format.specs.Choice.Laws.{by-test}
 use Rattle.der.specs.Length.{form}
 use Rattle.der.specs.Length.Exact.{form-short}
@@ -95,15 +95,6 @@ pub record NumberSound (n : ℕ) (t : List ℕ) (b : ℕ) (r : List ℕ) : Type 
   pub end : b ≤ length t
   pub bytes : Bytes r
 
-bytes-zeros : (n : ℕ) → Bytes (replicate n 0)
-bytes-zeros zero = bytes-nil
-bytes-zeros (suc n) = bytes-cons 0 (replicate n 0) (omega arith) (bytes-zeros n)
-
-bytes-take : (n : ℕ) (s : List ℕ) → Bytes s → Bytes (take n s)
-bytes-take zero s b = bytes-nil
-bytes-take (suc n) [] b = bytes-nil
-bytes-take (suc n) (x ∷ s) b = bytes-cons x (take n s) (b 0) (bytes-take n s (λ i. b (suc i)))
-
 pub number-sound : (n : ℕ) (t : List ℕ) → Bytes t → (a b : ℕ) → numberIn n t ≡ Digits a b → NumberSound n t b (padded n (part a b t))
 number-sound n t bytes a b e =
     let r = number-read n t a b e in
@@ -117,7 +108,7 @@ number-sound n t bytes a b e =
       many = length-padded n (part a b t) (omega (arith, length-part a b t (i .end), i .small));
       whole = f .whole ∙ ap (element 0x02) (sym (ap (λ d. shortest (0 ∷ padded n d)) digits ∙ padded-shortest n c (r .is-strict) (r .low)));
       end = f .inside;
-      bytes = bytes-append (replicate (n - length (part a b t)) 0) (part a b t) (bytes-zeros (n - length (part a b t))) (bytes-take (b - a) (drop a t) (bytes-drop a t bytes));
+      bytes = bytes-append (replicate (n - length (part a b t)) 0) (part a b t) (bytes-replicate (n - length (part a b t)) 0 (omega arith)) (bytes-take (b - a) (drop a t) (bytes-drop a t bytes));
     }
 
 -- complete, both numbers: the DER form of a raw signature is read as that signature

@@ -3,7 +3,7 @@
 use Prim.Native.Nat.{ℕ, zero, suc, _+_, _<_}
 use native.Mathlib.Omega.{arith}
 use mathlib.Core.List.{List, [], _∷_, _++_}
-use lib.ListN.{length, getD, drop}
+use lib.ListN.{length, getD, take, drop, replicate}
 use lib.Seq.{getD-drop}
 use Rattle.format.specs.Bytes.{Byte, Bytes, All}
 
@@ -20,6 +20,15 @@ bytes-append (x ∷ s) t bs bt = bytes-cons x (s ++ t) (bs 0) (bytes-append s t 
 
 pub bytes-drop : (n : ℕ) (s : List ℕ) → Bytes s → Bytes (drop n s)
 bytes-drop n s b i = rw getD-drop (b (n + i))
+
+pub bytes-take : (n : ℕ) (s : List ℕ) → Bytes s → Bytes (take n s)
+bytes-take zero s b = bytes-nil
+bytes-take (suc n) [] b = bytes-nil
+bytes-take (suc n) (x ∷ s) b = bytes-cons x (take n s) (b 0) (bytes-take n s (λ i. b (suc i)))
+
+pub bytes-replicate : (n x : ℕ) → Byte x → Bytes (replicate n x)
+bytes-replicate zero x h = bytes-nil
+bytes-replicate (suc n) x h = bytes-cons x (replicate n x) h (bytes-replicate n x h)
 
 module _ {A : Type 0} (P : A → Type 0) where
   pub all-append : (s t : List A) → All P s → All P t → All P (s ++ t)
