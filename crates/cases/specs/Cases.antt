@@ -18,6 +18,9 @@ use Rattle.ecdsa.specs.Signature.{isSize}
 use Rattle.ecdsa.specs.Strict.{digitsIn, numberIn, rawOf}
 use Rattle.ecdsa.specs.Calls.{formed, toDer, toRaw}
 use Rattle.grammar.specs.Publish.{headerZone, messageZone, signatureZone, signedBytes, publish as publishSeal}
+use Rattle.grammar.specs.Legal.{Legal}
+use Rattle.grammar.specs.Examples.{content-a}
+use Rattle.grammar.specs.Pins.{seal-a-legal}
 use Rattle.cases.specs.Case.{Case}
 use Rattle.cases.specs.C40.{c40-cases}
 use Rattle.cases.specs.Numbers.{number-cases}
@@ -27,7 +30,7 @@ use Rattle.cases.specs.Seals.{seal-cases}
 abbrev pub cases : List Case
 cases = c40-cases ++ number-cases ++ signature-cases ++ seal-cases
 
--- each is as document 01 says
-pub cases-hold : map (λ (c : Case). c .found) cases ≡ map (λ (c : Case). c .expected) cases
+-- each is as document 01 says, and Seal A's content is legal
+pub cases-hold : (map (λ (c : Case). c .found) cases ≡ map (λ (c : Case). c .expected) cases) × Legal content-a
 unfolding be val theChart valueOf triple publish single values pairOf decode reading known writing isDay date fromNumber form longForm readLength elementIn shortest strict readInteger writeInteger isSize formed toDer digitsIn numberIn rawOf toRaw headerZone messageZone signatureZone signedBytes publishSeal
-cases-hold = refl
+cases-hold = (refl, seal-a-legal)
