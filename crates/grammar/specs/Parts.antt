@@ -143,11 +143,10 @@ cut-three a b t u la lb e =
     (λ i. (d .0 i, d .1 i), c .1)
 
 -- version 4: six characters, which give the reference's length, and then the reference
-pub six : List ℕ × List ℕ → List ℕ
+abbrev pub six : List ℕ × List ℕ → List ℕ
 six p = p .0 ++ hexDigits (length (p .1))
 
 pub six-text : (p : List ℕ × List ℕ) → Names four p → TextOf 6 (six p)
-unfolding six
 six-text p n =
     let s = signer-text (p .0) (n .signer) in (
       length-append (p .0) (hexDigits (length (p .1))) ∙ ap (λ x. x + 2) (s .0),
@@ -155,11 +154,9 @@ six-text p n =
     )
 
 pub four-form : (p : List ℕ × List ℕ) → Names four p → names four (p .0) (p .1) ≡ c40 (six p) ++ c40 (p .1)
-unfolding six
 four-form p n = six-ahead (p .0 ++ hexDigits (length (p .1))) (p .1) (six-text p n .0)
 
 cut-four : Cut (Names four) (λ p. names four (p .0) (p .1))
-unfolding six
 cut-four a b t u la lb e =
     let f : c40 (six a) ++ (c40 (a .1) ++ t) ≡ c40 (six b) ++ (c40 (b .1) ++ u) =
     sym (append-assoc (c40 (six a)) (c40 (a .1)) t) ∙ ap (λ z. z ++ t) (sym (four-form a la)) ∙ e ∙ ap (λ z. z ++ u) (four-form b lb) ∙ append-assoc (c40 (six b)) (c40 (b .1)) u in

@@ -77,11 +77,11 @@ seal-size c l =
     (omega arith, l .size)
 
 -- whether a tag is among these, and how many numbers below n are not
-has : ℕ → List ℕ → Bool
+unfoldable pub has : ℕ → List ℕ → Bool
 has k [] = false
 has k (t ∷ used) = either (eqb k t) (has k used)
 
-free : ℕ → List ℕ → ℕ
+unfoldable pub free : ℕ → List ℕ → ℕ
 free zero used = 0
 free (suc k) used = pick (has k used) 0 1 + free k used
 
@@ -106,7 +106,7 @@ free-above (suc k) tag used h =
     simp (ne-eqb k tag (λ e. omega arith), ih)
 
 -- one below n that was free takes one away
-free-less : (n tag : ℕ) (used : List ℕ) → tag < n → has tag used ≡ false → free n used ≡ suc (free n (tag ∷ used))
+pub free-less : (n tag : ℕ) (used : List ℕ) → tag < n → has tag used ≡ false → free n used ≡ suc (free n (tag ∷ used))
 unfolding free has
 free-less zero tag used h e = absurd (omega arith)
 free-less (suc k) tag used h e =

@@ -1,0 +1,3 @@
+-- What several proofs of this crate share.
+-- Assumes nothing.
+pub mod Unread

@@ -1,0 +1,17 @@
+-- `items::names::is_digit` meets its contract: below the first digit, and else the range's last test.
+-- Assumes nothing.
+use native.Mathlib.Omega.{arith}
+use mathlib.Core.Path.{sym}
+use Rattle.items.specs.Items.Laws.{within-below}
+use Rattle.items.specs.Cases.Text.{within-last}
+use Rattle.items.proofs.names.is_digit.Statement.{statement}
+use Rattle.items.proofs.names.is_digit.Tie as tie
+
+returns : tie.Need-returns
+returns c = sym (within-below 48 57 (c .before .args .c) (omega arith))
+
+returns-2 : tie.Need-returns-2
+returns-2 c = within-last 48 57 (c .before .args .c) (omega arith)
+
+pub is-digit-spec : {M : Type 1} → statement M
+is-digit-spec = tie.close (tie.spec returns returns-2)

@@ -1,0 +1,105 @@
+-- What each case of an item's answer means: the item and the place that the next cursor has, or document 01's number and the place.
+-- Assumes nothing.
+pub mod Laws
+pub mod Text
+pub mod Field
+pub mod Named
+use mathlib.Core.Path.{_≡_}
+use Prim.Native.Nat.{ℕ, _+_, _≤_, _<_}
+use mathlib.Core.Bool.{Bool, true, false}
+use mathlib.Core.List.{List, []}
+use lib.Dec.{eqb}
+use lib.ListN.{length, take, drop}
+use Rattle.format.specs.Choice.{pick}
+use Rattle.c40.specs.Text.{width}
+use Rattle.c40.specs.Decode.{decode}
+use Rattle.dates.specs.declared.Date.{Date}
+use Rattle.grammar.specs.Content.{Version, three, four}
+use Rattle.items.specs.Items.{Item, is, not, exactly}
+use Rattle.items.specs.Items as read
+use Rattle.items.specs.declared.cursor.Refusal.{Refusal}
+use Rattle.items.specs.declared.cursor.Byte.{Byte}
+use Rattle.items.specs.declared.cursor.Byte.the-variants as byte
+use Rattle.items.specs.declared.cursor.Whole.{Whole}
+use Rattle.items.specs.declared.cursor.Whole.the-variants as whole
+use Rattle.items.specs.declared.cursor.Step.{Step}
+use Rattle.items.specs.declared.cursor.Step.the-variants as step
+use Rattle.items.specs.declared.cursor.Number.{Number}
+use Rattle.items.specs.declared.cursor.Number.the-variants as number
+use Rattle.items.specs.declared.cursor.Day.{Day}
+use Rattle.items.specs.declared.cursor.Day.the-variants as day
+use Rattle.items.specs.declared.names.Names.{Names}
+use Rattle.items.specs.declared.names.Names.the-variants as names
+
+-- an item seen through a map
+abbrev pub through : {A B : Type 0} → (A → B) → Item A → Item B
+through f (is a at) = is (f a) at
+through f (not number place) = not number place
+
+-- why an item was not read
+abbrev pub whyOf : {A : Type 0} → Item A → Refusal
+whyOf (is a at) = record { number = 0; place = 0 }
+whyOf (not number place) = record { number = number; place = place }
+
+-- the version as a number
+abbrev pub edition : Version → ℕ
+edition three = 3
+edition four = 4
+
+-- the version of a number; any but 3 is read as version 4 is
+abbrev pub versionOf : ℕ → Version
+versionOf n = pick (eqb n 3) three four
+
+abbrev pub byteOf : ℕ → Byte → Item ℕ
+byteOf at (byte.Is x next) = is x (next .place)
+byteOf at byte.Cut = not 2 at
+
+abbrev pub wholeOf : ℕ → Whole → Item Unit
+wholeOf at (whole.Past next) = is tt (next .place)
+wholeOf at whole.Cut = not 2 at
+
+-- an item whose own number is `wrong`, and whose value stands elsewhere
+abbrev pub stepOf : {A : Type 0} → ℕ → ℕ → A → Step → Item A
+stepOf wrong at value (step.Past next) = is value (next .place)
+stepOf wrong at value step.Cut = not 2 at
+stepOf wrong at value step.Wrong = not wrong at
+
+abbrev pub numberOf : ℕ → ℕ → Number → Item ℕ
+numberOf wrong at (number.Is n next) = is n (next .place)
+numberOf wrong at number.Cut = not 2 at
+numberOf wrong at number.Wrong = not wrong at
+
+abbrev pub dayOf : ℕ → Day → Item Date
+dayOf at (day.Is d next) = is d (next .place)
+dayOf at day.Cut = not 2 at
+dayOf at day.NoSuchDate = not 6 at
+
+-- signer and reference, and the reference's length
+pub record Measured : Type 0 where
+  pub length : ℕ
+  pub names : read.Names
+
+abbrev pub measured : read.Names → Measured
+measured n = record { length = length (n .reference); names = n }
+
+-- signer and reference stand one after the other at the start of a text
+abbrev pub namesOf : List ℕ → Names → Item Measured
+namesOf text (names.Are size next) = is (record { length = size; names = record { signer = take 4 text; reference = take size (drop 4 text) } }) (next .place)
+namesOf text (names.Not why) = not (why .number) (why .place)
+
+-- past so many bytes
+abbrev pub past : ℕ → ℕ → List ℕ → Item Unit
+past size at bytes = is tt (at + size)
+
+-- any text at all
+abbrev pub anyText : List ℕ → Bool
+anyText t = true
+
+-- as many bytes as a field of the text's size takes
+abbrev pub Sized : List ℕ → List ℕ → Type 0
+Sized bytes text = (length bytes ≡ width (length text)) × ((0 < length text) × (length text ≤ 255))
+
+-- whether the bytes are C40 of exactly the text's size, and then what the text is
+abbrev pub Fills : Bool → List ℕ → List ℕ → Type 0
+Fills true bytes text = (exactly (length text) (decode 0 bytes) ≡ text)
+Fills false bytes text = (exactly (length text) (decode 0 bytes) ≡ [])

@@ -1,0 +1,186 @@
+-- The items of numbers and dates by their tests, one law for each answer.
+-- Assumes nothing.
+use mathlib.Core.Path.{_≡_, refl, ap, sym, subst, _∙_}
+use mathlib.Core.Bool.{Bool, true, false}
+use Prim.Native.Nat.{ℕ, _+_, _≤_, _<_}
+use native.Mathlib.Omega.{arith}
+use native.Mathlib.Nat.{add-zero}
+use borrow.Author.Tests.{le-ltb, lt-ltb, le-leb, lt-leb, eq-eqb, ne-eqb}
+use mathlib.Core.List.{List, [], _∷_}
+use lib.Dec.{ltb, eqb}
+use lib.ListN.{length, take, drop, getD, drop-of-length-le}
+use lib.Seq.{getD-take, getD-drop}
+use Rattle.format.specs.Choice.{pick}
+use Rattle.format.specs.Choice.Laws.{by-test}
+use Rattle.format.specs.Numbers.{val}
+use Rattle.dates.specs.declared.Date.{Date}
+use Rattle.dates.specs.Days.{isDay, dateOf}
+use Rattle.format.specs.Answers.{Given, given, refusal}
+use Rattle.dates.specs.Calls.{no-date, fromNumber}
+use Rattle.der.specs.Length.{readLength}
+use Rattle.grammar.specs.Content.{three, four}
+use Rattle.items.specs.Items.{Item, is, not, whole, byte, mark, version, last, lastIn, date, dateIn, plainIn, derOf, derLength, markIn, versionIn}
+use Rattle.items.specs.Items.Laws.{whole-read, unread}
+use Rattle.items.specs.Cases.{through, edition, past}
+
+-- an item of k bytes that are not all there, or are
+pub whole-cut : {A : Type 0} (k at : ℕ) (s : List ℕ) (f : List ℕ → Item A) → length s < at + k → not 2 at ≡ whole k at s f
+whole-cut k at s f h = ap (λ b. pick b (not 2 at) (f (take k (drop at s)))) (sym (lt-ltb (length s) (at + k) h))
+
+pub whole-is : {A : Type 0} (k at : ℕ) (s : List ℕ) (f : List ℕ → Item A) → at + k ≤ length s → whole k at s f ≡ f (take k (drop at s))
+whole-is k at s f h = ap (λ b. pick b (not 2 at) (f (take k (drop at s)))) (le-ltb (length s) (at + k) h)
+
+-- the same of one byte
+pub byte-cut : {A : Type 0} (at : ℕ) (s : List ℕ) (f : ℕ → Item A) → length s ≤ at → not 2 at ≡ byte at s f
+byte-cut at s f h = whole-cut 1 at s (λ b. f (getD b 0 0)) (omega arith)
+
+first : (at : ℕ) (s : List ℕ) → getD (take 1 (drop at s)) 0 0 ≡ getD s at 0
+first at s = getD-take 1 (drop at s) 0 0 (omega arith) ∙ getD-drop at s 0 0 ∙ ap (λ i. getD s i 0) (omega arith)
+
+pub byte-is : {A : Type 0} (at : ℕ) (s : List ℕ) (f : ℕ → Item A) → at < length s → byte at s f ≡ f (getD s at 0)
+byte-is at s f h = whole-is 1 at s (λ b. f (getD b 0 0)) (omega arith) ∙ ap f (first at s)
+
+-- k bytes that were read whole, and what any judgement of them gives
+pub record Past (k at : ℕ) (s : List ℕ) (after : ℕ) : Type 0 where
+  pub there : at + k ≤ length s
+  pub reached : after ≡ at + k
+
+placeOf : {A : Type 0} → Item A → ℕ
+placeOf (is a at) = at
+placeOf (not number place) = place
+
+pub past-whole : (k at : ℕ) (s : List ℕ) (after : ℕ) → is tt after ≡ whole k at s (past k at) → Past k at s after
+unfolding placeOf
+past-whole k at s after e =
+    let w = whole-read k at s (past k at) tt after (sym e) in
+    record { there = w .there; reached = ap placeOf (sym (w .read)) }
+
+pub judged : {A : Type 0} (k at : ℕ) (s : List ℕ) (after : ℕ) (f : List ℕ → Item A) → Past k at s after → whole k at s f ≡ f (take k (drop at s))
+judged k at s after f p = whole-is k at s f (p .there)
+
+pub whole-none : {A : Type 0} (k at : ℕ) (s : List ℕ) (f : List ℕ → Item A) → not 2 at ≡ whole k at s (past k at) → not 2 at ≡ whole k at s f
+whole-none k at s f e =
+    by-test (ltb (length s) (at + k))
+    (λ less. ap (λ b. pick b (not 2 at) (f (take k (drop at s)))) (sym less))
+    (λ more. absurd (unread 2 at tt (at + k) (e ∙ ap (λ b. pick b (not 2 at) (is tt (at + k))) more)))
+
+-- one byte that was read
+pub record Read (at : ℕ) (s : List ℕ) (x after : ℕ) : Type 0 where
+  pub there : at < length s
+  pub reached : after ≡ at + 1
+  pub is-byte : x ≡ getD s at 0
+
+valueOf : ℕ → Item ℕ → ℕ
+valueOf d (is a at) = a
+valueOf d (not number place) = d
+
+pub read-byte : (at : ℕ) (s : List ℕ) (x after : ℕ) → is x after ≡ byte at s (plainIn at) → Read at s x after
+unfolding placeOf valueOf
+read-byte at s x after e =
+    let w = whole-read 1 at s (λ b. plainIn at (getD b 0 0)) x after (sym e) in
+    record {
+      there = omega (arith, w .there);
+      reached = ap placeOf (sym (w .read));
+      is-byte = sym (ap (valueOf 0) (w .read)) ∙ first at s;
+    }
+
+pub judged-byte : {A : Type 0} (at : ℕ) (s : List ℕ) (x after : ℕ) (f : ℕ → Item A) → Read at s x after → byte at s f ≡ f x
+judged-byte at s x after f r = byte-is at s f (r .there) ∙ ap f (sym (r .is-byte))
+
+pub byte-none : {A : Type 0} (at : ℕ) (s : List ℕ) (f : ℕ → Item A) → not 2 at ≡ byte at s (plainIn at) → not 2 at ≡ byte at s f
+byte-none at s f e =
+    by-test (ltb (length s) (at + 1))
+    (λ less. ap (λ b. pick b (not 2 at) (f (getD (take 1 (drop at s)) 0 0))) (sym less))
+    (λ more. absurd (unread 2 at (getD (take 1 (drop at s)) 0 0) (at + 1) (e ∙ ap (λ b. pick b (not 2 at) (plainIn at (getD (take 1 (drop at s)) 0 0))) more)))
+
+-- DC
+module _ (at : ℕ) (s : List ℕ) (x after : ℕ) (b : Read at s x after) where
+  pub mark-is : x ≡ 0xDC → is tt after ≡ mark at s
+  mark-is d =
+      let read = judged-byte at s x after (markIn at) b in
+      ap (is tt) (b .reached) ∙ sym (ap (λ t. pick t (is tt (at + 1)) (not 3 at)) (eq-eqb x 0xDC d)) ∙ sym read
+
+  pub mark-wrong : (x ≡ 0xDC → ⊥) → not 3 at ≡ mark at s
+  mark-wrong d =
+      let read = judged-byte at s x after (markIn at) b in
+      sym (ap (λ t. pick t (is tt (at + 1)) (not 3 at)) (ne-eqb x 0xDC d)) ∙ sym read
+
+  -- the version
+  pub version-three : x ≡ 0x02 → is 3 after ≡ through edition (version at s)
+  version-three d =
+      let read = judged-byte at s x after (versionIn at) b in
+      ap (is 3) (b .reached) ∙ ap (through edition) (sym (ap (λ t. pick t (is three (at + 1)) (pick (eqb x 0x03) (is four (at + 1)) (not 4 at))) (eq-eqb x 0x02 d)) ∙ sym read)
+
+  pub version-four : x ≡ 0x03 → is 4 after ≡ through edition (version at s)
+  version-four d =
+      let read = judged-byte at s x after (versionIn at) b in
+      let other : eqb x 0x02 ≡ false = ne-eqb x 0x02 (λ two. omega arith) in
+      let given : versionIn at x ≡ is four (at + 1) = rw (other, eq-eqb x 0x03 d) refl in
+      ap (is 4) (b .reached) ∙ ap (through edition) (sym given ∙ sym read)
+
+  pub version-wrong : (x ≡ 0x02 → ⊥) → (x ≡ 0x03 → ⊥) → not 4 at ≡ through edition (version at s)
+  version-wrong d g =
+      let read = judged-byte at s x after (versionIn at) b in
+      let given : versionIn at x ≡ not 4 at = rw (ne-eqb x 0x02 d, ne-eqb x 0x03 g) refl in
+      ap (through edition) (sym given ∙ sym read)
+
+  -- definition reference and category
+  pub last-is : 0 < x → x ≤ 254 → is x after ≡ last at s
+  last-is low high =
+      let read = judged-byte at s x after (lastIn at) b in
+      let given : lastIn at x ≡ is x (at + 1) = rw (le-leb 1 x low, le-leb x 254 high) refl in
+      ap (is x) (b .reached) ∙ sym given ∙ sym read
+
+  pub last-low : x ≡ 0 → not 7 at ≡ last at s
+  last-low low =
+      let read = judged-byte at s x after (lastIn at) b in
+      let given : lastIn at x ≡ not 7 at = rw (lt-leb 1 x (omega arith)) refl in
+      sym given ∙ sym read
+
+  pub last-high : 254 < x → not 7 at ≡ last at s
+  last-high high =
+      let read = judged-byte at s x after (lastIn at) b in
+      let given : lastIn at x ≡ not 7 at = rw (le-leb 1 x (omega arith), lt-leb x 254 high) refl in
+      sym given ∙ sym read
+
+-- a date: the number in its three bytes
+three-bytes : (at : ℕ) (s : List ℕ) → val (take 3 (drop at s)) 3 ≡ val (getD s at 0 ∷ getD s (at + 1) 0 ∷ getD s (at + 2) 0 ∷ []) 3
+unfolding val
+three-bytes at s =
+    let byte-at : (i : ℕ) → i < 3 → getD (take 3 (drop at s)) i 0 ≡ getD s (at + i) 0 = λ i h. getD-take 3 (drop at s) i 0 h ∙ getD-drop at s i 0 in
+    rw (byte-at 0 (omega arith), byte-at 1 (omega arith), byte-at 2 (omega arith), add-zero at) refl
+
+module _ (at : ℕ) (s : List ℕ) (after : ℕ) (p : Past 3 at s after) (d : Date) (is-date : dateOf (val (getD s at 0 ∷ getD s (at + 1) 0 ∷ getD s (at + 2) 0 ∷ []) 3) ≡ d) where
+  date-read : date at s ≡ dateIn at d
+  date-read =
+      judged 3 at s after (λ bytes. dateIn at (dateOf (val bytes 3))) p ∙ ap (λ n. dateIn at (dateOf n)) (three-bytes at s) ∙ ap (dateIn at) is-date
+
+  pub date-is : isDay d ≡ true → is d after ≡ date at s
+  date-is h =
+      ap (is d) (p .reached) ∙ sym (ap (λ t. pick t (is d (at + 3)) (not 6 at)) h) ∙ sym date-read
+
+  pub date-wrong : isDay d ≡ false → not 6 at ≡ date at s
+  date-wrong h = sym (ap (λ t. pick t (is d (at + 3)) (not 6 at)) h) ∙ sym date-read
+
+-- a DER length, where the place is past the end
+pub der-past : (at : ℕ) (s : List ℕ) → length s < at → not 2 at ≡ derLength at s
+unfolding readLength
+der-past at s h = ap (λ t. derOf at (readLength t)) (sym (drop-of-length-le s {i = at} (omega arith)))
+
+-- what a date's number answers tells whether there is such a day
+chosen : Bool → ℕ → Given Date
+chosen b n = pick b (given (dateOf n)) (refusal no-date 6)
+
+pub taken-day : (n : ℕ) (d : Date) → given d ≡ fromNumber n → (dateOf n ≡ d) × (isDay d ≡ true)
+unfolding fromNumber chosen
+taken-day n d e =
+    by-test (isDay (dateOf n))
+    (λ h. let same : dateOf n ≡ d = sym (ap (λ g. g .value) (e ∙ ap (λ b. chosen b n) h)) in (same, subst (λ x. isDay x ≡ true) same h))
+    (λ h. let z : _≡_ {A = ℕ} 0 6 = ap (λ g. g .number) (e ∙ ap (λ b. chosen b n) h) in absurd (omega arith))
+
+pub taken-none : (n : ℕ) → refusal no-date 6 ≡ fromNumber n → isDay (dateOf n) ≡ false
+unfolding fromNumber chosen
+taken-none n e =
+    by-test (isDay (dateOf n))
+    (λ h. let z : _≡_ {A = ℕ} 6 0 = ap (λ g. g .number) (e ∙ ap (λ b. chosen b n) h) in absurd (omega arith))
+    (λ h. h)

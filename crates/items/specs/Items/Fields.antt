@@ -1,0 +1,185 @@
+-- Country, signer and reference against the grammar: what is legal passes the tests, and its published form is read as it.
+-- Assumes nothing.
+use mathlib.Core.Path.{_≡_, refl, ap, sym, subst, _∙_}
+use mathlib.Core.Logic.{_⊎_, ⊎-elim}
+use mathlib.Core.Bool.{Bool, true}
+use Prim.Native.Nat.{ℕ, _+_, _-_, _*_, _/_, _%_, _≤_, _<_}
+use native.Mathlib.Omega.{arith}
+use borrow.Author.Tests.{lt-ltb, ne-eqb, ltb-true, ltb-false}
+use mathlib.Core.List.{List, [], _∷_, _++_, map, append-assoc}
+use lib.Dec.{ltb, eqb}
+use lib.ListN.{length, take, drop, getD, length-append}
+use lib.Seq.{take-at, drop-at}
+use Rattle.format.specs.Choice.{pick}
+use Rattle.format.specs.Choice.Laws.{by-test}
+use Rattle.format.specs.Table.{both, either}
+use Rattle.format.specs.Bytes.{All}
+use Rattle.format.specs.Bytes.Laws.{all-append}
+use Rattle.c40.specs.Chart.{InChart}
+use Rattle.c40.specs.Text.{TextOf, width, publish as c40}
+use Rattle.c40.specs.Text.Laws.{length-publish as length-c40}
+use Rattle.dates.specs.Days.{within}
+use Rattle.grammar.specs.Content.{Version, three, four}
+use Rattle.grammar.specs.Publish.{carried, hexDigit, hexDigits}
+use Rattle.grammar.specs.Publish as form
+use Rattle.grammar.specs.Legal.{Letter, LetterOrDigit, Filler, Country, Signer, ReferenceCharacter}
+use Rattle.grammar.specs.Parts.{country-text, signer-text, reference-text, Names as LegalNames, six, six-text, four-form}
+use Rattle.items.specs.Items.{is, next, isLetter, isDigit, isReference, all, isCountry, isSigner, hexValue, field, shown, country, nine, lengthIn, isSix, named, after, names}
+use Rattle.items.specs.Items.Laws.{within-true, within-below, within-above, field-there}
+
+-- letters and digits pass their tests
+pub letter : (c : ℕ) → Letter c → isLetter c ≡ true
+letter c l = within-true 65 90 c (l .0) (l .1)
+
+pub reference-passes : (c : ℕ) → LetterOrDigit c → isReference c ≡ true
+reference-passes c e =
+    ⊎-elim
+    (λ l. ap (λ b. either b (isDigit c)) (letter c l))
+    (λ d. ap (λ b. either b (isDigit c)) (within-below 65 90 c (omega (arith, d .1))) ∙ within-true 48 57 c (d .0) (d .1))
+    e
+
+pub all-pass : (P : ℕ → Type 0) (test : ℕ → Bool) → ((c : ℕ) → P c → test c ≡ true) → (t : List ℕ) → All P t → all test t ≡ true
+all-pass P test f [] a = refl
+all-pass P test f (c ∷ t) a = ap (λ b. both b (all test t)) (f c (a .0)) ∙ all-pass P test f t (a .1)
+
+-- a letter is carried as it is and a filler as a space, and back
+pub letter-carried : (c : ℕ) → Letter c → carried c ≡ c
+letter-carried c l = ap (λ b. pick b 32 c) (ne-eqb c 60 (λ e. omega (arith, l .0)))
+
+pub letter-shown : (c : ℕ) → Letter c → shown c ≡ c
+letter-shown c l = ap (λ b. pick b 60 c) (ne-eqb c 32 (λ e. omega (arith, l .0)))
+
+shown-carried : (c : ℕ) → Letter c ⊎ Filler c → shown (carried c) ≡ c
+shown-carried c e =
+    ⊎-elim (λ l. ap shown (letter-carried c l) ∙ letter-shown c l) (λ f. subst (λ x. shown (carried x) ≡ x) (sym f) refl) e
+
+all-shown : (t : List ℕ) → All (λ c. Letter c ⊎ Filler c) t → map shown (map carried t) ≡ t
+all-shown [] a = refl
+all-shown (c ∷ t) a = ap (λ x. x ∷ map shown (map carried t)) (shown-carried c (a .0)) ∙ ap (λ u. c ∷ u) (all-shown t (a .1))
+
+-- the test of a country, by its three characters
+abbrev third-in : ℕ → Bool
+third-in c = either (isLetter c) (eqb c 32)
+
+country-three : (a b c : ℕ) → Letter a → Letter b ⊎ Filler b → Letter c ⊎ Filler c → (Filler b → Filler c) → isCountry (carried a ∷ carried b ∷ carried c ∷ []) ≡ true
+country-three a b c la eb ec f =
+    ap (λ x. both x (rest (carried b) (carried c))) (ap isLetter (letter-carried a la) ∙ letter a la)
+    ∙ ⊎-elim
+    (λ lb. ap (λ x. rest x (carried c)) (letter-carried b lb) ∙ ap (λ x. either (both x (third-in (carried c))) (both (eqb b 32) (eqb (carried c) 32))) (letter b lb)
+    ∙ ap (λ x. either x (both (eqb b 32) (eqb (carried c) 32))) (third ec))
+    (λ fb. subst (λ x. rest (carried x) (carried c) ≡ true) (sym fb) (subst (λ x. rest 32 (carried x) ≡ true) (sym (f fb)) refl))
+    eb
+  where
+    rest : ℕ → ℕ → Bool
+    rest x y = either (both (isLetter x) (third-in y)) (both (eqb x 32) (eqb y 32))
+
+    third : Letter c ⊎ Filler c → third-in (carried c) ≡ true
+    third e = ⊎-elim (λ l. ap third-in (letter-carried c l) ∙ ap (λ x. either x (eqb c 32)) (letter c l)) (λ g. subst (λ x. third-in (carried x) ≡ true) (sym g) refl) e
+
+country-passes : (t : List ℕ) → Country t → isCountry (map carried t) ≡ true
+country-passes [] l = let e = l .size in absurd (omega arith)
+country-passes (a ∷ []) l = let e = l .size in absurd (omega arith)
+country-passes (a ∷ b ∷ []) l = let e = l .size in absurd (omega arith)
+country-passes (a ∷ b ∷ c ∷ []) l = country-three a b c (l .first) (l .letters .1 .0) (l .letters .1 .1 .0) (l .filled 1 (omega arith))
+country-passes (a ∷ b ∷ c ∷ d ∷ t) l = let e = l .size in absurd (omega arith)
+
+pub country-there : (p t rest : List ℕ) → Country t → country (length p) (p ++ (c40 (map carried t) ++ rest)) ≡ is t (length p + 2)
+country-there p t rest l =
+    ap (λ i. next i (λ t at. is (map shown t) at)) (field-there 3 isCountry p (map carried t) rest (country-text t l) (omega arith) (country-passes t l))
+    ∙ ap (λ u. is u (length p + 2)) (all-shown t (l .letters))
+
+-- a signer passes its test
+signer-passes : (t : List ℕ) → Signer t → isSigner t ≡ true
+signer-passes [] l = let e = l .size in absurd (omega arith)
+signer-passes (a ∷ []) l = let e = l .size in absurd (omega arith)
+signer-passes (a ∷ b ∷ []) l = let e = l .size in absurd (omega arith)
+signer-passes (a ∷ b ∷ c ∷ []) l = let e = l .size in absurd (omega arith)
+signer-passes (a ∷ b ∷ c ∷ d ∷ []) l = rw (letter a (l .first), letter b (l .second), reference-passes c (l .third), reference-passes d (l .fourth)) refl
+signer-passes (a ∷ b ∷ c ∷ d ∷ e ∷ t) l = let f = l .size in absurd (omega arith)
+
+-- the two digits of a length give it
+digit-back : (n : ℕ) → n < 16 → hexValue (hexDigit n) ≡ n
+digit-back n h =
+    by-test (ltb n 10)
+    (λ e.
+    let low = ltb-true n 10 e in
+    ap (λ b. hexValue (pick b (48 + n) (55 + n))) e
+    ∙ ap (λ b. pick b (48 + n - 48) (pick (within 65 70 (48 + n)) (48 + n - 55) 16)) (within-true 48 57 (48 + n) (omega arith) (omega arith))
+    ∙ omega arith)
+    (λ e.
+    let high = ltb-false n 10 e in
+    ap (λ b. hexValue (pick b (48 + n) (55 + n))) e
+    ∙ ap (λ b. pick b (55 + n - 48) (pick (within 65 70 (55 + n)) (55 + n - 55) 16)) (within-above 48 57 (55 + n) (omega arith) (omega arith))
+    ∙ ap (λ b. pick b (55 + n - 55) 16) (within-true 65 70 (55 + n) (omega arith) (omega arith))
+    ∙ omega arith)
+
+-- version 3: nine characters
+pub names-three-there : (p s r rest : List ℕ) → LegalNames three (s, r) → names three (length p) (p ++ (c40 (s ++ r) ++ rest)) ≡ is (record { signer = s; reference = r }) (length p + 6)
+names-three-there p s r rest l =
+    let ss = signer-text s (l .signer) in
+    let text : TextOf 9 (s ++ r) = (length-append s r ∙ omega (arith, ss .0, l .size), all-append InChart s r (ss .1) (reference-text r (l .reference))) in
+    let passes : nine (s ++ r) ≡ true =
+    ap (λ u. both (isSigner u) (all isReference (drop 4 (s ++ r)))) (take-at s r 4 (ss .0)) ∙ ap (λ b. both b (all isReference (drop 4 (s ++ r)))) (signer-passes s (l .signer))
+    ∙ ap (all isReference) (drop-at s r 4 (ss .0)) ∙ all-pass ReferenceCharacter isReference reference-passes r (l .reference) in
+    ap (λ i. next i (λ t at. is (record { signer = take 4 t; reference = drop 4 t }) at)) (field-there 9 nine p (s ++ r) rest text (omega arith) passes)
+    ∙ ap (λ u. is (record { signer = u; reference = drop 4 (s ++ r) }) (length p + 6)) (take-at s r 4 (ss .0))
+    ∙ ap (λ u. is (record { signer = s; reference = u }) (length p + 6)) (drop-at s r 4 (ss .0))
+
+-- version 4: the first six characters, by the signer's four
+six-length : (s : List ℕ) (n : ℕ) → length s ≡ 4 → n ≤ 255 → lengthIn (s ++ hexDigits n) ≡ n
+six-length [] n e h = absurd (omega arith)
+six-length (a ∷ []) n e h = absurd (omega arith)
+six-length (a ∷ b ∷ []) n e h = absurd (omega arith)
+six-length (a ∷ b ∷ c ∷ []) n e h = absurd (omega arith)
+six-length (a ∷ b ∷ c ∷ d ∷ []) n e h =
+    ap (λ x. x * 16 + hexValue (hexDigit (n % 16))) (digit-back (n / 16) (omega arith)) ∙ ap (λ x. n / 16 * 16 + x) (digit-back (n % 16) (omega arith)) ∙ omega arith
+six-length (a ∷ b ∷ c ∷ d ∷ x ∷ t) n e h = absurd (omega arith)
+
+six-digits : (s : List ℕ) (n : ℕ) → length s ≡ 4 → n ≤ 255 → both (ltb (hexValue (getD (s ++ hexDigits n) 4 0)) 16) (ltb (hexValue (getD (s ++ hexDigits n) 5 0)) 16) ≡ true
+six-digits [] n e h = absurd (omega arith)
+six-digits (a ∷ []) n e h = absurd (omega arith)
+six-digits (a ∷ b ∷ []) n e h = absurd (omega arith)
+six-digits (a ∷ b ∷ c ∷ []) n e h = absurd (omega arith)
+six-digits (a ∷ b ∷ c ∷ d ∷ []) n e h =
+    ap (λ x. both (ltb x 16) (ltb (hexValue (hexDigit (n % 16))) 16)) (digit-back (n / 16) (omega arith))
+    ∙ ap (λ b. both b (ltb (hexValue (hexDigit (n % 16))) 16)) (lt-ltb (n / 16) 16 (omega arith))
+    ∙ ap (λ x. ltb x 16) (digit-back (n % 16) (omega arith))
+    ∙ lt-ltb (n % 16) 16 (omega arith)
+six-digits (a ∷ b ∷ c ∷ d ∷ x ∷ t) n e h = absurd (omega arith)
+
+six-passes : (s : List ℕ) (n : ℕ) → Signer s → 1 ≤ n → n ≤ 255 → isSix (s ++ hexDigits n) ≡ true
+six-passes s n l some most =
+    let t = s ++ hexDigits n in
+    let rest = both (both (ltb (hexValue (getD t 4 0)) 16) (ltb (hexValue (getD t 5 0)) 16)) (ltb 0 (lengthIn t)) in
+    ap (λ u. both (isSigner u) rest) (take-at s (hexDigits n) 4 (l .size)) ∙ ap (λ b. both b rest) (signer-passes s l)
+    ∙ ap (λ b. both b (ltb 0 (lengthIn t))) (six-digits s n (l .size) most)
+    ∙ ap (λ k. ltb 0 k) (six-length s n (l .size) most)
+    ∙ lt-ltb 0 n (omega arith)
+
+pub names-four-there : (p s r rest : List ℕ) → LegalNames four (s, r) → names four (length p) (p ++ (form.names four s r ++ rest)) ≡ is (record { signer = s; reference = r }) (length p + length (form.names four s r))
+names-four-there p s r rest l =
+    let n = length r in
+    let x = six (s, r) in
+    let text = six-text (s, r) l in
+    let q = p ++ c40 x in
+    let parts : p ++ (form.names four s r ++ rest) ≡ p ++ (c40 x ++ (c40 r ++ rest)) = ap (λ z. p ++ (z ++ rest)) (four-form (s, r) l) ∙ ap (λ z. p ++ z) (append-assoc (c40 x) (c40 r) rest) in
+    let again : p ++ (c40 x ++ (c40 r ++ rest)) ≡ q ++ (c40 r ++ rest) = sym (append-assoc p (c40 x) (c40 r ++ rest)) in
+    let wide : length q ≡ length p + 4 = length-append p (c40 x) ∙ ap (λ k. length p + k) (length-c40 x ∙ ap width (text .0)) in
+    let all-wide : length p + 4 + width n ≡ length p + length (form.names four s r) = omega (arith, ap length (four-form (s, r) l), length-append (c40 x) (c40 r), length-c40 x, ap width (text .0), length-c40 r) in
+    let first = field-there 6 isSix p x (c40 r ++ rest) text (omega arith) (six-passes s n (l .signer) (l .size .0) (l .size .1)) in
+    let second : field n (all isReference) (length p + 4) (p ++ (c40 x ++ (c40 r ++ rest))) ≡ is r (length p + 4 + width n) =
+    ap (λ z. field n (all isReference) (length p + 4) z) again ∙ ap (λ k. field n (all isReference) k (q ++ (c40 r ++ rest))) (sym wide)
+    ∙ field-there n (all isReference) q r rest (refl, reference-text r (l .reference)) (omega (arith, l .size .0)) (all-pass ReferenceCharacter isReference reference-passes r (l .reference))
+    ∙ ap (λ k. is r (k + width n)) wide in
+    ap (names four (length p)) parts
+    ∙ ap (λ i. next i (after (p ++ (c40 x ++ (c40 r ++ rest))))) first
+    ∙ ap (λ k. next (field k (all isReference) (length p + 4) (p ++ (c40 x ++ (c40 r ++ rest)))) (named x)) (six-length s n (l .signer .size) (l .size .1))
+    ∙ ap (λ i. next i (named x)) second
+    ∙ ap (λ u. is (record { signer = u; reference = r }) (length p + 4 + width n)) (take-at s (hexDigits n) 4 (l .signer .size))
+    ∙ ap (λ k. is (record { signer = s; reference = r }) k) all-wide
+
+pub names-there : (v : Version) (p s r rest : List ℕ) → LegalNames v (s, r) → names v (length p) (p ++ (form.names v s r ++ rest)) ≡ is (record { signer = s; reference = r }) (length p + length (form.names v s r))
+names-there three p s r rest l =
+    let size : length (s ++ r) ≡ 9 = length-append s r ∙ omega (arith, l .signer .size, l .size) in
+    names-three-there p s r rest l ∙ ap (λ k. is (record { signer = s; reference = r }) (length p + k)) (sym (length-c40 (s ++ r) ∙ ap width size))
+names-there four p s r rest l = names-four-there p s r rest l

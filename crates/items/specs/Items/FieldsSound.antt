@@ -1,0 +1,252 @@
+-- Country, signer and reference, the other way: what is read is legal, and its published form stands there.
+-- Assumes nothing.
+use mathlib.Core.Path.{_≡_, refl, ap, sym, subst, _∙_}
+use mathlib.Core.Logic.{_⊎_, inl, inr, ⊎-elim}
+use mathlib.Core.Bool.{Bool, true, false}
+use Prim.Native.Nat.{ℕ, _+_, _-_, _*_, _/_, _%_, _≤_, _<_}
+use native.Mathlib.Omega.{arith}
+use borrow.Author.Tests.{lt-ltb, le-ltb, eqb-true, ltb-true}
+use mathlib.Core.List.{List, [], _∷_, _++_, map}
+use lib.Dec.{ltb, eqb}
+use lib.ListN.{length, take, drop, take-append-drop, length-drop}
+use lib.Seq.{length-take-le}
+use Rattle.format.specs.Choice.{pick}
+use Rattle.format.specs.Choice.Laws.{by-test}
+use Rattle.format.specs.Table.{both, either}
+use Rattle.format.specs.Bytes.{Bytes, All}
+use Rattle.format.specs.Bytes.Laws.{bytes-drop, bytes-take}
+use Rattle.c40.specs.Text.{TextOf, width, publish as c40}
+use Rattle.c40.specs.Decode.{Decoded, text, wrong, decode}
+use Rattle.c40.specs.Exact.{decodes-published}
+use Rattle.dates.specs.Days.{within}
+use Rattle.grammar.specs.Content.{Version, three, four}
+use Rattle.grammar.specs.Publish.{carried, hexDigit, hexDigits}
+use Rattle.grammar.specs.Publish as form
+use Rattle.grammar.specs.Legal.{Letter, LetterOrDigit, Filler, Country, Signer, ReferenceCharacter}
+use Rattle.grammar.specs.Parts.{Names as LegalNames, four-form}
+use Rattle.grammar.specs.Pins.{filled-three}
+use Rattle.items.specs.Items.{is, isLetter, isDigit, isReference, all, isCountry, isSigner, hexValue, exactly, fieldIn, field, shown, country, Names, nine, lengthIn, isSix, named, after, names}
+use Rattle.items.specs.Items.Laws.{whole-read}
+use Rattle.items.specs.Items.Fields.{letter-carried, letter-shown}
+use Rattle.items.specs.Items.Sound.{Stands, stands-append, steps, stands, taken-size, same-value, same-place, passed, not-true, within-both}
+
+pub both-true : (a b : Bool) → both a b ≡ true → (a ≡ true) × (b ≡ true)
+both-true true b e = (refl, e)
+both-true false b e = absurd (not-true e)
+
+either-true : (a b : Bool) → either a b ≡ true → (a ≡ true) ⊎ (b ≡ true)
+either-true true b e = inl refl
+either-true false b e = inr e
+
+-- text that was found is all that was decoded
+exactly-is : (k : ℕ) (d : Decoded) → 0 < length (exactly k d) → (d ≡ text (exactly k d)) × (length (exactly k d) ≡ k)
+exactly-is k (wrong at) h = absurd (omega arith)
+exactly-is k (text t) h =
+    by-test (eqb (length t) k)
+    (λ e. (sym (ap (λ b. text (pick b t [])) e), ap (λ b. length (pick b t [])) e ∙ eqb-true (length t) k e))
+    (λ e. absurd (no (subst (λ u. 0 < length u) (ap (λ b. pick b t []) e) h)))
+  where
+    no : 0 < 0 → ⊥
+    no h = omega arith
+
+pub record FieldRead (k : ℕ) (good : List ℕ → Bool) (at : ℕ) (s t : List ℕ) (after : ℕ) : Type 0 where
+  pub is-text : TextOf k t
+  pub passes : good t ≡ true
+  pub there : Stands (c40 t) at after s
+
+pub field-read : (k : ℕ) (good : List ℕ → Bool) (at : ℕ) (s t : List ℕ) (after : ℕ) → Bytes s → field k good at s ≡ is t after → FieldRead k good at s t after
+field-read k good at s t after bytes e =
+    let w = whole-read (width k) at s (λ b. fieldIn k good at (exactly k (decode 0 b))) t after e in
+    let b = take (width k) (drop at s) in
+    let u = exactly k (decode 0 b) in
+    let p = passed (both (ltb 0 (length u)) (good u)) (is u (at + width k)) 5 at t after (w .read) in
+    let q = both-true (ltb 0 (length u)) (good u) (p .0) in
+    let same = same-value u t (at + width k) after (p .1) in
+    let place = same-place u t (at + width k) after (p .1) in
+    let d = exactly-is k (decode 0 b) (ltb-true 0 (length u) (q .0)) in
+    let r = decodes-published b (bytes-take (width k) (drop at s) (bytes-drop at s bytes)) 0 u (d .0) in
+    let form-is : c40 t ≡ b = ap c40 (sym same) ∙ r .1 in
+    record {
+      is-text = subst (TextOf k) same (d .1, r .0);
+      passes = subst (λ z. good z ≡ true) same (q .1);
+      there = record {
+        form-there = stands (width k) at s (w .there) ∙ ap (λ z. z ++ drop (at + width k) s) (sym form-is) ∙ ap (λ n. c40 t ++ drop n s) place;
+        size = sym place ∙ ap (λ n. at + n) (sym (ap length form-is ∙ taken-size (width k) at s (w .there)));
+      };
+    }
+
+-- a country: letters, and spaces that are shown as fillers
+abbrev Carried : ℕ → Type 0
+Carried c = Letter c ⊎ (c ≡ 32)
+
+carried-shown : (c : ℕ) → Carried c → carried (shown c) ≡ c
+carried-shown c e = ⊎-elim (λ l. ap carried (letter-shown c l) ∙ letter-carried c l) (λ f. subst (λ x. carried (shown x) ≡ x) (sym f) refl) e
+
+shown-is : (c : ℕ) → Carried c → Letter (shown c) ⊎ Filler (shown c)
+shown-is c e = ⊎-elim (λ l. inl (subst Letter (sym (letter-shown c l)) l)) (λ f. inr (subst (λ x. shown x ≡ 60) (sym f) refl)) e
+
+letter-no-filler : (c : ℕ) → Letter c → Filler (shown c) → ⊥
+letter-no-filler c l f = let e = letter-shown c l in omega (arith, l .0)
+
+country-of : (a b c : ℕ) → Letter a → Carried b → Carried c → (Filler (shown b) → Filler (shown c)) → Country (map shown (a ∷ b ∷ c ∷ []))
+country-of a b c la eb ec f = record {
+  size = refl;
+  letters = (shown-is a (inl la), (shown-is b eb, (shown-is c ec, tt)));
+  first = subst Letter (sym (letter-shown a la)) la;
+  filled = filled-three (shown a) (shown b) (shown c) (λ g. absurd (letter-no-filler a la g)) f;
+}
+
+-- a text that passes, character by character
+pub record CountryOf (t : List ℕ) : Type 0 where
+  pub legal : Country (map shown t)
+  pub back : map carried (map shown t) ≡ t
+
+country-legal : (t : List ℕ) → length t ≡ 3 → isCountry t ≡ true → CountryOf t
+country-legal [] l e = absurd (omega arith)
+country-legal (a ∷ []) l e = absurd (omega arith)
+country-legal (a ∷ b ∷ []) l e = absurd (omega arith)
+country-legal (a ∷ b ∷ c ∷ d ∷ t) l e = absurd (omega arith)
+country-legal (a ∷ b ∷ c ∷ []) l e =
+    let p = both-true (isLetter a) (either (both (isLetter b) (either (isLetter c) (eqb c 32))) (both (eqb b 32) (eqb c 32))) e in
+    let la = within-both 65 90 a (p .0) in
+    ⊎-elim
+    (λ f.
+    let q = both-true (isLetter b) (either (isLetter c) (eqb c 32)) f in
+    let lb = within-both 65 90 b (q .0) in
+    let ec : Carried c = ⊎-elim (λ g. inl (within-both 65 90 c g)) (λ g. inr (eqb-true c 32 g)) (either-true (isLetter c) (eqb c 32) (q .1)) in
+    built a b c la (inl lb) ec (λ g. absurd (letter-no-filler b lb g)))
+    (λ f.
+    let q = both-true (eqb b 32) (eqb c 32) f in
+    let ec = eqb-true c 32 (q .1) in
+    built a b c la (inr (eqb-true b 32 (q .0))) (inr ec) (λ g. subst (λ x. shown x ≡ 60) (sym ec) refl))
+    (either-true (both (isLetter b) (either (isLetter c) (eqb c 32))) (both (eqb b 32) (eqb c 32)) (p .1))
+  where
+    built : (a b c : ℕ) → Letter a → Carried b → Carried c → (Filler (shown b) → Filler (shown c)) → CountryOf (a ∷ b ∷ c ∷ [])
+    built a b c la eb ec f = record {
+      legal = country-of a b c la eb ec f;
+      back = ap (λ x. x ∷ carried (shown b) ∷ carried (shown c) ∷ []) (carried-shown a (inl la)) ∙ ap (λ x. a ∷ x ∷ carried (shown c) ∷ []) (carried-shown b eb) ∙ ap (λ x. a ∷ b ∷ x ∷ []) (carried-shown c ec);
+    }
+
+pub country-read : (at : ℕ) (s t : List ℕ) (after : ℕ) → Bytes s → country at s ≡ is t after → Country t × Stands (c40 (map carried t)) at after s
+country-read at s t after bytes e =
+    let i = steps (field 3 isCountry at s) (λ t at. is (map shown t) at) t after e in
+    let f = field-read 3 isCountry at s (i .value) (i .at) bytes (i .read) in
+    let c = country-legal (i .value) (f .is-text .0) (f .passes) in
+    let same = same-value (map shown (i .value)) t (i .at) after (i .goes-on) in
+    let place = same-place (map shown (i .value)) t (i .at) after (i .goes-on) in
+    let form-is : c40 (i .value) ≡ c40 (map carried t) = ap c40 (sym (c .back) ∙ ap (map carried) same) in
+    (subst Country same (c .legal), subst (λ u. Stands u at after s) form-is (subst (λ k. Stands (c40 (i .value)) at k s) place (f .there)))
+
+-- signer and reference: what passes the tests is legal
+reference-of : (c : ℕ) → isReference c ≡ true → LetterOrDigit c
+reference-of c e = ⊎-elim (λ f. inl (within-both 65 90 c f)) (λ f. inr (within-both 48 57 c f)) (either-true (isLetter c) (isDigit c) e)
+
+all-of : (P : ℕ → Type 0) (test : ℕ → Bool) → ((c : ℕ) → test c ≡ true → P c) → (t : List ℕ) → all test t ≡ true → All P t
+all-of P test f [] e = tt
+all-of P test f (c ∷ t) e = let p = both-true (test c) (all test t) e in (f c (p .0), all-of P test f t (p .1))
+
+signer-of : (t : List ℕ) → length t ≡ 4 → isSigner t ≡ true → Signer t
+signer-of [] l e = absurd (omega arith)
+signer-of (a ∷ []) l e = absurd (omega arith)
+signer-of (a ∷ b ∷ []) l e = absurd (omega arith)
+signer-of (a ∷ b ∷ c ∷ []) l e = absurd (omega arith)
+signer-of (a ∷ b ∷ c ∷ d ∷ x ∷ t) l e = absurd (omega arith)
+signer-of (a ∷ b ∷ c ∷ d ∷ []) l e =
+    let p = both-true (all isLetter (a ∷ b ∷ [])) (all isReference (c ∷ d ∷ [])) e in
+    let f = all-of Letter isLetter (λ c. within-both 65 90 c) (a ∷ b ∷ []) (p .0) in
+    let g = all-of LetterOrDigit isReference reference-of (c ∷ d ∷ []) (p .1) in
+    record { size = refl; first = f .0; second = f .1 .0; third = g .0; fourth = g .1 .0 }
+
+-- version 3: nine characters
+pub names-three-read : (at : ℕ) (s : List ℕ) (n : Names) (after : ℕ) → Bytes s → names three at s ≡ is n after → LegalNames three (n .signer, n .reference) × Stands (c40 (n .signer ++ n .reference)) at after s
+names-three-read at s n after bytes e =
+    let i = steps (field 9 nine at s) (λ t at. is (record { signer = take 4 t; reference = drop 4 t }) at) n after e in
+    let t = i .value in
+    let f = field-read 9 nine at s t (i .at) bytes (i .read) in
+    let p = both-true (isSigner (take 4 t)) (all isReference (drop 4 t)) (f .passes) in
+    let m : Names = record { signer = take 4 t; reference = drop 4 t } in
+    let same = same-value m n (i .at) after (i .goes-on) in
+    let place = same-place m n (i .at) after (i .goes-on) in
+    let size : length t ≡ 9 = f .is-text .0 in
+    let legal : LegalNames three (take 4 t, drop 4 t) = record {
+      signer = signer-of (take 4 t) (length-take-le 4 t (omega arith)) (p .0);
+      reference = all-of ReferenceCharacter isReference reference-of (drop 4 t) (p .1);
+      size = length-drop 4 t ∙ omega arith;
+    } in
+    let there : Stands (c40 (take 4 t ++ drop 4 t)) at after s = subst (λ u. Stands (c40 u) at after s) (sym (take-append-drop 4 t)) (subst (λ k. Stands (c40 t) at k s) place (f .there)) in
+    (subst (λ (z : Names). LegalNames three (z .signer, z .reference)) same legal, subst (λ (z : Names). Stands (c40 (z .signer ++ z .reference)) at after s) same there)
+
+-- the digits of L, and back
+hex-back : (c : ℕ) → hexValue c < 16 → hexDigit (hexValue c) ≡ c
+hex-back c h =
+    by-test (isDigit c)
+    (λ e.
+    let w = within-both 48 57 c e in
+    let v : hexValue c ≡ c - 48 = ap (λ b. pick b (c - 48) (pick (within 65 70 c) (c - 55) 16)) e in
+    ap hexDigit v ∙ ap (λ b. pick b (48 + (c - 48)) (55 + (c - 48))) (lt-ltb (c - 48) 10 (omega arith)) ∙ omega arith)
+    (λ e.
+    by-test (within 65 70 c)
+    (λ f.
+    let w = within-both 65 70 c f in
+    let v : hexValue c ≡ c - 55 = ap (λ b. pick b (c - 48) (pick (within 65 70 c) (c - 55) 16)) e ∙ ap (λ b. pick b (c - 55) 16) f in
+    ap hexDigit v ∙ ap (λ b. pick b (48 + (c - 55)) (55 + (c - 55))) (le-ltb (c - 55) 10 (omega arith)) ∙ omega arith)
+    (λ f.
+    let v : hexValue c ≡ 16 = ap (λ b. pick b (c - 48) (pick (within 65 70 c) (c - 55) 16)) e ∙ ap (λ b. pick b (c - 55) 16) f in
+    absurd (omega arith)))
+
+record Six (t : List ℕ) : Type 0 where
+  signer : Signer (take 4 t)
+  some : 1 ≤ lengthIn t
+  most : lengthIn t ≤ 255
+  back : take 4 t ++ hexDigits (lengthIn t) ≡ t
+
+six-of : (t : List ℕ) → length t ≡ 6 → isSix t ≡ true → Six t
+six-of [] l e = absurd (omega arith)
+six-of (a ∷ []) l e = absurd (omega arith)
+six-of (a ∷ b ∷ []) l e = absurd (omega arith)
+six-of (a ∷ b ∷ c ∷ []) l e = absurd (omega arith)
+six-of (a ∷ b ∷ c ∷ d ∷ []) l e = absurd (omega arith)
+six-of (a ∷ b ∷ c ∷ d ∷ x ∷ []) l e = absurd (omega arith)
+six-of (a ∷ b ∷ c ∷ d ∷ x ∷ y ∷ z ∷ t) l e = absurd (omega arith)
+six-of (a ∷ b ∷ c ∷ d ∷ x ∷ y ∷ []) l e =
+    let t : List ℕ = a ∷ b ∷ c ∷ d ∷ x ∷ y ∷ [] in
+    let n = hexValue x * 16 + hexValue y in
+    let p = both-true (isSigner (a ∷ b ∷ c ∷ d ∷ [])) (both (both (ltb (hexValue x) 16) (ltb (hexValue y) 16)) (ltb 0 n)) e in
+    let q = both-true (both (ltb (hexValue x) 16) (ltb (hexValue y) 16)) (ltb 0 n) (p .1) in
+    let r = both-true (ltb (hexValue x) 16) (ltb (hexValue y) 16) (q .0) in
+    let hx = ltb-true (hexValue x) 16 (r .0) in
+    let hy = ltb-true (hexValue y) 16 (r .1) in
+    let high : n / 16 ≡ hexValue x = omega arith in
+    let low : n % 16 ≡ hexValue y = omega arith in
+    record {
+      signer = signer-of (a ∷ b ∷ c ∷ d ∷ []) refl (p .0);
+      some = omega (arith, ltb-true 0 n (q .1));
+      most = omega arith;
+      back = ap (λ u. a ∷ b ∷ c ∷ d ∷ u ∷ hexDigit (n % 16) ∷ []) (ap hexDigit high ∙ hex-back x hx) ∙ ap (λ u. a ∷ b ∷ c ∷ d ∷ x ∷ u ∷ []) (ap hexDigit low ∙ hex-back y hy);
+    }
+
+pub names-four-read : (at : ℕ) (s : List ℕ) (n : Names) (end : ℕ) → Bytes s → names four at s ≡ is n end → LegalNames four (n .signer, n .reference) × Stands (form.names four (n .signer) (n .reference)) at end s
+names-four-read at s n end bytes e =
+    let i = steps (field 6 isSix at s) (after s) n end e in
+    let x = i .value in
+    let f = field-read 6 isSix at s x (i .at) bytes (i .read) in
+    let j = steps (field (lengthIn x) (all isReference) (i .at) s) (named x) n end (i .goes-on) in
+    let r = j .value in
+    let g = field-read (lengthIn x) (all isReference) (i .at) s r (j .at) bytes (j .read) in
+    let h = six-of x (f .is-text .0) (f .passes) in
+    let m : Names = record { signer = take 4 x; reference = r } in
+    let same = same-value m n (j .at) end (j .goes-on) in
+    let place = same-place m n (j .at) end (j .goes-on) in
+    let size : length r ≡ lengthIn x = g .is-text .0 in
+    let legal : LegalNames four (take 4 x, r) = record {
+      signer = h .signer;
+      reference = all-of ReferenceCharacter isReference reference-of r (g .passes);
+      size = (omega (arith, h .some), omega (arith, h .most));
+    } in
+    let both-there : Stands (c40 x ++ c40 r) at end s = subst (λ k. Stands (c40 x ++ c40 r) at k s) place (stands-append (c40 x) (c40 r) at (i .at) (j .at) s (f .there) (g .there)) in
+    let form-is : c40 x ++ c40 r ≡ form.names four (take 4 x) r = ap (λ u. c40 u ++ c40 r) (sym (ap (λ k. take 4 x ++ hexDigits k) size ∙ h .back)) ∙ sym (four-form (take 4 x, r) legal) in
+    (subst (λ (z : Names). LegalNames four (z .signer, z .reference)) same legal, subst (λ (z : Names). Stands (form.names four (z .signer) (z .reference)) at end s) same (subst (λ u. Stands u at end s) form-is both-there))
+
+pub names-read : (v : Version) (at : ℕ) (s : List ℕ) (n : Names) (end : ℕ) → Bytes s → names v at s ≡ is n end → LegalNames v (n .signer, n .reference) × Stands (form.names v (n .signer) (n .reference)) at end s
+names-read three at s n end bytes e = names-three-read at s n end bytes e
+names-read four at s n end bytes e = names-four-read at s n end bytes e

@@ -1,0 +1,173 @@
+-- Each item against the grammar, the other way: what is read as a value is the published form of that legal value, followed by the rest.
+-- Assumes nothing.
+use mathlib.Core.Path.{_≡_, refl, ap, sym, subst, _∙_}
+use mathlib.Core.Bool.{Bool, true, false}
+use Prim.Native.Nat.{ℕ, _+_, _≤_, _<_}
+use native.Mathlib.Omega.{arith}
+use borrow.Author.Tests.{leb-true, eqb-true}
+use mathlib.Core.List.{List, [], _∷_, _++_, append-assoc}
+use lib.Dec.{leb, eqb}
+use lib.ListN.{length, take, drop, getD, take-append-drop, length-drop, length-append}
+use lib.Seq.{length-take-le, drop-drop, take-all}
+use Rattle.format.specs.Choice.{pick}
+use Rattle.format.specs.Choice.Laws.{by-test}
+use Rattle.format.specs.Bytes.{Bytes}
+use Rattle.format.specs.Bytes.Laws.{bytes-drop, bytes-take}
+use Rattle.format.specs.Numbers.{val}
+use Rattle.format.specs.Answers.{given}
+use Rattle.format.specs.Table.{both}
+use Rattle.dates.specs.declared.Date.{Date}
+use Rattle.dates.specs.Days.{within, isDay, Day, dateOf, publish}
+use Rattle.dates.specs.Days.Laws.{length-publish}
+use Rattle.dates.specs.Exact.{from-day, taken-published}
+use Rattle.der.specs.Length.{Sized, form, readLength}
+use Rattle.der.specs.Length.Exact.{read-is-form}
+use Rattle.der.specs.declared.Length.{Length}
+use Rattle.der.specs.declared.Length.the-variants.{Is, Cut, Malformed}
+use Rattle.grammar.specs.Legal.{LastByte, ValueSize}
+use Rattle.grammar.specs.Content.{Version, three, four}
+use Rattle.grammar.specs.Publish.{versionByte, lengthOf}
+use Rattle.items.specs.Items.{Item, is, not, next, byte, markIn, versionIn, lastIn, dateIn, plainIn, mark, version, last, date, derOf, derLength, featureLength}
+use Rattle.items.specs.Items.Laws.{unread, whole-read}
+
+abbrev valueIn : {A : Type 0} → A → Item A → A
+valueIn a (is b at) = b
+valueIn a (not number place) = a
+
+abbrev placeIn : {A : Type 0} → Item A → ℕ
+placeIn (is a at) = at
+placeIn (not number place) = 0
+
+pub not-true : false ≡ true → ⊥
+not-true e = subst (λ b. pick b ⊥ Unit) e tt
+
+-- what stands at a place: these bytes, and then the rest
+pub record Stands (form : List ℕ) (at after : ℕ) (s : List ℕ) : Type 0 where
+  pub form-there : drop at s ≡ form ++ drop after s
+  pub size : after ≡ at + length form
+
+pub stands-append : (a b : List ℕ) (at mid after : ℕ) (s : List ℕ) → Stands a at mid s → Stands b mid after s → Stands (a ++ b) at after s
+stands-append a b at mid after s f g = record {
+  form-there = f .form-there ∙ ap (λ u. a ++ u) (g .form-there) ∙ sym (append-assoc a b (drop after s));
+  size = omega (arith, f .size, g .size, length-append a b);
+}
+
+-- the parts of a reading in steps
+pub record Step {A B : Type 0} (i : Item A) (rest : A → ℕ → Item B) (b : B) (after : ℕ) : Type 0 where
+  pub value : A
+  pub at : ℕ
+  pub read : i ≡ is value at
+  pub goes-on : rest value at ≡ is b after
+
+pub steps : {A B : Type 0} (i : Item A) (rest : A → ℕ → Item B) (b : B) (after : ℕ) → next i rest ≡ is b after → Step i rest b after
+steps (is a at) rest b after e = record { value = a; at = at; read = refl; goes-on = e }
+steps (not number place) rest b after e = absurd (unread number place b after e)
+
+-- k bytes that were read stand there
+pub stands : (k at : ℕ) (s : List ℕ) → at + k ≤ length s → drop at s ≡ take k (drop at s) ++ drop (at + k) s
+stands k at s h = sym (take-append-drop k (drop at s)) ∙ ap (λ u. take k (drop at s) ++ u) (drop-drop k at s)
+
+pub taken-size : (k at : ℕ) (s : List ℕ) → at + k ≤ length s → length (take k (drop at s)) ≡ k
+taken-size k at s h = length-take-le k (drop at s) (omega (arith, length-drop at s))
+
+-- the value and place that were read
+pub same-value : {A : Type 0} (a b : A) (at after : ℕ) → is a at ≡ is b after → a ≡ b
+same-value a b at after e = ap (λ i. valueIn a i) e
+
+pub same-place : {A : Type 0} (a b : A) (at after : ℕ) → is a at ≡ is b after → at ≡ after
+same-place a b at after e = ap placeIn e
+
+-- one byte
+pub record OneByte {A : Type 0} (at : ℕ) (s : List ℕ) (f : ℕ → Item A) (a : A) (after : ℕ) : Type 0 where
+  pub x : ℕ
+  pub there : drop at s ≡ x ∷ drop (at + 1) s
+  pub read : f x ≡ is a after
+
+one : (s : List ℕ) → length s ≡ 1 → s ≡ getD s 0 0 ∷ []
+one [] e = absurd (omega arith)
+one (x ∷ []) e = refl
+one (x ∷ y ∷ s) e = absurd (omega arith)
+
+pub byte-read : {A : Type 0} (at : ℕ) (s : List ℕ) (f : ℕ → Item A) (a : A) (after : ℕ) → byte at s f ≡ is a after → OneByte at s f a after
+byte-read at s f a after e =
+    let w = whole-read 1 at s (λ b. f (getD b 0 0)) a after e in
+    let t = take 1 (drop at s) in
+    record { x = getD t 0 0; there = stands 1 at s (w .there) ∙ ap (λ u. u ++ drop (at + 1) s) (one t (taken-size 1 at s (w .there))); read = w .read }
+
+-- a test that a value passed
+pub passed : {A : Type 0} (test : Bool) (i : Item A) (number place : ℕ) (a : A) (after : ℕ) → pick test i (not number place) ≡ is a after → (test ≡ true) × (i ≡ is a after)
+passed true i number place a after e = (refl, e)
+passed false i number place a after e = absurd (unread number place a after e)
+
+pub mark-read : (at : ℕ) (s : List ℕ) (a : Unit) (after : ℕ) → mark at s ≡ is a after → Stands (0xDC ∷ []) at after s
+mark-read at s a after e =
+    let b = byte-read at s (markIn at) a after e in
+    let p = passed (eqb (b .x) 0xDC) (is tt (at + 1)) 3 at a after (b .read) in
+    let place = same-place tt a (at + 1) after (p .1) in
+    record { form-there = b .there ∙ ap (λ x. x ∷ drop (at + 1) s) (eqb-true (b .x) 0xDC (p .0)) ∙ ap (λ k. 0xDC ∷ drop k s) place; size = sym place }
+
+version-in : (at x : ℕ) (v : Version) (after : ℕ) → versionIn at x ≡ is v after → (x ≡ versionByte v) × (at + 1 ≡ after)
+version-in at x v after e =
+    by-test (eqb x 0x02)
+    (λ t.
+    let f : is three (at + 1) ≡ is v after = sym (ap (λ b. pick b (is three (at + 1)) (pick (eqb x 0x03) (is four (at + 1)) (not 4 at))) t) ∙ e in
+    (eqb-true x 0x02 t ∙ ap versionByte (same-value three v (at + 1) after f), same-place three v (at + 1) after f))
+    (λ t.
+    let f : pick (eqb x 0x03) (is four (at + 1)) (not 4 at) ≡ is v after = sym (ap (λ b. pick b (is three (at + 1)) (pick (eqb x 0x03) (is four (at + 1)) (not 4 at))) t) ∙ e in
+    let p = passed (eqb x 0x03) (is four (at + 1)) 4 at v after f in
+    (eqb-true x 0x03 (p .0) ∙ ap versionByte (same-value four v (at + 1) after (p .1)), same-place four v (at + 1) after (p .1)))
+
+pub version-read : (at : ℕ) (s : List ℕ) (v : Version) (after : ℕ) → version at s ≡ is v after → Stands (versionByte v ∷ []) at after s
+version-read at s v after e =
+    let b = byte-read at s (versionIn at) v after e in
+    let p = version-in at (b .x) v after (b .read) in
+    record { form-there = b .there ∙ ap (λ x. x ∷ drop (at + 1) s) (p .0) ∙ ap (λ k. versionByte v ∷ drop k s) (p .1); size = sym (p .1) }
+
+pub within-both : (low high n : ℕ) → within low high n ≡ true → (low ≤ n) × (n ≤ high)
+within-both low high n e =
+    by-test (leb low n)
+    (λ t. (leb-true low n t, leb-true n high (sym (ap (λ b. both b (leb n high)) t) ∙ e)))
+    (λ t. absurd (not-true (sym (ap (λ b. both b (leb n high)) t) ∙ e)))
+
+pub last-read : (at : ℕ) (s : List ℕ) (x : ℕ) (after : ℕ) → last at s ≡ is x after → LastByte x × Stands (x ∷ []) at after s
+last-read at s x after e =
+    let b = byte-read at s (lastIn at) x after e in
+    let p = passed (within 1 254 (b .x)) (is (b .x) (at + 1)) 7 at x after (b .read) in
+    let same = same-value (b .x) x (at + 1) after (p .1) in
+    let place = same-place (b .x) x (at + 1) after (p .1) in
+    (subst LastByte same (within-both 1 254 (b .x) (p .0)), record { form-there = b .there ∙ ap (λ y. y ∷ drop (at + 1) s) same ∙ ap (λ k. x ∷ drop k s) place; size = sym place })
+
+pub date-read : (at : ℕ) (s : List ℕ) (d : Date) (after : ℕ) → Bytes s → date at s ≡ is d after → Day d × Stands (publish d) at after s
+date-read at s d after bytes e =
+    let w = whole-read 3 at s (λ b. dateIn at (dateOf (val b 3))) d after e in
+    let t = take 3 (drop at s) in
+    let l = taken-size 3 at s (w .there) in
+    let p = passed (isDay (dateOf (val t 3))) (is (dateOf (val t 3)) (at + 3)) 6 at d after (w .read) in
+    let same = same-value (dateOf (val t 3)) d (at + 3) after (p .1) in
+    let place = same-place (dateOf (val t 3)) d (at + 3) after (p .1) in
+    let r = taken-published t (bytes-take 3 (drop at s) (bytes-drop at s bytes)) (omega arith) d (from-day (val t 3) (p .0) ∙ ap given same) in
+    let front : publish d ≡ t = r .1 ∙ take-all 3 t (omega arith) in
+    (r .0, record { form-there = stands 3 at s (w .there) ∙ ap (λ u. u ++ drop (at + 3) s) (sym front) ∙ ap (λ k. publish d ++ drop k s) place; size = sym place ∙ ap (λ k. at + k) (sym (length-publish d)) })
+
+-- a DER length, and a feature's
+pub der-read : (at : ℕ) (s : List ℕ) (n after : ℕ) → Bytes s → derLength at s ≡ is n after → Sized n × Stands (form n) at after s
+der-read at s n after bytes e = found (readLength (drop at s)) refl
+  where
+    found : (r : Length) → readLength (drop at s) ≡ r → Sized n × Stands (form n) at after s
+    found (Is m width) f =
+        let g : is m (at + width) ≡ is n after = sym (ap (derOf at) f) ∙ e in
+        let same = same-value m n (at + width) after g in
+        let place = same-place m n (at + width) after g in
+        let t = read-is-form (drop at s) (bytes-drop at s bytes) n width (f ∙ ap (λ k. Is k width) same) in
+        (t .sized, record { form-there = sym (take-append-drop width (drop at s)) ∙ ap (λ u. u ++ drop width (drop at s)) (sym (t .front)) ∙ ap (λ u. form n ++ u) (drop-drop width at s) ∙ ap (λ k. form n ++ drop k s) place; size = sym place ∙ ap (λ k. at + k) (sym (t .size)) })
+    found Cut f = absurd (unread 2 at n after (sym (ap (derOf at) f) ∙ e))
+    found Malformed f = absurd (unread 8 at n after (sym (ap (derOf at) f) ∙ e))
+
+pub feature-length-read : (v : Version) (at : ℕ) (s : List ℕ) (n after : ℕ) → Bytes s → featureLength v at s ≡ is n after → ValueSize v n × Stands (lengthOf v n) at after s
+feature-length-read three at s n after bytes e =
+    let b = byte-read at s (plainIn at) n after e in
+    let same = same-value (b .x) n (at + 1) after (b .read) in
+    let place = same-place (b .x) n (at + 1) after (b .read) in
+    let low : b .x < 256 = subst (λ u. getD u 0 0 < 256) (b .there) (bytes-drop at s bytes 0) in
+    (omega arith, record { form-there = b .there ∙ ap (λ y. y ∷ drop (at + 1) s) same ∙ ap (λ k. n ∷ drop k s) place; size = sym place })
+feature-length-read four at s n after bytes e = (tt, der-read at s n after bytes e .1)

@@ -1,0 +1,274 @@
+// The items that are C40 text: country, signer and reference, each put into a lent buffer of its size (document 01, Layout).
+ghost use mathlib.Core.Path.{_≡_};
+ghost use Prim.Native.Nat.{_<_, _≤_};
+ghost use lib.ListN.{length};
+ghost use mathlib.Core.List.{[], _∷_};
+ghost use Rattle.items.specs.Items as read;
+ghost use Rattle.items.specs.Cases.{Sized, Fills, stepOf, namesOf, whyOf, versionOf, anyText, through, measured};
+use crate::cursor::Cursor;
+use crate::cursor::Refusal;
+use crate::cursor::Step;
+use crate::cursor::Whole;
+use c40::Reading;
+use octets::wide;
+
+// Signer and reference.
+pub enum Names {
+    // the reference's length, L
+    Are(usize, Cursor),
+    Not(Refusal),
+}
+
+impl Names {
+    // Why they were not read.
+    pub fn why(self) -> Refusal
+        ensures { λ r. ⌜ r ≡ whyOf (namesOf [] self) ⌝ }
+    {
+        match self {
+            Names::Are(_, _) => Refusal {
+                number: 0,
+                place: 0,
+            },
+            Names::Not(why) => why,
+        }
+    }
+}
+
+pub(crate) fn is_letter(c: u8) -> bool
+    ensures { λ r. ⌜ r ≡ read.isLetter c ⌝ }
+{
+    if c < b'A' {
+        return false;
+    }
+    c <= b'Z'
+}
+
+pub(crate) fn is_digit(c: u8) -> bool
+    ensures { λ r. ⌜ r ≡ read.isDigit c ⌝ }
+{
+    if c < b'0' {
+        return false;
+    }
+    c <= b'9'
+}
+
+// Which characters a reference may have.
+pub(crate) fn is_reference(c: u8) -> bool
+    ensures { λ r. ⌜ r ≡ read.isReference c ⌝ }
+{
+    if is_letter(c) {
+        return true;
+    }
+    is_digit(c)
+}
+
+// Whether all of a text may stand in a reference.
+pub(crate) fn all_reference(text: &[u8]) -> bool
+    ensures { λ r. ⌜ r ≡ read.all read.isReference (now (text .entry)) ⌝ }
+{
+    let mut i: usize = 0;
+    while i < text.len() {
+        if !is_reference(text[i]) {
+            return false;
+        }
+        i += 1;
+    }
+    true
+}
+
+// Two letters, then two letters or digits.
+pub(crate) fn is_signer(a: u8, b: u8, c: u8, d: u8) -> bool
+    ensures { λ r. ⌜ r ≡ read.isSigner (a ∷ b ∷ c ∷ d ∷ []) ⌝ }
+{
+    if !is_letter(a) {
+        return false;
+    }
+    if !is_letter(b) {
+        return false;
+    }
+    if !is_reference(c) {
+        return false;
+    }
+    is_reference(d)
+}
+
+// A country, its fillers as the spaces that carry them: a letter first, and no letter after a filler.
+pub(crate) fn is_country(a: u8, b: u8, c: u8) -> bool
+    ensures { λ r. ⌜ r ≡ read.isCountry (a ∷ b ∷ c ∷ []) ⌝ }
+{
+    if !is_letter(a) {
+        return false;
+    }
+    if is_letter(b) {
+        if is_letter(c) {
+            return true;
+        }
+        return c == b' ';
+    }
+    if b != b' ' {
+        return false;
+    }
+    c == b' '
+}
+
+// A filler is given as `<`.
+pub(crate) fn shown(c: u8) -> u8
+    ensures { λ r. ⌜ r ≡ read.shown c ⌝ }
+{
+    if c == b' ' {
+        return b'<';
+    }
+    c
+}
+
+// What an upper-case hexadecimal digit stands for; 16 for any other character.
+pub(crate) fn hex_value(c: u8) -> usize
+    ensures { λ r. ⌜ r ≡ read.hexValue c ⌝ }
+{
+    if is_digit(c) {
+        return wide(c - b'0');
+    }
+    if c < b'A' {
+        return 16;
+    }
+    if b'F' < c {
+        return 16;
+    }
+    wide(c - 55)
+}
+
+// Whether bytes are C40 of exactly as many characters as `text` has room for, which then stand there.
+pub(crate) fn fills(bytes: &[u8], text: &mut [u8]) -> bool
+    requires { ⌜ Sized (now bytes) (now text) ⌝ }
+    ensures { λ r. ⌜ Fills r (now (bytes .entry)) (now (text .exit)) ⌝ }
+{
+    let Reading::Done(count) = c40::read(bytes, text) else {
+        return false;
+    };
+    count == text.len()
+}
+
+impl Cursor {
+    // A field of as many characters as `text` has room for.
+    pub(crate) fn field(self, seal: &[u8], text: &mut [u8]) -> Step
+        requires { ⌜ (0 < length (now text)) × (length (now text) ≤ 255) ⌝ }
+        ensures { λ r. ⌜ stepOf 5 (self .place) (now (text .exit)) r ≡ read.field (length (now (text .entry))) anyText (self .place) (now (seal .entry)) ⌝ }
+    {
+        let at = self.place;
+        let Whole::Past(next) = self.skip(seal, (text.len() + 2) / 3 * 2) else {
+            return Step::Cut;
+        };
+        let end = next.place;
+        if fills(&seal[at..end], text) {
+            return Step::Past(next);
+        }
+        Step::Wrong
+    }
+
+    // The country, with fillers as `<`.
+    pub fn country(self, seal: &[u8], code: &mut [u8; 3]) -> Step
+        ensures { λ r. ⌜ stepOf 5 (self .place) (now (code .exit)) r ≡ read.country (self .place) (now (seal .entry)) ⌝ }
+    {
+        let read = self.field(seal, code);
+        let Step::Past(next) = read else {
+            return read;
+        };
+        if !is_country(code[0], code[1], code[2]) {
+            return Step::Wrong;
+        }
+        code[1] = shown(code[1]);
+        code[2] = shown(code[2]);
+        Step::Past(next)
+    }
+
+    // Version 3: signer and reference in nine characters.
+    pub(crate) fn nine(self, seal: &[u8], text: &mut [u8]) -> Step
+        requires { ⌜ length (now text) ≡ 9 ⌝ }
+        ensures { λ r. ⌜ stepOf 5 (self .place) (now (text .exit)) r ≡ read.field 9 read.nine (self .place) (now (seal .entry)) ⌝ }
+    {
+        let read = self.field(seal, text);
+        let Step::Past(next) = read else {
+            return read;
+        };
+        if !is_signer(text[0], text[1], text[2], text[3]) {
+            return Step::Wrong;
+        }
+        if all_reference(&text[4..]) {
+            return Step::Past(next);
+        }
+        Step::Wrong
+    }
+
+    // Version 4: the signer, and two hexadecimal digits that give the reference's length, which is not 0.
+    pub(crate) fn six(self, seal: &[u8], text: &mut [u8]) -> Step
+        requires { ⌜ length (now text) ≡ 6 ⌝ }
+        ensures { λ r. ⌜ stepOf 5 (self .place) (now (text .exit)) r ≡ read.field 6 read.isSix (self .place) (now (seal .entry)) ⌝ }
+    {
+        let read = self.field(seal, text);
+        let Step::Past(next) = read else {
+            return read;
+        };
+        if !is_signer(text[0], text[1], text[2], text[3]) {
+            return Step::Wrong;
+        }
+        let high = hex_value(text[4]);
+        let low = hex_value(text[5]);
+        if high == 16 {
+            return Step::Wrong;
+        }
+        if low == 16 {
+            return Step::Wrong;
+        }
+        if high + low == 0 {
+            return Step::Wrong;
+        }
+        Step::Past(next)
+    }
+
+    // The reference, of as many characters as `text` has room for.
+    pub(crate) fn reference(self, seal: &[u8], text: &mut [u8]) -> Step
+        requires { ⌜ (0 < length (now text)) × (length (now text) ≤ 255) ⌝ }
+        ensures { λ r. ⌜ stepOf 5 (self .place) (now (text .exit)) r ≡ read.field (length (now (text .entry))) (read.all read.isReference) (self .place) (now (seal .entry)) ⌝ }
+    {
+        let read = self.field(seal, text);
+        let Step::Past(next) = read else {
+            return read;
+        };
+        if all_reference(text) {
+            return Step::Past(next);
+        }
+        Step::Wrong
+    }
+
+    // Signer and reference, put one after the other at the start of a text that has room for the longest.
+    pub(crate) fn names_in(self, seal: &[u8], version: usize, text: &mut [u8]) -> Names
+        requires { ⌜ length (now text) ≡ 259 ⌝ }
+        ensures { λ r. ⌜ namesOf (now (text .exit)) r ≡ through measured (read.names (versionOf version) (self .place) (now (seal .entry))) ⌝ }
+    {
+        if version == 3 {
+            let nine = self.nine(seal, &mut text[..9]);
+            let Step::Past(next) = nine else {
+                return Names::Not(nine.refusal(5, self.place));
+            };
+            return Names::Are(5, next);
+        }
+        let six = self.six(seal, &mut text[..6]);
+        let Step::Past(at) = six else {
+            return Names::Not(six.refusal(5, self.place));
+        };
+        let size = hex_value(text[4]) * 16 + hex_value(text[5]);
+        let end = 4 + size;
+        let reference = at.reference(seal, &mut text[4..end]);
+        let Step::Past(next) = reference else {
+            return Names::Not(reference.refusal(5, at.place));
+        };
+        Names::Are(size, next)
+    }
+
+    // Signer and reference, put one after the other at the start of `text`.
+    pub fn names(self, seal: &[u8], version: usize, text: &mut [u8; 259]) -> Names
+        ensures { λ r. ⌜ namesOf (now (text .exit)) r ≡ through measured (read.names (versionOf version) (self .place) (now (seal .entry))) ⌝ }
+    {
+        self.names_in(seal, version, text)
+    }
+}

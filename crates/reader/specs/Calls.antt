@@ -1,0 +1,77 @@
+-- What the calls answer (document 01, "On 0 the reader gives"), for every input: the answer's fields, and what the lent table and text hold afterwards.
+-- Assumes nothing.
+pub mod Laws
+pub mod Reads
+use mathlib.Core.Path.{_≡_}
+use Prim.Native.Nat.{ℕ, _+_, _*_}
+use mathlib.Core.List.{List, [], _∷_, _++_}
+use lib.Dec.{ltb}
+use lib.ListN.{length, take, drop}
+use Rattle.format.specs.Choice.{pick}
+use Rattle.dates.specs.declared.Date.{Date}
+use Rattle.items.specs.Cases.{edition}
+use Rattle.reader.specs.Judge.{Row, Report, Verdict, accepted, refused, judge}
+use Rattle.reader.specs.declared.Reading.{Reading}
+
+abbrev pub noDate : Date
+noDate = record { month = 0; day = 0; year = 0 }
+
+-- on 0 the header, the three zone ends, the signature's place and length and the feature count; on any other number every field but number and place is 0
+abbrev pub answerOf : Verdict → Reading
+answerOf (accepted r) =
+    let h = r .header in
+    record {
+      number = 0;
+      place = 0;
+      header = record { version = edition (h .version); country = h .country; length = length (h .reference); issued = h .issued; signed = h .signed; definition = h .definition; category = h .category };
+      ends = record { header = r .header-end; message = r .message-end; seal = r .seal-end };
+      signature = record { place = r .signature-place; length = r .signature-size };
+      count = length (r .rows);
+    }
+answerOf (refused number place) =
+    record {
+      number = number;
+      place = place;
+      header = record { version = 0; country = 0 ∷ 0 ∷ 0 ∷ []; length = 0; issued = noDate; signed = noDate; definition = 0; category = 0 };
+      ends = record { header = 0; message = 0; seal = 0 };
+      signature = record { place = 0; length = 0 };
+      count = 0;
+    }
+
+-- a row a feature: tag, value place, value length
+unfoldable pub table : List Row → List ℕ
+table [] = []
+table (r ∷ rows) = r .tag ∷ r .place ∷ r .size ∷ table rows
+
+-- signer and reference
+abbrev pub text : Report → List ℕ
+text r = r .header .signer ++ r .header .reference
+
+-- 12: seal good, but the lent table has under 3 numbers a feature, or the text room is under 4 + L
+abbrev pub given : ℕ → ℕ → Verdict → Verdict
+given numbers room (accepted r) =
+    pick (ltb numbers (3 * length (r .rows))) (refused 12 0)
+    (pick (ltb room (4 + length (r .header .reference))) (refused 12 0) (accepted r))
+given numbers room (refused number place) = refused number place
+
+-- the verdict on a seal, given so many numbers of table and so much room for text
+abbrev pub reading : List ℕ → ℕ → ℕ → Verdict
+reading s numbers room = given numbers room (judge s)
+
+-- what is written from the start of the table, and of the text; a refusal writes nothing
+abbrev pub rowsIn : Verdict → List ℕ
+rowsIn (accepted r) = table (r .rows)
+rowsIn (refused number place) = []
+
+abbrev pub textIn : Verdict → List ℕ
+textIn (accepted r) = text r
+textIn (refused number place) = []
+
+-- what a lent buffer holds afterwards: what is written, and past it what was there
+abbrev pub then : List ℕ → List ℕ → List ℕ
+then written out = written ++ drop (length written) out
+
+-- signer and reference stand at the start of a text
+abbrev pub Named : Verdict → List ℕ → Type 0
+Named (accepted r) names = take (4 + length (r .header .reference)) names ≡ text r
+Named (refused number place) names = Unit

@@ -1,0 +1,181 @@
+-- What a reading leaves in its answer, in the table and in the text, one law for each way out.
+-- Assumes nothing.
+use mathlib.Core.Path.{_≡_, refl, ap, sym, subst, _∙_}
+use Prim.Native.Nat.{ℕ, suc, _+_, _*_, _<_, _≤_}
+use native.Mathlib.Omega.{arith}
+use borrow.Author.Tests.{lt-ltb, le-ltb}
+use mathlib.Core.List.{List, [], _∷_, _++_}
+use lib.Dec.{ltb}
+use lib.ListN.{length, take, drop, length-append, length-take}
+use Rattle.format.specs.Choice.{pick}
+use Rattle.format.specs.Choice.Laws.{by-test}
+use Rattle.format.specs.Bytes.{Bytes}
+use Rattle.format.specs.Buffer.{over}
+use Rattle.octets.specs.Copy.{copied}
+use Rattle.grammar.specs.Content.{Version, three, four, Feature}
+use Rattle.grammar.specs.Publish.{lengthOf, headerZone}
+use Rattle.grammar.specs.Legal.{ReferenceSize}
+use Rattle.grammar.specs.Sizes.{features-most}
+use Rattle.items.specs.Items.{is}
+use Rattle.items.specs.Items.Sound.{steps, same-value}
+use Rattle.items.specs.Cases.{edition, versionOf}
+use Rattle.reader.specs.Judge.{Report, Verdict, accepted, refused, header, features, signature, verdict, reading as readingOf, judge}
+use Rattle.reader.specs.Judge.Numbers.{FromList, from-list}
+use Rattle.reader.specs.Judge.Complete.{reportOf}
+use Rattle.reader.specs.Judge.Features.{rowsOf}
+use Rattle.reader.specs.Judge.Sound.{verdict-read, unaccepted}
+use Rattle.reader.specs.Steps.Rows.{rowsAt, rowsRead, AreRead}
+use Rattle.reader.specs.Steps.RowsLaws.{rows-there, rows-are}
+use Rattle.reader.specs.Calls.{answerOf, table, text, given, reading, rowsIn, textIn, then, Named}
+use Rattle.reader.specs.Theorems.{accepted-only}
+use Rattle.reader.specs.declared.Reading.{Reading}
+
+-- what is promised of the answer, the table and the text
+abbrev pub Reads : List ℕ → List ℕ → List ℕ → Reading → List ℕ → List ℕ → Type 0
+Reads s rows names r rows′ names′ =
+    (r ≡ answerOf (reading s (length rows) (length names)))
+    × ((rows′ ≡ then (rowsIn (reading s (length rows) (length names))) rows)
+    × (names′ ≡ then (textIn (reading s (length rows) (length names))) names))
+
+abbrev Leaves : List ℕ → List ℕ → Reading → List ℕ → List ℕ → Verdict → Type 0
+Leaves rows names r rows′ names′ v = (r ≡ answerOf v) × ((rows′ ≡ then (rowsIn v) rows) × (names′ ≡ then (textIn v) names))
+
+-- a refusal leaves both as they were
+pub reads-refused : (s rows names : List ℕ) (r : Reading) (number place : ℕ) → reading s (length rows) (length names) ≡ refused number place → r ≡ answerOf (refused number place) → Reads s rows names r rows names
+reads-refused s rows names r number place e a = subst (Leaves rows names r rows names) (sym e) (a, (refl, refl))
+
+pub reads-accepted : (s rows names : List ℕ) (r : Reading) (rows′ names′ : List ℕ) (report : Report) → reading s (length rows) (length names) ≡ accepted report → r ≡ answerOf (accepted report) → rows′ ≡ then (table (report .rows)) rows → names′ ≡ then (text report) names → Reads s rows names r rows′ names′
+reads-accepted s rows names r rows′ names′ report e a t x = subst (Leaves rows names r rows′ names′) (sym e) (a, (t, x))
+
+-- a verdict that is a refusal is answered whatever the room
+settled : (v : Verdict) (numbers room : ℕ) → FromList v → (answerOf v .number ≡ 0 → ⊥) → given numbers room v ≡ v
+settled (accepted r) numbers room l h = absurd (h refl)
+settled (refused number place) numbers room l h = refl
+
+abbrev Refused : Verdict → Type 0
+Refused (accepted r) = ⊥
+Refused (refused number place) = Unit
+
+is-refused : (v : Verdict) → (answerOf v .number ≡ 0 → ⊥) → Refused v
+is-refused (accepted r) h = h refl
+is-refused (refused number place) h = tt
+
+leaves : (rows names : List ℕ) (v : Verdict) (r : Reading) → Refused v → r ≡ answerOf v → Leaves rows names r rows names v
+leaves rows names (accepted q) r f a = absurd f
+leaves rows names (refused number place) r f a = (a, (refl, refl))
+
+pub reads-judged : (s rows names : List ℕ) (r : Reading) → r ≡ answerOf (judge s) → (r .number ≡ 0 → ⊥) → Reads s rows names r rows names
+reads-judged s rows names r a h =
+    let no : answerOf (judge s) .number ≡ 0 → ⊥ = λ e. h (ap (λ q. q .number) a ∙ e) in
+    subst (Leaves rows names r rows names) (sym (settled (judge s) (length rows) (length names) (from-list s) no)) (leaves rows names (judge s) r (is-refused (judge s) no) a)
+
+-- a seal that was accepted: its report, and the sizes that its content has
+pub record Accepted (s : List ℕ) (r : Reading) : Type 0 where
+  pub report : Report
+  pub judged : judge s ≡ accepted report
+  pub answer : r ≡ answerOf (accepted report)
+  pub signer : length (report .header .signer) ≡ 4
+  pub reference : length (report .header .reference) ≤ 255
+  pub few : length (report .rows) ≤ 255
+  pub walked : features 256 (report .header .version) [] (report .header-end) s ≡ is (report .rows) (report .message-end)
+
+reference-most : (v : Version) (n : ℕ) → ReferenceSize v n → n ≤ 255
+reference-most three n h = omega arith
+reference-most four n h = h .1
+
+rows-many : (v : Version) (at : ℕ) (fs : List Feature) → length (rowsOf v at fs) ≡ length fs
+unfolding rowsOf
+rows-many v at [] = refl
+rows-many v at (f ∷ fs) =
+    let ih = rows-many v (at + 1 + length (lengthOf v (length (f .value))) + length (f .value)) fs in
+    ap suc ih
+
+walk : (s : List ℕ) (r : Report) → judge s ≡ accepted r → features 256 (r .header .version) [] (r .header-end) s ≡ is (r .rows) (r .message-end)
+unfolding judge readingOf
+walk s r e =
+    by-test (ltb 4096 (length s))
+    (λ t. absurd (unaccepted 1 4096 r (sym (ap (λ b. pick b (refused 1 4096) (verdict (readingOf s))) t) ∙ e)))
+    (λ t.
+    let v = verdict-read (readingOf s) r (sym (ap (λ b. pick b (refused 1 4096) (verdict (readingOf s))) t) ∙ e) in
+    let i0 = steps (header s) _ r (v .end) (v .read) in
+    let i1 = steps (features 256 (i0 .value .version) [] (i0 .at) s) _ r (v .end) (i0 .goes-on) in
+    let i2 = steps (signature (i1 .at + 1) s) _ r (v .end) (i1 .goes-on) in
+    let same = same-value _ r _ (v .end) (i2 .goes-on) in
+    subst (λ q. features 256 (q .header .version) [] (q .header-end) s ≡ is (q .rows) (q .message-end)) same (i1 .read))
+
+abbrev reportIn : Verdict → Report → Report
+reportIn (accepted r) q = r
+reportIn (refused number place) q = q
+
+accepted-report : (s : List ℕ) → Bytes s → (q : Reading) (r : Report) → q ≡ answerOf (judge s) → judge s ≡ accepted r → Accepted s q
+unfolding reportOf
+accepted-report s bytes q r a e =
+    let seal = accepted-only s bytes r e in
+    let c = seal .content in
+    let l = seal .legal in
+    let same = seal .report-is in
+    record {
+      report = r;
+      judged = e;
+      answer = a ∙ ap answerOf e;
+      signer = ap (λ z. length (z .header .signer)) same ∙ l .header .signer .size;
+      reference = subst (λ z. length (z .header .reference) ≤ 255) (sym same) (reference-most (c .header .version) (length (c .header .reference)) (l .header .size));
+      few = subst (λ z. length (z .rows) ≤ 255) (sym same) (subst (λ n. n ≤ 255) (sym (rows-many (c .header .version) (length (headerZone (c .header))) (c .features))) (features-most c l));
+      walked = walk s r e;
+    }
+
+by-verdict : (s : List ℕ) → Bytes s → (q : Reading) (v : Verdict) → q ≡ answerOf (judge s) → judge s ≡ v → FromList v → answerOf v .number ≡ 0 → Accepted s q
+by-verdict s bytes q (accepted r) a e l z = accepted-report s bytes q r a e
+by-verdict s bytes q (refused number place) a e l z = absurd (omega (arith, l .0, z))
+
+pub accepted-zero : (s : List ℕ) → Bytes s → (q : Reading) → q ≡ answerOf (judge s) → q .number ≡ 0 → Accepted s q
+accepted-zero s bytes q a z = by-verdict s bytes q (judge s) a refl (from-list s) (sym (ap (λ r. r .number) a) ∙ z)
+
+-- with too little room for the rows, or for the text, and with room for both
+module _ (s : List ℕ) (numbers room : ℕ) (r : Report) (e : judge s ≡ accepted r) where
+  pub no-rows : numbers < 3 * length (r .rows) → reading s numbers room ≡ refused 12 0
+  no-rows h = ap (given numbers room) e ∙ rw (lt-ltb numbers (3 * length (r .rows)) h) refl
+
+  module _ (fits : 3 * length (r .rows) ≤ numbers) where
+    pub no-text : room < 4 + length (r .header .reference) → reading s numbers room ≡ refused 12 0
+    no-text h = ap (given numbers room) e ∙ rw (le-ltb numbers (3 * length (r .rows)) fits, lt-ltb room (4 + length (r .header .reference)) h) refl
+
+    pub both-fit : 4 + length (r .header .reference) ≤ room → reading s numbers room ≡ accepted r
+    both-fit h = ap (given numbers room) e ∙ rw (le-ltb numbers (3 * length (r .rows)) fits, le-ltb room (4 + length (r .header .reference)) h) refl
+
+-- the rows that are put are those of the report
+version-back : (v : Version) → versionOf (edition v) ≡ v
+version-back three = refl
+version-back four = refl
+
+module _ (s : List ℕ) (q : Reading) (a : Accepted s q) where
+  same-rows : rowsAt (q .count) (versionOf (q .header .version)) (q .ends .header) s ≡ rowsAt (length (a .report .rows)) (a .report .header .version) (a .report .header-end) s
+  same-rows =
+      ap (λ z. rowsAt (z .count) (versionOf (z .header .version)) (z .ends .header) s) (a .answer)
+      ∙ ap (λ v. rowsAt (length (a .report .rows)) v (a .report .header-end) s) (version-back (a .report .header .version))
+
+  pub put-there : AreRead (rowsAt (q .count) (versionOf (q .header .version)) (q .ends .header) s)
+  put-there = subst AreRead (sym same-rows) (rows-there 256 (a .report .header .version) (a .report .header-end) s (a .report .rows) (a .report .message-end) (length (a .report .rows)) (a .walked) refl)
+
+  pub put-are : rowsRead (rowsAt (q .count) (versionOf (q .header .version)) (q .ends .header) s) ≡ a .report .rows
+  put-are = ap rowsRead same-rows ∙ rows-are 256 (a .report .header .version) (a .report .header-end) s (a .report .rows) (a .report .message-end) (length (a .report .rows)) (a .walked) refl
+
+  -- signer and reference stand at the start of the names, which are as long as they
+  module _ (names : List ℕ) (n : Named (judge s) names) where
+    pub named-is : take (4 + q .header .length) names ≡ text (a .report)
+    named-is = ap (λ z. take (4 + z .header .length) names) (a .answer) ∙ subst (λ v. Named v names) (a .judged) n
+
+    pub named-size : length (take (4 + q .header .length) names) ≡ 4 + q .header .length
+    named-size =
+        let size = ap (λ z. z .header .length) (a .answer) in
+        ap length named-is ∙ omega (arith, length-append (a .report .header .signer) (a .report .header .reference), a .signer, size)
+
+    pub named-room : 4 + q .header .length ≤ length names
+    named-room = omega (arith, named-size, length-take (4 + q .header .length) names)
+
+-- names that are copied to the start of the text
+pub copied-names : (names out : List ℕ) → length names ≤ length out → copied names out 0 ≡ then names out
+unfolding copied over
+copied-names names out h =
+    let none : 0 + length names ≡ length names = omega arith in
+    ap (λ b. pick b out (over out 0 names)) (le-ltb (length out) (0 + length names) (omega arith)) ∙ ap (λ n. names ++ drop n out) none

@@ -1,0 +1,276 @@
+-- Sound: what is accepted is the published form of a legal content.
+-- Assumes nothing.
+use mathlib.Core.Path.{_≡_, refl, ap, sym, subst, _∙_}
+use mathlib.Core.Logic.{_⊎_, inl, inr, ⊎-elim}
+use mathlib.Core.Bool.{Bool, true, false}
+use Prim.Native.Nat.{ℕ, zero, suc, _+_, _≤_, _<_}
+use native.Mathlib.Omega.{arith}
+use borrow.Author.Tests.{eqb-true, eqb-false, ltb-false}
+use mathlib.Core.List.{List, [], _∷_, _++_, append-assoc, append-nil}
+use lib.Dec.{ltb, eqb}
+use lib.ListN.{length, take, drop, getD, drop-of-length-le}
+use Rattle.format.specs.Choice.{pick}
+use Rattle.format.specs.Choice.Laws.{by-test}
+use Rattle.format.specs.Table.{either}
+use Rattle.format.specs.Bytes.{Bytes}
+use Rattle.format.specs.Bytes.Laws.{bytes-drop, bytes-take}
+use Rattle.der.specs.Length.{form as derForm}
+use Rattle.grammar.specs.Content.{Version, Header, Feature, Content}
+use Rattle.grammar.specs.Publish.{lengthOf, headerZone, messageZone, signatureZone, signedBytes, publish}
+use Rattle.grammar.specs.Legal.{LegalHeader, Unused, ValueSize, LegalFeatures, SignatureSize, n28, n32, n48, n64, n66, Legal}
+use Rattle.grammar.specs.Zones.{header-parts}
+use Rattle.items.specs.Items.{Item, is, not, next, whole, mark, version, country, names, date, last, derLength, featureLength}
+use Rattle.items.specs.Items.Sound.{Stands, stands-append, steps, stands, taken-size, same-value, same-place, passed, mark-read, version-read, last-read, date-read, der-read, feature-length-read, byte-read, not-true}
+use Rattle.items.specs.Items.Laws.{unread, whole-read}
+use Rattle.items.specs.Items.FieldsSound.{country-read, names-read}
+use Rattle.reader.specs.Judge.{Row, Report, Verdict, accepted, refused, header, used, tagIn, tag, valueIn, row, features, isSignature, rawIn, sizeIn, signature, verdict, reading, judge}
+
+pub header-read : (s : List ℕ) (h : Header) (end : ℕ) → Bytes s → header s ≡ is h end → LegalHeader h × Stands (headerZone h) 0 end s
+unfolding header
+header-read s h end bytes e =
+    let i0 = steps (mark 0 s) _ h end e in
+    let i1 = steps (version (i0 .at) s) _ h end (i0 .goes-on) in
+    let i2 = steps (country (i1 .at) s) _ h end (i1 .goes-on) in
+    let i3 = steps (names (i1 .value) (i2 .at) s) _ h end (i2 .goes-on) in
+    let i4 = steps (date (i3 .at) s) _ h end (i3 .goes-on) in
+    let i5 = steps (date (i4 .at) s) _ h end (i4 .goes-on) in
+    let i6 = steps (last (i5 .at) s) _ h end (i5 .goes-on) in
+    let i7 = steps (last (i6 .at) s) _ h end (i6 .goes-on) in
+    let r0 = mark-read 0 s (i0 .value) (i0 .at) (i0 .read) in
+    let r1 = version-read (i0 .at) s (i1 .value) (i1 .at) (i1 .read) in
+    let r2 = country-read (i1 .at) s (i2 .value) (i2 .at) bytes (i2 .read) in
+    let r3 = names-read (i1 .value) (i2 .at) s (i3 .value) (i3 .at) bytes (i3 .read) in
+    let r4 = date-read (i3 .at) s (i4 .value) (i4 .at) bytes (i4 .read) in
+    let r5 = date-read (i4 .at) s (i5 .value) (i5 .at) bytes (i5 .read) in
+    let r6 = last-read (i5 .at) s (i6 .value) (i6 .at) (i6 .read) in
+    let r7 = last-read (i6 .at) s (i7 .value) (i7 .at) (i7 .read) in
+    let g : Header = record { version = i1 .value; country = i2 .value; signer = i3 .value .signer; reference = i3 .value .reference; issued = i4 .value; signed = i5 .value; definition = i6 .value; category = i7 .value } in
+    let same = same-value g h (i7 .at) end (i7 .goes-on) in
+    let place = same-place g h (i7 .at) end (i7 .goes-on) in
+    let legal : LegalHeader g = record { country = r2 .0; signer = r3 .0 .signer; reference = r3 .0 .reference; size = r3 .0 .size; issued = r4 .0; signed = r5 .0; definition = r6 .0; category = r7 .0 } in
+    let a7 = stands-append _ _ _ _ _ s (r6 .1) (r7 .1) in
+    let a6 = stands-append _ _ _ _ _ s (r5 .1) a7 in
+    let a5 = stands-append _ _ _ _ _ s (r4 .1) a6 in
+    let a4 = stands-append _ _ _ _ _ s (r3 .1) a5 in
+    let a3 = stands-append _ _ _ _ _ s (r2 .1) a4 in
+    let a2 = stands-append _ _ _ _ _ s r1 a3 in
+    let a1 = stands-append _ _ _ _ _ s r0 a2 in
+    let whole-form : Stands (headerZone g) 0 (i7 .at) s = subst (λ u. Stands u 0 (i7 .at) s) (sym (header-parts g []) ∙ append-nil (headerZone g)) a1 in
+    (subst LegalHeader same legal, subst (λ (z : Header). Stands (headerZone z) 0 end s) same (subst (λ k. Stands (headerZone g) 0 k s) place whole-form))
+
+-- a tag that no row has was not among the tags before
+abbrev Covers : List Row → List ℕ → Type 0
+Covers rows tags = (x : ℕ) → used x rows ≡ false → Unused x tags
+
+either-false : (a b : Bool) → either a b ≡ false → (a ≡ false) × (b ≡ false)
+either-false true b e = absurd (not-true (sym e))
+either-false false b e = (refl, e)
+
+unused-end : (x : ℕ) (rows : List Row) (r : Row) → used x (rows ++ (r ∷ [])) ≡ false → (used x rows ≡ false) × (eqb x (r .tag) ≡ false)
+unused-end x [] r e = (refl, either-false (eqb x (r .tag)) false e .0)
+unused-end x (q ∷ rows) r e =
+    let p = either-false (eqb x (q .tag)) (used x (rows ++ (r ∷ []))) e in
+    let ih = unused-end x rows r (p .1) in
+    (ap (λ b. either b (used x rows)) (p .0) ∙ ih .0, ih .1)
+
+-- what was read up to FF
+pub record FeaturesRead (v : Version) (tags : List ℕ) (at end : ℕ) (s : List ℕ) : Type 0 where
+  pub features : List Feature
+  pub legal : LegalFeatures v tags features
+  pub there : Stands (messageZone v features) at end s
+  pub mark : Stands (0xFF ∷ []) end (end + 1) s
+
+record TagRead (rows : List Row) (at : ℕ) (s : List ℕ) (x after : ℕ) : Type 0 where
+  fresh : used x rows ≡ false
+  small : x < 256
+  there : Stands (x ∷ []) at after s
+
+tag-read : (rows : List Row) (at : ℕ) (s : List ℕ) (x after : ℕ) → Bytes s → tag rows at s ≡ is x after → TagRead rows at s x after
+unfolding tag
+tag-read rows at s x after bytes e =
+    let b = byte-read at s (tagIn rows at) x after e in
+    by-test (used (b .x) rows)
+    (λ t. absurd (unread 9 at x after (sym (ap (λ c. pick c (not 9 at) (is (b .x) (at + 1))) t) ∙ b .read)))
+    (λ t.
+    let f : is (b .x) (at + 1) ≡ is x after = sym (ap (λ c. pick c (not 9 at) (is (b .x) (at + 1))) t) ∙ b .read in
+    let same = same-value (b .x) x (at + 1) after f in
+    let place = same-place (b .x) x (at + 1) after f in
+    let low : b .x < 256 = subst (λ u. getD u 0 0 < 256) (b .there) (bytes-drop at s bytes 0) in
+    record {
+      fresh = subst (λ y. used y rows ≡ false) same t;
+      small = subst (λ y. y < 256) same low;
+      there = record { form-there = b .there ∙ ap (λ y. y ∷ drop (at + 1) s) same ∙ ap (λ k. x ∷ drop k s) place; size = sym place };
+    })
+
+record RowRead (v : Version) (x at : ℕ) (s : List ℕ) (r : Row) (after : ℕ) : Type 0 where
+  value : List ℕ
+  is-row : r .tag ≡ x
+  size : ValueSize v (length value)
+  bytes : Bytes value
+  there : Stands (lengthOf v (length value) ++ value) at after s
+
+row-read : (v : Version) (x at : ℕ) (s : List ℕ) (r : Row) (after : ℕ) → Bytes s → row v x at s ≡ is r after → RowRead v x at s r after
+unfolding row
+row-read v x at s r after all e =
+    let k = steps (featureLength v at s) (λ n at. whole n at s (valueIn x n at)) r after e in
+    let n = k .value in
+    let m = k .at in
+    let l = feature-length-read v at s n m all (k .read) in
+    let w = whole-read n m s (valueIn x n m) r after (k .goes-on) in
+    let b = take n (drop m s) in
+    let many : length b ≡ n = taken-size n m s (w .there) in
+    let q : Row = record { tag = x; place = m; size = n } in
+    let same = same-value q r (m + n) after (w .read) in
+    let place = same-place q r (m + n) after (w .read) in
+    let here : Stands b m after s = record { form-there = stands n m s (w .there) ∙ ap (λ z. b ++ drop z s) place; size = sym place ∙ ap (λ z. m + z) (sym many) } in
+    record {
+      value = b;
+      is-row = ap (λ (z : Row). z .tag) (sym same);
+      size = subst (ValueSize v) (sym many) (l .0);
+      bytes = bytes-take n (drop m s) (bytes-drop m s all);
+      there = stands-append (lengthOf v (length b)) b at m after s (subst (λ z. Stands (lengthOf v z) at m s) (sym many) (l .1)) here;
+    }
+
+-- no more features
+ended : (v : Version) (tags : List ℕ) (at end : ℕ) (s : List ℕ) → at ≡ end → Stands (0xFF ∷ []) at (at + 1) s → FeaturesRead v tags at end s
+unfolding messageZone
+ended v tags at end s place ff = record {
+  features = [];
+  legal = tt;
+  there = record { form-there = ap (λ k. drop k s) place; size = omega (arith, place) };
+  mark = subst (λ k. Stands (0xFF ∷ []) k (k + 1) s) place ff;
+}
+
+form-of : (v : Version) (f : Feature) (fs : List Feature) → (f .tag ∷ (lengthOf v (length (f .value)) ++ f .value)) ++ messageZone v fs ≡ messageZone v (f ∷ fs)
+unfolding messageZone
+form-of v f fs = simp append-assoc
+
+pub features-read : (more : ℕ) (v : Version) (rows : List Row) (at : ℕ) (s : List ℕ) (out : List Row) (end : ℕ) (tags : List ℕ) → Bytes s → Covers rows tags → features more v rows at s ≡ is out end → FeaturesRead v tags at end s
+unfolding features
+features-read zero v rows at s out end tags bytes covers e = absurd (unread 9 at out end e)
+features-read (suc more) v rows at s out end tags bytes covers e =
+    let i = steps (tag rows at s) _ out end e in
+    let x = i .value in
+    let t = tag-read rows at s x (i .at) bytes (i .read) in
+    by-test (eqb x 0xFF)
+    (λ f.
+    let g : is rows at ≡ is out end = sym (ap (λ b. pick b (is rows at) (next (row v x (i .at) s) (λ r at. features more v (rows ++ (r ∷ [])) at s))) f) ∙ i .goes-on in
+    let place = same-place rows out at end g in
+    let ff : Stands (0xFF ∷ []) at (at + 1) s = subst (λ y. Stands (y ∷ []) at (at + 1) s) (eqb-true x 0xFF f) (subst (λ k. Stands (x ∷ []) at k s) (t .there .size) (t .there)) in
+    ended v tags at end s place ff)
+    (λ f.
+    let g : next (row v x (i .at) s) (λ r at. features more v (rows ++ (r ∷ [])) at s) ≡ is out end = sym (ap (λ b. pick b (is rows at) (next (row v x (i .at) s) (λ r at. features more v (rows ++ (r ∷ [])) at s))) f) ∙ i .goes-on in
+    let j = steps (row v x (i .at) s) (λ r at. features more v (rows ++ (r ∷ [])) at s) out end g in
+    let r = row-read v x (i .at) s (j .value) (j .at) bytes (j .read) in
+    let covers′ : Covers (rows ++ (j .value ∷ [])) (x ∷ tags) = λ y u.
+    let p = unused-end y rows (j .value) u in
+    ((λ same. eqb-false y (j .value .tag) (p .1) (same ∙ sym (r .is-row))), covers y (p .0)) in
+    let ih = features-read more v (rows ++ (j .value ∷ [])) (j .at) s out end (x ∷ tags) bytes covers′ (j .goes-on) in
+    let one : Feature = record { tag = x; value = r .value } in
+    let front = stands-append (x ∷ []) (lengthOf v (length (r .value)) ++ r .value) at (i .at) (j .at) s (t .there) (r .there) in
+    let whole-form = stands-append _ _ at (j .at) end s front (ih .there) in
+    record {
+      features = one ∷ ih .features;
+      legal = (omega (arith, t .small, eqb-false x 0xFF f), covers x (t .fresh), r .size, r .bytes, ih .legal);
+      there = subst (λ u. Stands u at end s) (form-of v one (ih .features)) whole-form;
+      mark = ih .mark;
+    })
+
+-- the size that passed is one of the five
+either-true : (a b : Bool) → either a b ≡ true → (a ≡ true) ⊎ (b ≡ true)
+either-true true b e = inl refl
+either-true false b e = inr e
+
+size-of : (n : ℕ) → isSignature n ≡ true → SignatureSize n
+size-of n e =
+    let at : (k : ℕ) → SignatureSize k → eqb n k ≡ true → SignatureSize n = λ k z f. subst SignatureSize (sym (eqb-true n k f)) z in
+    ⊎-elim (at 56 n28)
+    (λ a. ⊎-elim (at 64 n32)
+    (λ b. ⊎-elim (at 96 n48) (λ c. ⊎-elim (at 128 n64) (at 132 n66) (either-true (eqb n 128) (eqb n 132) c)) (either-true (eqb n 96) (either (eqb n 128) (eqb n 132)) b))
+    (either-true (eqb n 64) (either (eqb n 96) (either (eqb n 128) (eqb n 132))) a))
+    (either-true (eqb n 56) (either (eqb n 64) (either (eqb n 96) (either (eqb n 128) (eqb n 132)))) e)
+
+record SignatureRead (at : ℕ) (s : List ℕ) : Type 0 where
+  raw : List ℕ
+  size : SignatureSize (length raw)
+  bytes : Bytes raw
+  there : Stands (derForm (length raw) ++ raw) at (length s) s
+
+signature-read : (at : ℕ) (s : List ℕ) (n start : ℕ) → Bytes s → signature at s ≡ is n start → SignatureRead at s
+unfolding signature
+signature-read at s n start all e =
+    let i = steps (derLength at s) (sizeIn at s) n start e in
+    let m = i .value in
+    let k = i .at in
+    let d = der-read at s m k all (i .read) in
+    let p = passed (isSignature m) (whole m k s (rawIn m k s)) 10 at n start (i .goes-on) in
+    let w = whole-read m k s (rawIn m k s) n start (p .1) in
+    let z = take m (drop k s) in
+    let many : length z ≡ m = taken-size m k s (w .there) in
+    by-test (ltb (k + m) (length s))
+    (λ t. absurd (unread 11 (k + m) n start (sym (ap (λ b. pick b (not 11 (k + m)) (is m k)) t) ∙ w .read)))
+    (λ t.
+    let last : k + m ≡ length s = omega (arith, w .there, ltb-false (k + m) (length s) t) in
+    let here : Stands z k (length s) s = record { form-there = stands m k s (w .there) ∙ ap (λ u. z ++ drop u s) last; size = omega arith } in
+    record {
+      raw = z;
+      size = subst SignatureSize (sym many) (size-of m (p .0));
+      bytes = bytes-take m (drop k s) (bytes-drop k s all);
+      there = stands-append (derForm (length z)) z at k (length s) s (subst (λ u. Stands (derForm u) at k s) (sym many) (d .1)) here;
+    })
+
+-- a verdict that accepts comes from a reading
+abbrev Accepted : Verdict → Type 0
+Accepted (accepted r) = Unit
+Accepted (refused number place) = ⊥
+
+pub unaccepted : (number place : ℕ) (r : Report) → refused number place ≡ accepted r → ⊥
+unaccepted number place r e = subst Accepted (sym e) tt
+
+reportIn : Report → Verdict → Report
+reportIn q (accepted r) = r
+reportIn q (refused number place) = q
+
+pub record VerdictRead (i : Item Report) (r : Report) : Type 0 where
+  pub end : ℕ
+  pub read : i ≡ is r end
+
+pub verdict-read : (i : Item Report) (r : Report) → verdict i ≡ accepted r → VerdictRead i r
+unfolding reportIn
+verdict-read (is q at) r e = record { end = at; read = ap (λ z. is (reportIn q z) at) e }
+verdict-read (not number place) r e = absurd (unaccepted number place r e)
+
+at-most : (n : ℕ) → n ≤ n
+at-most n = omega arith
+
+-- what is accepted is the published form of a legal content
+pub record Published (s : List ℕ) : Type 0 where
+  pub content : Content
+  pub legal : Legal content
+  pub form-is : publish content ≡ s
+
+pub accepted-published : (s : List ℕ) → Bytes s → (r : Report) → judge s ≡ accepted r → Published s
+unfolding judge reading publish signedBytes signatureZone
+accepted-published s bytes r e =
+    by-test (ltb 4096 (length s))
+    (λ t. absurd (unaccepted 1 4096 r (sym (ap (λ b. pick b (refused 1 4096) (verdict (reading s))) t) ∙ e)))
+    (λ t.
+    let v = verdict-read (reading s) r (sym (ap (λ b. pick b (refused 1 4096) (verdict (reading s))) t) ∙ e) in
+    let i0 = steps (header s) _ r (v .end) (v .read) in
+    let h = i0 .value in
+    let i1 = steps (features 256 (h .version) [] (i0 .at) s) _ r (v .end) (i0 .goes-on) in
+    let i2 = steps (signature (i1 .at + 1) s) _ r (v .end) (i1 .goes-on) in
+    let a = header-read s h (i0 .at) bytes (i0 .read) in
+    let f = features-read 256 (h .version) [] (i0 .at) s (i1 .value) (i1 .at) [] bytes (λ x u. tt) (i1 .read) in
+    let g = signature-read (i1 .at + 1) s (i2 .value) (i2 .at) bytes (i2 .read) in
+    let c : Content = record { header = h; features = f .features; signature = g .raw } in
+    let front = stands-append (headerZone h) (messageZone (h .version) (f .features)) 0 (i0 .at) (i1 .at) s (a .1) (f .there) in
+    let back = stands-append (0xFF ∷ []) (derForm (length (g .raw)) ++ g .raw) (i1 .at) (i1 .at + 1) (length s) s (f .mark) (g .there) in
+    let all = stands-append (headerZone h ++ messageZone (h .version) (f .features)) (0xFF ∷ (derForm (length (g .raw)) ++ g .raw)) 0 (i1 .at) (length s) s front back in
+    let empty : drop (length s) s ≡ [] = drop-of-length-le s (at-most (length s)) in
+    let form-is : publish c ≡ s = sym (all .form-there ∙ ap (λ u. publish c ++ u) empty ∙ append-nil (publish c)) in
+    record {
+      content = c;
+      legal = record { header = a .0; features = f .legal; signature = g .size; bytes = g .bytes; size = omega (arith, ap length form-is, ltb-false 4096 (length s) t) };
+      form-is = form-is;
+    })

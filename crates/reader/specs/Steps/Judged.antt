@@ -1,0 +1,206 @@
+-- The steps put together are the verdict, one law for each of its answers.
+-- Assumes nothing.
+use mathlib.Core.Path.{_≡_, refl, ap, ap₂, sym, subst, _∙_}
+use Prim.Native.Nat.{ℕ, _+_, _≤_, _<_}
+use borrow.Author.Tests.{lt-ltb, le-ltb}
+use mathlib.Core.List.{List, []}
+use lib.ListN.{length}
+use Rattle.format.specs.Choice.{pick}
+use Rattle.dates.specs.declared.Date.{Date}
+use Rattle.grammar.specs.Content.{Version, three, four, Header}
+use Rattle.items.specs.Items.{Item, is, not, next, mark, version, country, names, date, last, Names}
+use Rattle.items.specs.Items.Laws.{unread}
+use Rattle.items.specs.Cases.{through, edition, versionOf, measured}
+use Rattle.reader.specs.Judge.{Row, accepted, refused, header, features, signature, verdict, reading, judge}
+use Rattle.reader.specs.Steps.{Fields, Dated, fields, dated}
+
+-- an item after another, and after that one more
+next-next : {A B C : Type 0} (i : Item A) (f : A → ℕ → Item B) (g : B → ℕ → Item C) → next (next i f) g ≡ next i (λ a at. next (f a at) g)
+next-next (is a at) f g = refl
+next-next (not number place) f g = refl
+
+next-same : {A B : Type 0} (i : Item A) (f g : A → ℕ → Item B) → ((a : A) (at : ℕ) → f a at ≡ g a at) → next i f ≡ next i g
+next-same (is a at) f g e = e a at
+next-same (not number place) f g e = refl
+
+abbrev pub headerOf : Fields → Dated → Header
+headerOf f d = record { version = versionOf (f .version); country = f .country; signer = f .names .names .signer; reference = f .names .names .reference; issued = d .issued; signed = d .signed; definition = d .definition; category = d .category }
+
+version-back : (v : Version) → versionOf (edition v) ≡ v
+version-back three = refl
+version-back four = refl
+
+-- what follows each item, in the header and in the two steps
+module _ (s : List ℕ) where
+  abbrev with-dated : Fields → Dated → ℕ → Item Header
+  with-dated f d at = is (headerOf f d) at
+
+  abbrev then-dated : Fields → ℕ → Item Header
+  then-dated f at = next (dated at s) (with-dated f)
+
+  dated4 : Date → Date → ℕ → ℕ → ℕ → Item Dated
+  dated4 issued signed definition category at = is (record { issued = issued; signed = signed; definition = definition; category = category }) at
+
+  dated3 : Date → Date → ℕ → ℕ → Item Dated
+  dated3 issued signed definition at = next (last at s) (dated4 issued signed definition)
+
+  dated2 : Date → Date → ℕ → Item Dated
+  dated2 issued signed at = next (last at s) (dated3 issued signed)
+
+  dated1 : Date → ℕ → Item Dated
+  dated1 issued at = next (date at s) (dated2 issued)
+
+  fields4 : Version → List ℕ → Names → ℕ → Item Fields
+  fields4 v c n at = is (record { version = edition v; country = c; names = measured n }) at
+
+  fields3 : Version → List ℕ → ℕ → Item Fields
+  fields3 v c at = next (names v at s) (fields4 v c)
+
+  fields2 : Version → ℕ → Item Fields
+  fields2 v at = next (country at s) (fields3 v)
+
+  fields1 : Unit {0} → ℕ → Item Fields
+  fields1 dc at = next (version at s) fields2
+
+  header8 : Version → List ℕ → Names → Date → Date → ℕ → ℕ → ℕ → Item Header
+  header8 v c n issued signed definition category at = is (record { version = v; country = c; signer = n .signer; reference = n .reference; issued = issued; signed = signed; definition = definition; category = category }) at
+
+  header7 : Version → List ℕ → Names → Date → Date → ℕ → ℕ → Item Header
+  header7 v c n issued signed definition at = next (last at s) (header8 v c n issued signed definition)
+
+  header6 : Version → List ℕ → Names → Date → Date → ℕ → Item Header
+  header6 v c n issued signed at = next (last at s) (header7 v c n issued signed)
+
+  header5 : Version → List ℕ → Names → Date → ℕ → Item Header
+  header5 v c n issued at = next (date at s) (header6 v c n issued)
+
+  header4 : Version → List ℕ → Names → ℕ → Item Header
+  header4 v c n at = next (date at s) (header5 v c n)
+
+  header3 : Version → List ℕ → ℕ → Item Header
+  header3 v c at = next (names v at s) (header4 v c)
+
+  header2 : Version → ℕ → Item Header
+  header2 v at = next (country at s) (header3 v)
+
+  header1 : Unit {0} → ℕ → Item Header
+  header1 dc at = next (version at s) header2
+
+  dated-step : (v : Version) (c : List ℕ) (n : Names) (at : ℕ) → next (dated at s) (with-dated (record { version = edition v; country = c; names = measured n })) ≡ next (date at s) (header5 v c n)
+  unfolding dated dated1 dated2 dated3 dated4 header5 header6 header7 header8
+  dated-step v c n at =
+      let k = with-dated (record { version = edition v; country = c; names = measured n }) in
+      next-next (date at s) dated1 k
+      ∙ next-same (date at s) (λ i at. next (dated1 i at) k) (header5 v c n)
+      (λ i at. next-next (date at s) (dated2 i) k
+      ∙ next-same (date at s) (λ g at. next (dated2 i g at) k) (header6 v c n i)
+      (λ g at. next-next (last at s) (dated3 i g) k
+      ∙ next-same (last at s) (λ d at. next (dated3 i g d at) k) (header7 v c n i g)
+      (λ d at. next-next (last at s) (dated4 i g d) k
+      ∙ next-same (last at s) (λ e at. next (dated4 i g d e at) k) (header8 v c n i g d)
+      (λ e at. ap (λ w. is (record { version = w; country = c; signer = n .signer; reference = n .reference; issued = i; signed = g; definition = d; category = e }) at) (version-back v)))))
+
+  header-split : next (fields s) then-dated ≡ header s
+  unfolding header fields header1 header2 header3 header4 header5 header6 header7 header8 fields1 fields2 fields3 fields4
+  header-split =
+      let k = then-dated in
+      next-next (mark 0 s) fields1 k
+      ∙ next-same (mark 0 s) (λ dc at. next (fields1 dc at) k) header1
+      (λ dc at. next-next (version at s) fields2 k
+      ∙ next-same (version at s) (λ v at. next (fields2 v at) k) header2
+      (λ v at. next-next (country at s) (fields3 v) k
+      ∙ next-same (country at s) (λ c at. next (fields3 v c at) k) (header3 v)
+      (λ c at. next-next (names v at s) (fields4 v c) k
+      ∙ next-same (names v at s) (λ n at. next (fields4 v c n at) k) (header4 v c)
+      (λ n at. dated-step v c n at))))
+
+-- the fields that were read have their version as 3 or 4, and the reference's length beside it
+abbrev pub Known : Fields → Type 0
+Known f = (f .version ≡ edition (versionOf (f .version))) × (f .names .length ≡ length (f .names .names .reference))
+
+holds : {A B : Type 0} (P : B → Type 0) (i : Item A) (k : A → ℕ → Item B) → ((a : A) (at : ℕ) (b : B) (p : ℕ) → is b p ≡ k a at → P b) → (b : B) (p : ℕ) → is b p ≡ next i k → P b
+holds P (is a at) k each b p e = each a at b p e
+holds P (not number place) k each b p e = absurd (unread number place b p (sym e))
+
+abbrev pub fieldsOf : Fields → Item Fields → Fields
+fieldsOf d (is f at) = f
+fieldsOf d (not number place) = d
+
+pub fields-known : (s : List ℕ) (f : Fields) (at : ℕ) → is f at ≡ fields s → Known f
+unfolding fields fields1 fields2 fields3 fields4
+fields-known s =
+    holds Known (mark 0 s) (fields1 s)
+    (λ dc p0. holds Known (version p0 s) (fields2 s)
+    (λ v p1. holds Known (country p1 s) (fields3 s v)
+    (λ c p2. holds Known (names v p2 s) (fields4 s v c)
+    (λ n p3 f at e.
+    subst Known (sym (ap (fieldsOf f) e)) (ap edition (sym (version-back v)), refl)))))
+
+-- rows that were counted
+pub record Counted (i : Item (List Row)) (count end : ℕ) : Type 0 where
+  pub rows : List Row
+  pub read : is rows end ≡ i
+  pub counts : count ≡ length rows
+
+abbrev placeOf : {A : Type 0} → Item A → ℕ
+placeOf (is a at) = at
+placeOf (not number place) = place
+
+abbrev valueOf : {A : Type 0} → A → Item A → A
+valueOf d (is a at) = a
+valueOf d (not number place) = d
+
+abbrev numberOf : {A : Type 0} → Item A → ℕ
+numberOf (is a at) = 0
+numberOf (not number place) = number
+
+pub counted : (i : Item (List Row)) (count end : ℕ) → is count end ≡ through length i → Counted i count end
+counted (is rows p) count end e = record { rows = rows; read = ap (is rows) (ap placeOf e); counts = ap (valueOf 0) e }
+counted (not number place) count end e = absurd (unread number place count end (sym e))
+
+pub uncounted : (i : Item (List Row)) (number place : ℕ) → not number place ≡ through length i → not number place ≡ i
+uncounted (is rows p) number place e = absurd (unread number place (length rows) p e)
+uncounted (not n p) number place e = ap₂ not (ap numberOf e) (ap placeOf e)
+
+-- the verdict
+pub judge-long : (s : List ℕ) → 4096 < length s → judge s ≡ refused 1 4096
+unfolding judge
+judge-long s h = ap (λ b. pick b (refused 1 4096) (verdict (reading s))) (lt-ltb 4096 (length s) h)
+
+module _ (s : List ℕ) (short : length s ≤ 4096) where
+  judge-reading : judge s ≡ verdict (reading s)
+  unfolding judge
+  judge-reading = ap (λ b. pick b (refused 1 4096) (verdict (reading s))) (le-ltb 4096 (length s) short)
+
+  pub judge-fields : (number place : ℕ) → not number place ≡ fields s → judge s ≡ refused number place
+  unfolding reading
+  judge-fields number place e =
+      let h : header s ≡ not number place = sym (header-split s) ∙ ap (λ i. next i (then-dated s)) (sym e) in
+      judge-reading ∙ rw h refl
+
+  module _ (f : Fields) (p0 : ℕ) (e0 : is f p0 ≡ fields s) where
+    dated-next : header s ≡ next (dated p0 s) (with-dated s f)
+    dated-next = sym (header-split s) ∙ ap (λ i. next i (then-dated s)) (sym e0)
+
+    pub judge-dated : (number place : ℕ) → not number place ≡ dated p0 s → judge s ≡ refused number place
+    unfolding reading
+    judge-dated number place e =
+        let h : header s ≡ not number place = dated-next ∙ ap (λ i. next i (with-dated s f)) (sym e) in
+        judge-reading ∙ rw h refl
+
+    module _ (d : Dated) (p1 : ℕ) (e1 : is d p1 ≡ dated p0 s) where
+      header-is : header s ≡ is (headerOf f d) p1
+      header-is = dated-next ∙ ap (λ i. next i (with-dated s f)) (sym e1)
+
+      pub judge-features : (number place : ℕ) → not number place ≡ features 256 (versionOf (f .version)) [] p1 s → judge s ≡ refused number place
+      unfolding reading
+      judge-features number place e = judge-reading ∙ rw (header-is, sym e) refl
+
+      module _ (rows : List Row) (p2 : ℕ) (e2 : is rows p2 ≡ features 256 (versionOf (f .version)) [] p1 s) where
+        pub judge-signature : (number place : ℕ) → not number place ≡ signature (p2 + 1) s → judge s ≡ refused number place
+        unfolding reading
+        judge-signature number place e = judge-reading ∙ rw (header-is, sym e2, sym e) refl
+
+        pub judge-accepted : (n start : ℕ) → is n start ≡ signature (p2 + 1) s → judge s ≡ accepted (record { header = headerOf f d; rows = rows; header-end = p1; message-end = p2; seal-end = length s; signature-place = start; signature-size = n })
+        unfolding reading
+        judge-accepted n start e = judge-reading ∙ rw (header-is, sym e2, sym e) refl

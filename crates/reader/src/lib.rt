@@ -1,0 +1,185 @@
+// The reader (document 01): the verdict on every byte string, and for a good seal what it says.
+ghost use mathlib.Core.Path.{_≡_};
+ghost use lib.ListN.{length};
+ghost use Rattle.reader.specs.Judge.{judge as verdict, refused as refusedBy};
+ghost use Rattle.reader.specs.Calls.{answerOf, reading, rowsIn, textIn, then, Named};
+
+mod features;
+mod fields;
+mod signature;
+
+use dates::Date;
+use features::Features;
+use fields::Front;
+use fields::Rest;
+use items::Cursor;
+use items::Refusal;
+use signature::Signature;
+
+// The header of a seal: version 3 or 4, the country with fillers as `<`, and the reference's length L.
+pub struct Header {
+    pub version: usize,
+    pub country: [u8; 3],
+    pub length: usize,
+    pub issued: Date,
+    pub signed: Date,
+    pub definition: usize,
+    pub category: usize,
+}
+
+// The ends of the three zones, each one past the zone's last byte.
+pub struct Ends {
+    pub header: usize,
+    pub message: usize,
+    pub seal: usize,
+}
+
+// A part of the seal.
+pub struct Part {
+    pub place: usize,
+    pub length: usize,
+}
+
+// What a reading answers: the number and its place, and on 0 the header, the zone ends, the raw signature's part and the count of features. On any other
+// number every other field is 0.
+pub struct Reading {
+    pub number: usize,
+    pub place: usize,
+    pub header: Header,
+    pub ends: Ends,
+    pub signature: Part,
+    pub count: usize,
+}
+
+// A refusal: nothing but its number and place.
+fn refused(why: Refusal) -> Reading
+    ensures { λ r. ⌜ r ≡ answerOf (refusedBy (why .number) (why .place)) ⌝ }
+{
+    let none = Date {
+        month: 0,
+        day: 0,
+        year: 0,
+    };
+    let header = Header {
+        version: 0,
+        country: [0, 0, 0],
+        length: 0,
+        issued: none,
+        signed: none,
+        definition: 0,
+        category: 0,
+    };
+    Reading {
+        number: why.number,
+        place: why.place,
+        header,
+        ends: Ends {
+            header: 0,
+            message: 0,
+            seal: 0,
+        },
+        signature: Part {
+            place: 0,
+            length: 0,
+        },
+        count: 0,
+    }
+}
+
+// The verdict; on 0 signer and reference stand at the start of `names`.
+fn judge_names(seal: &[u8], names: &mut [u8; 259]) -> Reading
+    ensures answer { λ r. ⌜ r ≡ answerOf (verdict (now (seal .entry))) ⌝ }
+    ensures text { λ r. ⌜ Named (verdict (now (seal .entry))) (now (names .exit)) ⌝ }
+{
+    if 4096 < seal.len() {
+        return refused(Refusal {
+            number: 1,
+            place: 4096,
+        });
+    }
+    let mut country = [0u8; 3];
+    let front = fields::read_front(seal, &mut country, names);
+    let Front::Is(version, length, at) = front else {
+        return refused(front.why());
+    };
+    let rest = fields::read_rest(at, seal);
+    let Rest::Is(issued, signed, definition, category, message) = rest else {
+        return refused(rest.why());
+    };
+    let features = features::read_features(message, seal, version);
+    let Features::Are(count, mark) = features else {
+        return refused(features.why());
+    };
+    let after = Cursor {
+        place: mark.place + 1,
+    };
+    let signature = signature::read_signature(after, seal);
+    let Signature::Is(size, start) = signature else {
+        return refused(signature.why());
+    };
+    let header = Header {
+        version,
+        country,
+        length,
+        issued,
+        signed,
+        definition,
+        category,
+    };
+    Reading {
+        number: 0,
+        place: 0,
+        header,
+        ends: Ends {
+            header: message.place,
+            message: mark.place,
+            seal: seal.len(),
+        },
+        signature: Part {
+            place: start.place,
+            length: size,
+        },
+        count,
+    }
+}
+
+// The verdict on every byte string.
+pub fn judge(seal: &[u8]) -> Reading
+    ensures { λ r. ⌜ r ≡ answerOf (verdict (now (seal .entry))) ⌝ }
+{
+    let mut names = [0u8; 259];
+    judge_names(seal, &mut names)
+}
+
+// Reads a seal: on 0 a row for each feature stands in `table`, and signer and reference in `text`; on any other number both stay.
+pub fn read(seal: &[u8], table: &mut [usize], text: &mut [u8]) -> Reading
+    ensures answer { λ r. ⌜ r ≡ answerOf (reading (now (seal .entry)) (length (now (table .entry))) (length (now (text .entry)))) ⌝ }
+    ensures rows { λ r. ⌜ now (table .exit) ≡ then (rowsIn (reading (now (seal .entry)) (length (now (table .entry))) (length (now (text .entry))))) (now (table .entry)) ⌝ }
+    ensures names { λ r. ⌜ now (text .exit) ≡ then (textIn (reading (now (seal .entry)) (length (now (table .entry))) (length (now (text .entry))))) (now (text .entry)) ⌝ }
+{
+    let mut names = [0u8; 259];
+    let reading = judge_names(seal, &mut names);
+    if reading.number != 0 {
+        return reading;
+    }
+    let header = reading.header;
+    let size = 4 + header.length;
+    let count = reading.count;
+    if table.len() < 3 * count {
+        return refused(Refusal {
+            number: 12,
+            place: 0,
+        });
+    }
+    if text.len() < size {
+        return refused(Refusal {
+            number: 12,
+            place: 0,
+        });
+    }
+    let ends = reading.ends;
+    let start = Cursor { place: ends.header };
+    features::put_rows(start, seal, header.version, count, table);
+    octets::copy(&names[..size], text, 0);
+    reading
+}
