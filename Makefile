@@ -25,6 +25,7 @@ vectors:
 	@python3 vectors/c40_cases.py crates/vectors_c40
 	@python3 vectors/der_cases.py crates/vectors_numbers numbers
 	@python3 vectors/der_cases.py crates/vectors_signatures signatures
+	@python3 -B vectors/seal_cases.py crates/vectors_seals
 
 clean:
 	@rm -rf target
