@@ -9,4 +9,16 @@ pub use cursor::Number;
 pub use cursor::Refusal;
 pub use cursor::Step;
 pub use cursor::Whole;
+use dates::Date;
 pub use names::Names;
+
+// The header of a seal, as the reader gives it and the writer takes it: version 3 or 4, the country with fillers as `<`, and the reference's length L.
+pub struct Header {
+    pub version: usize,
+    pub country: [u8; 3],
+    pub length: usize,
+    pub issued: Date,
+    pub signed: Date,
+    pub definition: usize,
+    pub category: usize,
+}

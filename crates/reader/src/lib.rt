@@ -13,19 +13,9 @@ use features::Features;
 use fields::Front;
 use fields::Rest;
 use items::Cursor;
+pub use items::Header;
 use items::Refusal;
 use signature::Signature;
-
-// The header of a seal: version 3 or 4, the country with fillers as `<`, and the reference's length L.
-pub struct Header {
-    pub version: usize,
-    pub country: [u8; 3],
-    pub length: usize,
-    pub issued: Date,
-    pub signed: Date,
-    pub definition: usize,
-    pub category: usize,
-}
 
 // The ends of the three zones, each one past the zone's last byte.
 pub struct Ends {
