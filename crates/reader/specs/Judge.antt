@@ -4,6 +4,7 @@ pub mod Complete
 pub mod Numbers
 pub mod Features
 pub mod Sound
+pub mod Seals
 use mathlib.Core.Bool.{Bool, false}
 use Prim.Native.Nat.{ℕ, zero, suc, _+_}
 use mathlib.Core.List.{List, [], _∷_, _++_}

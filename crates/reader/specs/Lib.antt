@@ -2,5 +2,7 @@ pub mod Judge
 pub mod Report
 pub mod Steps
 pub mod Calls
+pub mod Answer
 pub mod Pins
+pub mod Witnesses
 pub mod Theorems

@@ -1,42 +1,81 @@
--- What is proved of the verdict, named after the tender's sentences (condition 3).
+-- What is proved of the reader, named after the tender's sentences (conditions 1 and 3).
 -- Assumes nothing.
-use mathlib.Core.Path.{_≡_, ap, sym, _∙_}
-use Prim.Native.Nat.{ℕ}
-use mathlib.Core.List.{List}
+use mathlib.Core.Path.{_≡_, refl, ap, sym, _∙_}
+use Prim.Native.Nat.{ℕ, suc, _+_, _*_, _≤_, _<_}
+use native.Mathlib.Omega.{arith}
+use mathlib.Core.List.{List, [], _++_}
+use lib.ListN.{length, take}
 use Rattle.format.specs.Bytes.{Bytes}
+use Rattle.format.specs.Cut.{counted}
+use Rattle.der.specs.Length.{form}
 use Rattle.grammar.specs.Content.{Content}
-use Rattle.grammar.specs.Publish.{publish}
+use Rattle.grammar.specs.Publish.{headerZone, messageZone, signatureZone, signedBytes, publish}
 use Rattle.grammar.specs.Legal.{Legal}
-use Rattle.reader.specs.Judge.{Report, Verdict, accepted, refused, judge}
-use Rattle.reader.specs.Judge.Complete.{reportOf, published-accepted}
-use Rattle.reader.specs.Judge.Sound.{accepted-published}
-use Rattle.reader.specs.Report.{contentOf}
-use Rattle.reader.specs.Report.Laws.{reported}
+use Rattle.grammar.specs.Theorems.{one-content, no-front-part, zones-add-up, signed-front}
+use Rattle.reader.specs.Judge.{Report, accepted, refused, judge}
+use Rattle.reader.specs.Judge.Numbers.{from-list}
+use Rattle.reader.specs.Judge.Complete.{reportOf}
+use Rattle.reader.specs.Judge.Seals.{accepted-only}
+use Rattle.reader.specs.Calls.{answerOf, table, text, reading, rowsIn, textIn, then}
+use Rattle.reader.specs.Calls.Given.{room-enough, given-accepted, given-listed}
+use Rattle.reader.specs.Answer.{contentIn}
+use Rattle.reader.specs.Answer.Laws.{held}
 
--- "accepted exactly when it is the published form of a legal content": a published form is accepted
-pub accepted-when : (c : Content) → Legal c → judge (publish c) ≡ accepted (reportOf c)
-accepted-when c l = published-accepted c l
+-- Condition 1: "answers from the numbered list": 0 to 12, for every seal, table and text
+pub listed : (s : List ℕ) (numbers room : ℕ) → answerOf (reading s numbers room) .number ≤ 12
+listed s numbers room = given-listed (judge s) numbers room (from-list s)
 
--- and what is accepted is one; the report is then that content's, and turned back it is that content
-pub record Seal (s : List ℕ) (r : Report) : Type 0 where
+-- "A refusal ... changes nothing in the buffers we lent"
+pub refusal-keeps : (s : List ℕ) (rows names : List ℕ) (number place : ℕ) → reading s (length rows) (length names) ≡ refused number place → (then (rowsIn (reading s (length rows) (length names))) rows ≡ rows) × (then (textIn (reading s (length rows) (length names))) names ≡ names)
+refusal-keeps s rows names number place e = (ap (λ v. then (rowsIn v) rows) e, ap (λ v. then (textIn v) names) e)
+
+-- Condition 3: "Given room for the answer, a byte string is accepted exactly when it is the published form of a legal content": a published form is accepted
+pub accepted-when : (c : Content) → Legal c → (numbers room : ℕ) → 3 * length (c .features) ≤ numbers → 4 + length (c .header .reference) ≤ room → reading (publish c) numbers room ≡ accepted (reportOf c)
+accepted-when c l numbers room rows names = room-enough c l numbers room rows names
+
+-- and what is accepted is one: "That content is then the only one, and it is what the reader reports", in the answer, the table and the text that the caller holds
+pub record Reported (s rows names : List ℕ) (r : Report) : Type 0 where
   pub content : Content
   pub legal : Legal content
   pub form-is : publish content ≡ s
-  pub report-is : r ≡ reportOf content
-  pub reports : contentOf s r ≡ content
+  pub only : (other : Content) → Legal other → publish other ≡ s → other ≡ content
+  pub reports : contentIn s (answerOf (accepted r)) (then (table (r .rows)) rows) (then (text r) names) ≡ content
+  -- the zones lie one after another, and the signed bytes are the front part up to the message's end
+  pub ends : (r .header-end ≤ r .message-end) × ((r .message-end < r .seal-end) × (r .seal-end ≡ length s))
+  pub signed : take (r .message-end) s ≡ signedBytes content
 
-abbrev reportIn : Report → Verdict → Report
-reportIn q (accepted r) = r
-reportIn q (refused number place) = q
-
-pub accepted-only : (s : List ℕ) → Bytes s → (r : Report) → judge s ≡ accepted r → Seal s r
-accepted-only s bytes r e =
-    let p = accepted-published s bytes r e in
-    let same : r ≡ reportOf (p .content) = ap (reportIn r) (sym e ∙ ap judge (sym (p .form-is)) ∙ published-accepted (p .content) (p .legal)) in
+pub accepted-exactly : (s : List ℕ) → Bytes s → (rows names : List ℕ) (r : Report) → reading s (length rows) (length names) ≡ accepted r → Reported s rows names r
+unfolding reportOf signatureZone
+accepted-exactly s bytes rows names r e =
+    let j : judge s ≡ accepted r = given-accepted (judge s) (length rows) (length names) r e in
+    let seal = accepted-only s bytes r j in
+    let c = seal .content in
+    let l = seal .legal in
+    let same = seal .report-is in
+    let h = length (headerZone (c .header)) in
+    let m = length (messageZone (c .header .version) (c .features)) in
+    let header-end : r .header-end ≡ h = ap (λ z. z .header-end) same in
+    let message-end : r .message-end ≡ h + m = ap (λ z. z .message-end) same in
+    let seal-end : r .seal-end ≡ length (publish c) = ap (λ z. z .seal-end) same in
+    let mark : length (signatureZone (c .signature)) ≡ suc (length (counted form (c .signature))) = refl in
+    let long : length (r .header .signer) ≡ 4 = ap (λ z. length (z .header .signer)) same ∙ l .header .signer .size in
     record {
-      content = p .content;
-      legal = p .legal;
-      form-is = p .form-is;
-      report-is = same;
-      reports = ap (λ u. contentOf s u) same ∙ ap (λ u. contentOf u (reportOf (p .content))) (sym (p .form-is)) ∙ reported (p .content);
+      content = c;
+      legal = l;
+      form-is = seal .form-is;
+      only = λ other lo form. one-content other c lo l (form ∙ sym (seal .form-is));
+      reports = held s r rows names long ∙ seal .reports;
+      ends = (omega (arith, header-end, message-end), (omega (arith, message-end, seal-end, zones-add-up c, mark), seal-end ∙ ap length (seal .form-is)));
+      signed = ap (λ z. take (z .message-end) s) same ∙ ap (take (h + m)) (sym (seal .form-is)) ∙ signed-front c;
     }
+
+-- "No accepted seal is the front part of a longer accepted one"
+pub no-front : (s t : List ℕ) → Bytes (s ++ t) → Bytes s → (r q : Report) → judge s ≡ accepted r → judge (s ++ t) ≡ accepted q → t ≡ []
+no-front s t more bytes r q e f =
+    let a = accepted-only s bytes r e in
+    let b = accepted-only (s ++ t) more q f in
+    no-front-part (a .content) (b .content) t (a .legal) (b .legal) (ap (λ u. u ++ t) (a .form-is) ∙ sym (b .form-is)) .1
+
+-- A reading never depends on what the lent memory held: with as much room, the answer and what is written are the same
+pub same-answer : (s rows names rows′ names′ : List ℕ) → length rows ≡ length rows′ → length names ≡ length names′ → reading s (length rows) (length names) ≡ reading s (length rows′) (length names′)
+same-answer s rows names rows′ names′ e f = ap (λ n. reading s n (length names)) e ∙ ap (reading s (length rows′)) f

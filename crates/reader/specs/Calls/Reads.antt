@@ -27,7 +27,7 @@ use Rattle.reader.specs.Judge.Sound.{verdict-read, unaccepted}
 use Rattle.reader.specs.Steps.Rows.{rowsAt, rowsRead, AreRead}
 use Rattle.reader.specs.Steps.RowsLaws.{rows-there, rows-are}
 use Rattle.reader.specs.Calls.{answerOf, table, text, given, reading, rowsIn, textIn, then, Named}
-use Rattle.reader.specs.Theorems.{accepted-only}
+use Rattle.reader.specs.Judge.Seals.{accepted-only}
 use Rattle.reader.specs.declared.Reading.{Reading}
 
 -- what is promised of the answer, the table and the text
@@ -83,7 +83,7 @@ reference-most : (v : Version) (n : ℕ) → ReferenceSize v n → n ≤ 255
 reference-most three n h = omega arith
 reference-most four n h = h .1
 
-rows-many : (v : Version) (at : ℕ) (fs : List Feature) → length (rowsOf v at fs) ≡ length fs
+pub rows-many : (v : Version) (at : ℕ) (fs : List Feature) → length (rowsOf v at fs) ≡ length fs
 unfolding rowsOf
 rows-many v at [] = refl
 rows-many v at (f ∷ fs) =

@@ -1,0 +1,40 @@
+-- What a caller holds is what is reported.
+-- Assumes nothing.
+use mathlib.Core.Path.{_≡_, refl, ap, _∙_}
+use Prim.Native.Nat.{ℕ}
+use mathlib.Core.List.{List, [], _∷_, _++_, append-assoc, map}
+use lib.ListN.{length, take, drop}
+use lib.Seq.{take-at, drop-at}
+use Rattle.grammar.specs.Content.{Version, three, four}
+use Rattle.items.specs.Cases.{edition, versionOf}
+use Rattle.reader.specs.Judge.{Row, Report, accepted}
+use Rattle.reader.specs.Report.{contentOf, featureOf}
+use Rattle.reader.specs.Calls.{answerOf, table, text, then}
+use Rattle.reader.specs.Answer.{rowsOf, contentIn}
+
+version-back : (v : Version) → versionOf (edition v) ≡ v
+version-back three = refl
+version-back four = refl
+
+rows-back : (rows : List Row) (t : List ℕ) → rowsOf (length rows) (table rows ++ t) ≡ rows
+unfolding rowsOf table
+rows-back [] t = refl
+rows-back (r ∷ rows) t = let ih = rows-back rows t in ap (λ u. r ∷ u) ih
+
+-- given that the signer has four characters
+pub held : (s : List ℕ) (r : Report) (numbers bytes : List ℕ) → length (r .header .signer) ≡ 4 → contentIn s (answerOf (accepted r)) (then (table (r .rows)) numbers) (then (text r) bytes) ≡ contentOf s r
+unfolding contentIn contentOf
+held s r numbers bytes four-long =
+    let h = r .header in
+    let rest = drop (length (text r)) bytes in
+    let parts : then (text r) bytes ≡ h .signer ++ (h .reference ++ rest) = append-assoc (h .signer) (h .reference) rest in
+    let signer : take 4 (then (text r) bytes) ≡ h .signer = ap (take 4) parts ∙ take-at (h .signer) (h .reference ++ rest) 4 four-long in
+    let reference : take (length (h .reference)) (drop 4 (then (text r) bytes)) ≡ h .reference =
+    ap (λ u. take (length (h .reference)) (drop 4 u)) parts ∙ ap (take (length (h .reference))) (drop-at (h .signer) (h .reference ++ rest) 4 four-long)
+    ∙ take-at (h .reference) rest (length (h .reference)) refl in
+    let rows : rowsOf (length (r .rows)) (then (table (r .rows)) numbers) ≡ r .rows = rows-back (r .rows) (drop (length (table (r .rows))) numbers) in
+    λ i. record {
+      header = record { version = version-back (h .version) i; country = h .country; signer = signer i; reference = reference i; issued = h .issued; signed = h .signed; definition = h .definition; category = h .category };
+      features = map (featureOf s) (rows i);
+      signature = contentOf s r .signature;
+    }
