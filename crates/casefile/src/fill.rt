@@ -4,11 +4,11 @@ ghost use mathlib.Core.List.{_++_};
 ghost use lib.ListN.{replicate};
 ghost use Rattle.casefile.specs.Line.{Put, decimalOf};
 ghost use Rattle.casefile.specs.Fill.{keptWords, writtenWords, filledLine};
-use crate::line::put;
 use crate::line::put_bytes;
-use crate::line::put_number;
-use crate::line::put_text;
 use crate::line::unchanged;
+use lines::put;
+use lines::put_number;
+use lines::put_text;
 
 // What every byte of the buffer is before the call.
 const FILLING: u8 = 0x5A;

@@ -4,7 +4,7 @@ ghost use Prim.Native.Nat.{_-_};
 ghost use lib.ListN.{getD};
 ghost use Rattle.casefile.specs.Line.{Put, Counts};
 ghost use Rattle.casefile.specs.Scan.{LineEnd, Numeral, numberAt, numberEnd, HexDigit, pairsAt, pairsEnd, times, runAt, runEnd, runsAt};
-use crate::line::put;
+use lines::put;
 use octets::wide;
 
 // A decimal number, and the place after its last digit.

@@ -1,4 +1,4 @@
--- `casefile::line::put_text` meets its contract. The loop's invariant: the text up to `i` is put down.
+-- `lines::put_text` meets its contract. The loop's invariant: the text up to `i` is put down.
 -- Assumes nothing.
 use borrow.Author.Needs.{needs}
 use native.Mathlib.Omega.{arith}
@@ -7,10 +7,10 @@ use Prim.Native.Nat.{_-_, _≤_}
 use denote.Ref.{now}
 use lib.ListN.{length, take}
 use lib.Seq.{take-all}
-use Rattle.casefile.specs.Line.{Put}
-use Rattle.casefile.specs.Line.Laws.{put-none, text-turn}
-use Rattle.casefile.proofs.line.put_text.Statement.{statement}
-use Rattle.casefile.proofs.line.put_text.Tie as tie
+use Rattle.lines.specs.Line.{Put}
+use Rattle.lines.specs.Line.Laws.{put-none, text-turn}
+use Rattle.lines.proofs.put_text.Statement.{statement}
+use Rattle.lines.proofs.put_text.Tie as tie
 
 abbrev Inv-loop : tie.InvT-loop
 Inv-loop out₀ at text o₀ i₀ out o i = (i ≤ length text) × (length out ≡ length out₀) × Put out₀ at (take i text) out o

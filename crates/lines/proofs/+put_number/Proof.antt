@@ -1,20 +1,20 @@
--- `casefile::line::put_number`, which calls itself, meets its contract. The measure is the number.
+-- `lines::put_number`, which calls itself, meets its contract. The measure is the number.
 -- Assumes nothing.
 use borrow.Author.Needs.{needs}
 use native.Mathlib.Omega.{arith}
 use mathlib.Core.Path.{_∙_}
 use Prim.Native.Nat.{ℕ, _+_, _/_, _%_, _<_}
 use mathlib.Core.List.{[], _∷_}
-use Rattle.casefile.specs.Line.{decimalOf}
-use Rattle.casefile.specs.Line.Laws.{put-more, decimal-one, decimal-more}
+use Rattle.lines.specs.Line.{decimalOf}
+use Rattle.lines.specs.Line.Laws.{put-more, decimal-one, decimal-more}
 use borrow.Fn.Kinds.{In}
 use borrow.Fn.PlainCycle.{Measures, is, falls, and}
-use Rattle.casefile.proofs.line.put_number.Reads as put-number
-use Rattle.casefile.proofs.line.put_number.Kinds as put-number-kinds
-use Rattle.casefile.proofs.line.+put_number.Lts-put_number as put-number-lts
-use Rattle.casefile.proofs.line.put.Reads as put-reads
-use Rattle.casefile.proofs.line.+put_number.{statement}
-use Rattle.casefile.proofs.line.+put_number.Tie.{close}
+use Rattle.lines.proofs.put_number.Reads as put-number
+use Rattle.lines.proofs.put_number.Kinds as put-number-kinds
+use Rattle.lines.proofs.+put_number.Lts-put_number as put-number-lts
+use Rattle.lines.proofs.put.Reads as put-reads
+use Rattle.lines.proofs.+put_number.{statement}
+use Rattle.lines.proofs.+put_number.Tie.{close}
 
 abbrev μ-put-number : Measures 1 put-number-kinds.ps ℕ
 μ-put-number κs a = a .1 .1 .0

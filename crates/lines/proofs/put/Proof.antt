@@ -1,9 +1,9 @@
--- `casefile::line::put` meets its contract: there is room for the byte, or there is none.
+-- `lines::put` meets its contract: there is room for the byte, or there is none.
 -- Assumes nothing.
 use borrow.Author.Needs.{needs}
-use Rattle.casefile.specs.Line.Laws.{put-one, put-full}
-use Rattle.casefile.proofs.line.put.Statement.{statement}
-use Rattle.casefile.proofs.line.put.Tie as tie
+use Rattle.lines.specs.Line.Laws.{put-one, put-full}
+use Rattle.lines.proofs.put.Statement.{statement}
+use Rattle.lines.proofs.put.Tie as tie
 
 slice-write-out : tie.Need-slice-write-out
 slice-write-out c = search needs

@@ -1,0 +1,3 @@
+-- What the contracts of lines cite: text put into a buffer.
+-- Assumes nothing.
+pub mod Line

@@ -1,0 +1,3 @@
+-- What the contracts of the listing program cite.
+-- Assumes nothing.
+pub mod Input

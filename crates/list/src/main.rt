@@ -1,0 +1,50 @@
+// The listing program (document 01, "A whole seal and its listing"): a seal on standard input, its listing on standard output.
+ghost use Rattle.list.specs.Input.{Given};
+use libc::STDERR_FILENO;
+use libc::STDIN_FILENO;
+use libc::STDOUT_FILENO;
+
+// What standard input gave.
+enum Input {
+    // so many bytes, at the start of the buffer
+    Bytes(usize),
+    // a read failed
+    Failed,
+}
+
+// Reads standard input until it ends or the buffer is full.
+fn read_input(buffer: &mut [u8]) -> Input
+    ensures { λ r. ⌜ Given r (now (buffer .exit)) ⌝ }
+{
+    let mut n: usize = 0;
+    while n < buffer.len() {
+        let got = libc::read(STDIN_FILENO, &mut buffer[n..]);
+        if got < 0 {
+            return Input::Failed;
+        }
+        let more = io::count(got, &buffer[n..]);
+        if more == 0 {
+            return Input::Bytes(n);
+        }
+        n += more;
+    }
+    Input::Bytes(n)
+}
+
+// One byte more than the longest seal is read, so that a longer one is refused; table and text have room for every seal.
+fn main() {
+    let mut seal = [0u8; 4097];
+    let input = read_input(&mut seal);
+    let Input::Bytes(size) = input else {
+        io::write_all(STDERR_FILENO, b"list: standard input cannot be read\n");
+        return;
+    };
+    let mut table = [0usize; 765];
+    let mut text = [0u8; 259];
+    let reading = reader::read(&seal[..size], &mut table, &mut text);
+    let mut out = [0u8; 32768];
+    let count = listing::put_listing(reading, &table, &text, &mut out);
+    if !io::write_all(STDOUT_FILENO, &out[..count]) {
+        io::write_all(STDERR_FILENO, b"list: standard output cannot be written\n");
+    }
+}
