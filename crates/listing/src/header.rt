@@ -7,7 +7,7 @@ use crate::words::put_named;
 use reader::Header;
 
 // Version, country, signer and reference; `text` has the signer in its first four bytes, and then the reference.
-pub fn put_names(out: &mut [u8], at: usize, header: Header, text: &[u8]) -> usize
+pub(crate) fn put_names(out: &mut [u8], at: usize, header: Header, text: &[u8]) -> usize
     ensures { λ r. ⌜ Put (now (out .entry)) at (nameLines header (now (text .entry))) (now (out .exit)) r ⌝ }
 {
     let country = header.country;
@@ -18,7 +18,7 @@ pub fn put_names(out: &mut [u8], at: usize, header: Header, text: &[u8]) -> usiz
 }
 
 // Both dates, definition reference and category.
-pub fn put_dates(out: &mut [u8], at: usize, header: Header) -> usize
+pub(crate) fn put_dates(out: &mut [u8], at: usize, header: Header) -> usize
     ensures { λ r. ⌜ Put (now (out .entry)) at (dateLines header) (now (out .exit)) r ⌝ }
 {
     let mut o = put_day(out, at, b"issued ", header.issued);

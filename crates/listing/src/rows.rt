@@ -26,7 +26,7 @@ fn put_feature(out: &mut [u8], at: usize, tag: usize, place: usize, length: usiz
 }
 
 // Puts down a line for each of `count` rows, as far as the table has them.
-pub fn put_features(out: &mut [u8], at: usize, count: usize, table: &[usize]) -> usize
+pub(crate) fn put_features(out: &mut [u8], at: usize, count: usize, table: &[usize]) -> usize
     ensures { λ r. ⌜ Put (now (out .entry)) at (features count (now (table .entry))) (now (out .exit)) r ⌝ }
 {
     let rows = table.len() / 3;
@@ -43,7 +43,7 @@ pub fn put_features(out: &mut [u8], at: usize, count: usize, table: &[usize]) ->
 }
 
 // Puts down the line of the signature.
-pub fn put_signature(out: &mut [u8], at: usize, place: usize, length: usize) -> usize
+pub(crate) fn put_signature(out: &mut [u8], at: usize, place: usize, length: usize) -> usize
     ensures { λ r. ⌜ Put (now (out .entry)) at (line "signature" (part place length)) (now (out .exit)) r ⌝ }
 {
     let mut o = put_text(out, at, b"signature");

@@ -8,7 +8,7 @@ use lines::put_number;
 use lines::put_text;
 
 // Puts down a line of a name and `size` bytes of `text` from a place on, as far as they are there.
-pub fn put_named(
+pub(crate) fn put_named(
     out: &mut [u8],
     at: usize,
     name: &[u8],
@@ -39,7 +39,7 @@ fn put_some(out: &mut [u8], at: usize, text: &[u8], from: usize, size: usize) ->
 }
 
 // Puts down a line of a name and a number.
-pub fn put_counted(out: &mut [u8], at: usize, name: &[u8], n: usize) -> usize
+pub(crate) fn put_counted(out: &mut [u8], at: usize, name: &[u8], n: usize) -> usize
     ensures { λ r. ⌜ Put (now (out .entry)) at (lineOf (now (name .entry)) (decimalOf n)) (now (out .exit)) r ⌝ }
 {
     let mut o = put_text(out, at, name);
@@ -86,7 +86,7 @@ fn put_date(out: &mut [u8], at: usize, date: Date) -> usize
 }
 
 // Puts down a line of a name and a date.
-pub fn put_day(out: &mut [u8], at: usize, name: &[u8], date: Date) -> usize
+pub(crate) fn put_day(out: &mut [u8], at: usize, name: &[u8], date: Date) -> usize
     ensures { λ r. ⌜ Put (now (out .entry)) at (lineOf (now (name .entry)) (day date)) (now (out .exit)) r ⌝ }
 {
     let mut o = put_text(out, at, name);

@@ -18,10 +18,10 @@ use Rattle.dates.specs.Days.{isDay, dateOf}
 use Rattle.format.specs.Answers.{Given, given, refusal}
 use Rattle.dates.specs.Calls.{no-date, fromNumber}
 use Rattle.der.specs.Length.{readLength}
-use Rattle.grammar.specs.Content.{three, four}
+use Rattle.grammar.specs.Content.{Version, three, four}
 use Rattle.items.specs.Items.{Item, is, not, whole, byte, mark, version, last, lastIn, date, dateIn, plainIn, derOf, derLength, markIn, versionIn}
 use Rattle.items.specs.Items.Laws.{whole-read, unread}
-use Rattle.items.specs.Cases.{through, edition, past}
+use Rattle.items.specs.Cases.{through, edition, past, versionOf}
 
 -- an item of k bytes that are not all there, or are
 pub whole-cut : {A : Type 0} (k at : ℕ) (s : List ℕ) (f : List ℕ → Item A) → length s < at + k → not 2 at ≡ whole k at s f
@@ -184,3 +184,8 @@ taken-none n e =
     by-test (isDay (dateOf n))
     (λ h. let z : _≡_ {A = ℕ} 6 0 = ap (λ g. g .number) (e ∙ ap (λ b. chosen b n) h) in absurd (omega arith))
     (λ h. h)
+
+-- a version as a number is that version again
+pub version-back : (v : Version) → versionOf (edition v) ≡ v
+version-back three = refl
+version-back four = refl

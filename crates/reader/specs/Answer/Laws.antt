@@ -5,16 +5,11 @@ use Prim.Native.Nat.{ℕ}
 use mathlib.Core.List.{List, [], _∷_, _++_, append-assoc, map}
 use lib.ListN.{length, take, drop}
 use lib.Seq.{take-at, drop-at}
-use Rattle.grammar.specs.Content.{Version, three, four}
-use Rattle.items.specs.Cases.{edition, versionOf}
+use Rattle.items.specs.Cases.Laws.{version-back}
 use Rattle.reader.specs.Judge.{Row, Report, accepted}
 use Rattle.reader.specs.Report.{contentOf, featureOf}
 use Rattle.reader.specs.Calls.{answerOf, table, text, then}
 use Rattle.reader.specs.Answer.{rowsOf, contentIn}
-
-version-back : (v : Version) → versionOf (edition v) ≡ v
-version-back three = refl
-version-back four = refl
 
 rows-back : (rows : List Row) (t : List ℕ) → rowsOf (length rows) (table rows ++ t) ≡ rows
 unfolding rowsOf table

@@ -18,7 +18,8 @@ use Rattle.grammar.specs.Legal.{ReferenceSize}
 use Rattle.grammar.specs.Sizes.{features-most}
 use Rattle.items.specs.Items.{is}
 use Rattle.items.specs.Items.Sound.{steps, same-value}
-use Rattle.items.specs.Cases.{edition, versionOf}
+use Rattle.items.specs.Cases.{versionOf}
+use Rattle.items.specs.Cases.Laws.{version-back}
 use Rattle.reader.specs.Judge.{Report, Verdict, accepted, refused, header, features, signature, verdict, reading as readingOf, judge}
 use Rattle.reader.specs.Judge.Numbers.{FromList, from-list}
 use Rattle.reader.specs.Judge.Complete.{reportOf}
@@ -144,10 +145,6 @@ module _ (s : List ℕ) (numbers room : ℕ) (r : Report) (e : judge s ≡ accep
     both-fit h = ap (given numbers room) e ∙ rw (le-ltb numbers (3 * length (r .rows)) fits, le-ltb room (4 + length (r .header .reference)) h) refl
 
 -- the rows that are put are those of the report
-version-back : (v : Version) → versionOf (edition v) ≡ v
-version-back three = refl
-version-back four = refl
-
 module _ (s : List ℕ) (q : Reading) (a : Accepted s q) where
   same-rows : rowsAt (q .count) (versionOf (q .header .version)) (q .ends .header) s ≡ rowsAt (length (a .report .rows)) (a .report .header .version) (a .report .header-end) s
   same-rows =

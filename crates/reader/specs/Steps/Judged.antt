@@ -7,11 +7,13 @@ use mathlib.Core.List.{List, []}
 use lib.ListN.{length}
 use Rattle.format.specs.Choice.{pick}
 use Rattle.dates.specs.declared.Date.{Date}
-use Rattle.grammar.specs.Content.{Version, three, four, Header}
+use Rattle.grammar.specs.Content.{Version, Header}
 use Rattle.items.specs.Items.{Item, is, not, next, mark, version, country, names, date, last, Names}
 use Rattle.items.specs.Items.Laws.{unread}
 use Rattle.items.specs.Cases.{through, edition, versionOf, measured}
+use Rattle.items.specs.Cases.Laws.{version-back}
 use Rattle.reader.specs.Judge.{Row, accepted, refused, header, features, signature, verdict, reading, judge}
+use Rattle.reader.specs.Steps.Laws.{placeOf, valueOf, numberOf}
 use Rattle.reader.specs.Steps.{Fields, Dated, fields, dated}
 
 -- an item after another, and after that one more
@@ -25,10 +27,6 @@ next-same (not number place) f g e = refl
 
 abbrev pub headerOf : Fields → Dated → Header
 headerOf f d = record { version = versionOf (f .version); country = f .country; signer = f .names .names .signer; reference = f .names .names .reference; issued = d .issued; signed = d .signed; definition = d .definition; category = d .category }
-
-version-back : (v : Version) → versionOf (edition v) ≡ v
-version-back three = refl
-version-back four = refl
 
 -- what follows each item, in the header and in the two steps
 module _ (s : List ℕ) where
@@ -122,10 +120,6 @@ holds : {A B : Type 0} (P : B → Type 0) (i : Item A) (k : A → ℕ → Item B
 holds P (is a at) k each b p e = each a at b p e
 holds P (not number place) k each b p e = absurd (unread number place b p (sym e))
 
-abbrev pub fieldsOf : Fields → Item Fields → Fields
-fieldsOf d (is f at) = f
-fieldsOf d (not number place) = d
-
 pub fields-known : (s : List ℕ) (f : Fields) (at : ℕ) → is f at ≡ fields s → Known f
 unfolding fields fields1 fields2 fields3 fields4
 fields-known s =
@@ -134,25 +128,13 @@ fields-known s =
     (λ v p1. holds Known (country p1 s) (fields3 s v)
     (λ c p2. holds Known (names v p2 s) (fields4 s v c)
     (λ n p3 f at e.
-    subst Known (sym (ap (fieldsOf f) e)) (ap edition (sym (version-back v)), refl)))))
+    subst Known (sym (ap (valueOf f) e)) (ap edition (sym (version-back v)), refl)))))
 
 -- rows that were counted
 pub record Counted (i : Item (List Row)) (count end : ℕ) : Type 0 where
   pub rows : List Row
   pub read : is rows end ≡ i
   pub counts : count ≡ length rows
-
-abbrev placeOf : {A : Type 0} → Item A → ℕ
-placeOf (is a at) = at
-placeOf (not number place) = place
-
-abbrev valueOf : {A : Type 0} → A → Item A → A
-valueOf d (is a at) = a
-valueOf d (not number place) = d
-
-abbrev numberOf : {A : Type 0} → Item A → ℕ
-numberOf (is a at) = 0
-numberOf (not number place) = number
 
 pub counted : (i : Item (List Row)) (count end : ℕ) → is count end ≡ through length i → Counted i count end
 counted (is rows p) count end e = record { rows = rows; read = ap (is rows) (ap placeOf e); counts = ap (valueOf 0) e }

@@ -17,15 +17,15 @@ use Rattle.reader.specs.Judge.{isSignature, signature, rawIn}
 use Rattle.reader.specs.Steps.{Fields, fields, dated}
 
 -- place and value of an item that was read, and number and place of one that was not
-abbrev placeOf : {A : Type 0} → Item A → ℕ
+abbrev pub placeOf : {A : Type 0} → Item A → ℕ
 placeOf (is a at) = at
 placeOf (not number place) = place
 
-abbrev valueOf : {A : Type 0} → A → Item A → A
+abbrev pub valueOf : {A : Type 0} → A → Item A → A
 valueOf d (is a at) = a
 valueOf d (not number place) = d
 
-abbrev numberOf : {A : Type 0} → Item A → ℕ
+abbrev pub numberOf : {A : Type 0} → Item A → ℕ
 numberOf (is a at) = 0
 numberOf (not number place) = number
 
