@@ -1,4 +1,5 @@
 # make        prove and build everything; programs stand in target/bin
+# make list   prove and build the listing program alone: target/bin/list
 # make test   the gate: prove everything from nothing, try the must-fail edits, run the programs
 # make fmt    lay out every .rt and .antt file
 # make bench  count instructions beside plain C
@@ -7,10 +8,13 @@
 
 RT := $(shell command -v rt 2>/dev/null)
 
-.PHONY: all test fmt bench vectors clean kit
+.PHONY: all list test fmt bench vectors clean kit
 
 all: kit
 	@rt check
+
+list: kit
+	@rt check list
 
 test: kit
 	@rt ci
