@@ -12,6 +12,7 @@ use Rattle.der.specs.Length.{readLength, longForm}
 use Rattle.grammar.specs.Examples.{header-a, content-a, seal-a, header-b, signed-b, header-c, signed-c}
 use Rattle.reader.specs.Judge.{Report, accepted, refused, header, tag, row, features, signature, reading, judge}
 use Rattle.reader.specs.Report.{contentOf}
+use Rattle.reader.specs.Calls.{noDate, answerOf, table, reading as asked, rowsIn, textIn, then}
 
 abbrev report-a : Report
 report-a = record { header = header-a; rows = record { tag = 10; place = 20; size = 4 } ∷ []; header-end = 18; message-end = 24; seal-end = 82; signature-place = 26; signature-size = 56 }
@@ -53,3 +54,46 @@ b-accepted = refl
 c-accepted : judge (signed-c ++ (0xFF ∷ 0x81 ∷ 0x84 ∷ replicate 132 0xAA)) ≡ accepted (record { header = header-c; rows = record { tag = 254; place = 20; size = 128 } ∷ record { tag = 0; place = 150; size = 255 } ∷ record { tag = 3; place = 407; size = 0 } ∷ []; header-end = 18; message-end = 407; seal-end = 542; signature-place = 410; signature-size = 132 })
 unfolding judge reading header tag row features signature decode pairOf single values theChart valueOf isDay readLength longForm val
 c-accepted = refl
+
+-- 10 comes before a missing byte: a length of 57, and no signature at all
+size-first : judge (take 24 seal-a ++ (0xFF ∷ 0x39 ∷ [])) ≡ refused 10 25
+unfolding judge reading header tag row features signature decode pairOf single values theChart valueOf isDay readLength longForm val
+size-first = refl
+
+-- what the calls answer for Seal A and for a refusal
+a-answered : answerOf (accepted report-a) ≡ record { number = 0; place = 0; header = record { version = 3; country = header-a .country; length = 5; issued = header-a .issued; signed = header-a .signed; definition = 1; category = 2 }; ends = record { header = 18; message = 24; seal = 82 }; signature = record { place = 26; length = 56 }; count = 1 }
+a-answered = refl
+
+refusal-answered : answerOf (refused 9 24) ≡ record { number = 9; place = 24; header = record { version = 0; country = 0 ∷ 0 ∷ 0 ∷ []; length = 0; issued = noDate; signed = noDate; definition = 0; category = 0 }; ends = record { header = 0; message = 0; seal = 0 }; signature = record { place = 0; length = 0 }; count = 0 }
+refusal-answered = refl
+
+-- 12, and the room that is just enough
+table-short : asked seal-a 2 9 ≡ refused 12 0
+unfolding judge reading header tag row features signature decode pairOf single values theChart valueOf isDay readLength longForm val
+table-short = refl
+
+text-short : asked seal-a 3 8 ≡ refused 12 0
+unfolding judge reading header tag row features signature decode pairOf single values theChart valueOf isDay readLength longForm val
+text-short = refl
+
+enough : asked seal-a 3 9 ≡ accepted report-a
+unfolding judge reading header tag row features signature decode pairOf single values theChart valueOf isDay readLength longForm val
+enough = refl
+
+verdict-first : asked [] 0 0 ≡ refused 2 0
+unfolding judge reading header
+verdict-first = refl
+
+-- what is written: the row, signer and reference; a refusal writes nothing, and memory past what is written stays
+a-rows : rowsIn (accepted report-a) ≡ 10 ∷ 20 ∷ 4 ∷ []
+unfolding table
+a-rows = refl
+
+a-text : textIn (accepted report-a) ≡ 85 ∷ 84 ∷ 65 ∷ 66 ∷ 48 ∷ 48 ∷ 48 ∷ 48 ∷ 49 ∷ []
+a-text = refl
+
+nothing-written : (rowsIn (refused 9 24) ≡ []) × (textIn (refused 9 24) ≡ [])
+nothing-written = (refl, refl)
+
+rest-stays : then (1 ∷ 2 ∷ []) (7 ∷ 8 ∷ 9 ∷ []) ≡ 1 ∷ 2 ∷ 9 ∷ []
+rest-stays = refl
