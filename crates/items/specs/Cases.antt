@@ -4,10 +4,11 @@ pub mod Laws
 pub mod Text
 pub mod Field
 pub mod Named
+pub mod Lent
 use mathlib.Core.Path.{_≡_}
 use Prim.Native.Nat.{ℕ, _+_, _≤_, _<_}
 use mathlib.Core.Bool.{Bool, true, false}
-use mathlib.Core.List.{List, []}
+use mathlib.Core.List.{List, [], _++_}
 use lib.Dec.{eqb}
 use lib.ListN.{length, take, drop}
 use Rattle.format.specs.Choice.{pick}
@@ -86,6 +87,16 @@ measured n = record { length = length (n .reference); names = n }
 abbrev pub namesOf : List ℕ → Names → Item Measured
 namesOf text (names.Are size next) = is (record { length = size; names = record { signer = take 4 text; reference = take size (drop 4 text) } }) (next .place)
 namesOf text (names.Not why) = not (why .number) (why .place)
+
+-- what an item leaves in a lent buffer: its value, or what was there
+abbrev pub valueOr : {A : Type 0} → A → Item A → A
+valueOr old (is a at) = a
+valueOr old (not number place) = old
+
+-- what signer and reference leave in a lent text: themselves from its start and past them what was there, or all that was there
+abbrev pub textOver : List ℕ → Item read.Names → List ℕ
+textOver old (is n at) = (n .signer ++ n .reference) ++ drop (length (n .signer ++ n .reference)) old
+textOver old (not number place) = old
 
 -- past so many bytes
 abbrev pub past : ℕ → ℕ → List ℕ → Item Unit

@@ -4,7 +4,7 @@ ghost use Prim.Native.Nat.{_<_, _≤_};
 ghost use lib.ListN.{length};
 ghost use mathlib.Core.List.{[], _∷_};
 ghost use Rattle.items.specs.Items as read;
-ghost use Rattle.items.specs.Cases.{Sized, Fills, stepOf, namesOf, whyOf, versionOf, anyText, through, measured};
+ghost use Rattle.items.specs.Cases.{Sized, Fills, stepOf, namesOf, whyOf, versionOf, anyText, through, measured, valueOr, textOver};
 use crate::cursor::Cursor;
 use crate::cursor::Refusal;
 use crate::cursor::Step;
@@ -34,7 +34,7 @@ impl Names {
     }
 }
 
-pub(crate) fn is_letter(c: u8) -> bool
+pub fn is_letter(c: u8) -> bool
     ensures { λ r. ⌜ r ≡ read.isLetter c ⌝ }
 {
     if c < b'A' {
@@ -53,7 +53,7 @@ pub(crate) fn is_digit(c: u8) -> bool
 }
 
 // Which characters a reference may have.
-pub(crate) fn is_reference(c: u8) -> bool
+pub fn is_reference(c: u8) -> bool
     ensures { λ r. ⌜ r ≡ read.isReference c ⌝ }
 {
     if is_letter(c) {
@@ -63,7 +63,7 @@ pub(crate) fn is_reference(c: u8) -> bool
 }
 
 // Whether all of a text may stand in a reference.
-pub(crate) fn all_reference(text: &[u8]) -> bool
+pub fn all_reference(text: &[u8]) -> bool
     ensures { λ r. ⌜ r ≡ read.all read.isReference (now (text .entry)) ⌝ }
 {
     let mut i: usize = 0;
@@ -77,7 +77,7 @@ pub(crate) fn all_reference(text: &[u8]) -> bool
 }
 
 // Two letters, then two letters or digits.
-pub(crate) fn is_signer(a: u8, b: u8, c: u8, d: u8) -> bool
+pub fn is_signer(a: u8, b: u8, c: u8, d: u8) -> bool
     ensures { λ r. ⌜ r ≡ read.isSigner (a ∷ b ∷ c ∷ d ∷ []) ⌝ }
 {
     if !is_letter(a) {
@@ -165,8 +165,8 @@ impl Cursor {
         Step::Wrong
     }
 
-    // The country, with fillers as `<`.
-    pub fn country(self, seal: &[u8], code: &mut [u8; 3]) -> Step
+    // The country, with fillers as `<`; `code` is a working space, and its own only where the country was read.
+    pub(crate) fn country_in(self, seal: &[u8], code: &mut [u8; 3]) -> Step
         ensures { λ r. ⌜ stepOf 5 (self .place) (now (code .exit)) r ≡ read.country (self .place) (now (seal .entry)) ⌝ }
     {
         let read = self.field(seal, code);
@@ -178,6 +178,20 @@ impl Cursor {
         }
         code[1] = shown(code[1]);
         code[2] = shown(code[2]);
+        Step::Past(next)
+    }
+
+    // The country, with fillers as `<`; on a refusal `code` stays.
+    pub fn country(self, seal: &[u8], code: &mut [u8; 3]) -> Step
+        ensures item { λ r. ⌜ stepOf 5 (self .place) (now (code .exit)) r ≡ read.country (self .place) (now (seal .entry)) ⌝ }
+        ensures buffer { λ r. ⌜ now (code .exit) ≡ valueOr (now (code .entry)) (read.country (self .place) (now (seal .entry))) ⌝ }
+    {
+        let mut found = [0u8; 3];
+        let read = self.country_in(seal, &mut found);
+        let Step::Past(next) = read else {
+            return read;
+        };
+        octets::copy(&found, code, 0);
         Step::Past(next)
     }
 
@@ -265,10 +279,18 @@ impl Cursor {
         Names::Are(size, next)
     }
 
-    // Signer and reference, put one after the other at the start of `text`.
+    // Signer and reference, put one after the other at the start of `text`; on a refusal `text` stays.
     pub fn names(self, seal: &[u8], version: usize, text: &mut [u8; 259]) -> Names
-        ensures { λ r. ⌜ namesOf (now (text .exit)) r ≡ through measured (read.names (versionOf version) (self .place) (now (seal .entry))) ⌝ }
+        ensures item { λ r. ⌜ namesOf (now (text .exit)) r ≡ through measured (read.names (versionOf version) (self .place) (now (seal .entry))) ⌝ }
+        ensures buffer { λ r. ⌜ now (text .exit) ≡ textOver (now (text .entry)) (read.names (versionOf version) (self .place) (now (seal .entry))) ⌝ }
     {
-        self.names_in(seal, version, text)
+        let mut found = [0u8; 259];
+        let names = self.names_in(seal, version, &mut found);
+        let Names::Are(size, next) = names else {
+            return names;
+        };
+        let end = 4 + size;
+        octets::copy(&found[..end], text, 0);
+        Names::Are(size, next)
     }
 }

@@ -29,7 +29,7 @@ read-country : (c : tie.After-known-told3) →
 read-country c =
     let on = c .before .before .before in
     let told2 = on .before .before in
-    sym (ap (stepOf 5 (told2 .before .version2 .given .0 .1 .0 .place) (on .country .last .1 .1 .0)) (c .before .code .given .1)) ∙ on .country .ensures
+    sym (ap (stepOf 5 (told2 .before .version2 .given .0 .1 .0 .place) (on .country .last .1 .1 .0)) (c .before .code .given .1)) ∙ on .country .ensures .0
 
 read-names : (c : tie.After-known-told4) →
     let on = c .before .before .before in
@@ -39,7 +39,7 @@ read-names : (c : tie.After-known-told4) →
     namesOf (on .names .last .1 .1 .1 .0) (read.Are (g .0) (g .1 .0)) ≡ through measured (names (versionOf (told2 .before .version2 .given .0 .0)) (told3 .before .code .given .0 .0 .place) (now (told2 .before .before .before .before .before .before .before .before .before .args .seal)))
 read-names c =
     let on = c .before .before .before in
-    sym (ap (namesOf (on .names .last .1 .1 .1 .0)) (c .before .read .given .1)) ∙ on .names .ensures
+    sym (ap (namesOf (on .names .last .1 .1 .1 .0)) (c .before .read .given .1)) ∙ on .names .ensures .0
 
 returns : tie.Need-returns
 returns c =
@@ -56,7 +56,7 @@ returns-3 c =
     let on = c .before .before in
     let told2 = on .before .before in
     fields-country _ _ (read-mark (told2 .before .before .before .before)) _ _ (read-version told2) _ _
-    (step-says 5 _ (on .country .last .1 .1 .0) (on .country .result) (c .refusal3 .result) (c .before .match3 .keys2) (c .refusal3 .ensures) ∙ on .country .ensures)
+    (step-says 5 _ (on .country .last .1 .1 .0) (on .country .result) (c .refusal3 .result) (c .before .match3 .keys2) (c .refusal3 .ensures) ∙ on .country .ensures .0)
 
 returns-4 : tie.Need-returns-4
 returns-4 c =
@@ -65,7 +65,7 @@ returns-4 c =
     let told2 = told3 .before .before .before .before .before in
     let why = c .why .ensures ∙ ap (λ e. whyOf (namesOf [] e)) (c .before .enum-told .given .1) in
     fields-names _ _ (read-mark (told2 .before .before .before .before)) _ _ (read-version told2) _ _ (read-country told3) _ _
-    (ap (λ w. not (w .number) (w .place)) why ∙ sym (ap (namesOf (on .names .last .1 .1 .1 .0)) (c .before .enum-told .given .1)) ∙ on .names .ensures)
+    (ap (λ w. not (w .number) (w .place)) why ∙ sym (ap (namesOf (on .names .last .1 .1 .1 .0)) (c .before .enum-told .given .1)) ∙ on .names .ensures .0)
 
 returns-5 : tie.Need-returns-5
 returns-5 c =

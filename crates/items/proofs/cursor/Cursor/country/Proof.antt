@@ -1,111 +1,63 @@
--- `items::cursor::Cursor::country` meets its contract: the field that was read, the test, and the fillers shown.
+-- `Cursor::country` meets its contract: what was found is put down, and a refusal leaves what was there.
 -- Assumes nothing.
 use borrow.Author.Needs.{needs}
-use borrow.Author.Tests.{not-true, not-false}
 use native.Mathlib.Omega.{arith}
-use mathlib.Core.Path.{_≡_, ap, sym, _∙_}
-use mathlib.Core.List.{map}
-use mathlib.Core.Bool.{true}
+use mathlib.Core.Path.{_≡_, _∙_, ap, sym}
+use denote.Ref.{now}
 use lib.ListN.{length}
-use Rattle.items.specs.Items.{is, isCountry, shown, field}
-use Rattle.items.specs.Cases.{stepOf, anyText}
-use Rattle.items.specs.Cases.Field.{field-not, field-passes, field-fails}
-use Rattle.items.specs.Cases.Named.{answer-on, country-is, country-wrong}
+use Rattle.grammar.specs.Legal.{Country}
+use Rattle.items.specs.Items.{country}
+use Rattle.items.specs.Items.FieldsSound.{country-read}
+use Rattle.items.specs.Cases.{stepOf}
+use Rattle.items.specs.Cases.Lent.{step-kept, step-given, copied-all}
 use Rattle.items.proofs.Unread.{unread}
 use Rattle.items.proofs.cursor.Cursor.country.Statement.{statement}
 use Rattle.items.proofs.cursor.Cursor.country.Tie as tie
 
-field-requires : tie.Need-field-requires
-field-requires c κs = search needs
+returns : tie.Need-returns
+returns c =
+    let on = c .before in
+    let a = on .before .before .before .args in
+    step-kept (a .self .place) (on .country-in .last .1 .1 .0) (a .code .now) (on .country-in .result) (country (a .self .place) (now (a .seal))) (unread (on .country-in .result) (c .match .keys2)) (on .country-in .ensures)
+
+-- a country has three characters
+legal : (c : tie.After-known-told) → Country (c .before .before .before .country-in .last .1 .1 .0)
+legal c =
+    let on = c .before .before .before in
+    let a = on .before .before .before .args in
+    let found = on .country-in .last .1 .1 .0 in
+    let e = sym (ap (stepOf 5 (a .self .place) found) (c .before .read .given .1)) ∙ on .country-in .ensures in
+    country-read (a .self .place) (now (a .seal)) found _ (λ i. on .before .before .shared-slice-known .given i .fits) (sym e) .0
+
+slice-aggregate-copy : tie.Need-slice-aggregate-copy
+slice-aggregate-copy c = sym (legal (c .before) .size)
+
+returns-2 : tie.Need-returns-2
+returns-2 c =
+    let told = c .before .before .before in
+    let on = told .before .before .before in
+    let a = on .before .before .before .args in
+    let found = on .country-in .last .1 .1 .0 in
+    let e = sym (ap (stepOf 5 (a .self .place) found) (told .before .read .given .1)) ∙ on .country-in .ensures in
+    let size : length found ≡ length (a .code .now) = omega (arith, legal told .size) in
+    step-given found _ (a .code .now) _ (country (a .self .place) (now (a .seal))) e (c .copy .ensures .1 ∙ copied-all found (a .code .now) size)
+
+country-in-requires : tie.Need-country-in-requires
+country-in-requires c κs = search needs
 
 enum-known-read : tie.Need-enum-known-read
 enum-known-read c = search needs
 
--- three characters were asked for
-read-field : (on : tie.After-field) → stepOf 5 (on .before .before .before .args .self .place) (on .field .last .1 .1 .0) (on .field .result) ≡ field 3 anyText (on .before .before .before .args .self .place) (on .before .before .before .args .seal .now)
-read-field on =
-    let args = on .before .before .before .args in
-    let size : length (args .code .now) ≡ 3 = omega arith in
-    on .field .ensures ∙ ap (λ k. field k anyText (args .self .place) (args .seal .now)) size
-
-returns : tie.Need-returns
-returns c =
-    let on = c .before in
-    let args = on .before .before .before .args in
-    let out = on .field .last .1 .1 .0 in
-    let u = unread (on .field .result) (c .match .keys2) in
-    answer-on (args .self .place) (on .field .result) u (field 3 isCountry (args .self .place) (args .seal .now)) (λ t at. is (map shown t) at) out out
-    (field-not 3 isCountry (args .self .place) (args .seal .now) (on .field .result) out (read-field on) u out)
-
-element-copy-out-is-country : tie.Need-element-copy-out-is-country
-element-copy-out-is-country c = search needs
-
-element-copy-out-is-country-2 : tie.Need-element-copy-out-is-country-2
-element-copy-out-is-country-2 c = search needs
-
-element-copy-out-is-country-3 : tie.Need-element-copy-out-is-country-3
-element-copy-out-is-country-3 c = search needs
-
-is-country-requires : tie.Need-is-country-requires
-is-country-requires c κs = search needs
-
-returns-2 : tie.Need-returns-2
-returns-2 c =
-    let on = c .before .before .before .before .before .before .before .before in
-    let args = on .before .before .before .args in
-    let out = on .field .last .1 .1 .0 in
-    let read = c .before .before .before .before .before .before .read in
-    country-wrong (args .self .place) (args .seal .now)
-    (field-fails 3 isCountry (args .self .place) (args .seal .now) (on .field .result) out (read-field on) (read .given .0 .0) (read .given .1)
-    (sym (c .before .is-country .ensures) ∙ not-true _ (c .if1 .taken)))
-
-element-copy-out-shown : tie.Need-element-copy-out-shown
-element-copy-out-shown c = search needs
-
-shown-requires : tie.Need-shown-requires
-shown-requires c κs = search needs
-
-element-write-code : tie.Need-element-write-code
-element-write-code c = search needs
-
-element-copy-out-shown-2 : tie.Need-element-copy-out-shown-2
-element-copy-out-shown-2 c = search needs
-
-shown-requires-2 : tie.Need-shown-requires-2
-shown-requires-2 c κs = search needs
-
-element-write-code-2 : tie.Need-element-write-code-2
-element-write-code-2 c = search needs
-
-returns-3 : tie.Need-returns-3
-returns-3 c =
-    let test = c .before .before .before .before in
-    let on = test .before .before .before .before .before .before .before .before in
-    let args = on .before .before .before .args in
-    let out = on .field .last .1 .1 .0 in
-    let read = test .before .before .before .before .before .before .read in
-    let passes : isCountry out ≡ true = sym (test .before .is-country .ensures) ∙ not-false _ (test .if1 .left) in
-    let size : length out ≡ 3 = omega arith in
-    country-is (args .self .place) (read .given .0 .0 .place) (args .seal .now) out (c .before .before .shown .result) (c .shown2 .result) size passes
-    (field-passes 3 isCountry (args .self .place) (args .seal .now) (on .field .result) out (read-field on) (read .given .0 .0) (read .given .1) passes)
-    (c .before .before .shown .ensures) (c .shown2 .ensures)
+copy-requires : tie.Need-copy-requires
+copy-requires c κs = search needs
 
 pub country-spec : {M : Type 1} → statement M
 country-spec =
     tie.close
     (tie.spec
-    field-requires
+    country-in-requires
     enum-known-read
     returns
-    element-copy-out-is-country
-    element-copy-out-is-country-2
-    element-copy-out-is-country-3
-    is-country-requires
-    returns-2
-    element-copy-out-shown
-    shown-requires
-    element-write-code
-    element-copy-out-shown-2
-    shown-requires-2
-    element-write-code-2
-    returns-3)
+    slice-aggregate-copy
+    copy-requires
+    returns-2)
