@@ -1,0 +1,21 @@
+-- `names_size` meets its contract.
+-- Assumes nothing.
+use borrow.Author.Needs.{needs}
+use Rattle.writer.specs.Sizes.Laws.{names-plain, names-long}
+use Rattle.writer.proofs.size.names_size.Statement.{statement}
+use Rattle.writer.proofs.size.names_size.Tie as tie
+
+returns : tie.Need-returns
+returns c = let a = c .before .args in names-plain (a .version) (a .text) (c .if1 .taken)
+
+add-result : tie.Need-add-result
+add-result c = search needs
+
+mul-result : tie.Need-mul-result
+mul-result c = search needs
+
+returns-2 : tie.Need-returns-2
+returns-2 c = let a = c .before .args in names-long (a .version) (a .text) (c .if1 .left)
+
+pub names-size-spec : {M : Type 1} → statement M
+names-size-spec = tie.close (tie.spec returns add-result mul-result returns-2)

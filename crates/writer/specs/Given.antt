@@ -1,0 +1,46 @@
+-- What a call of the writer is given: header, text, rows over a values buffer, and the raw signature; and the content that they say.
+-- Assumes nothing.
+use Prim.Native.Nat.{ℕ}
+use mathlib.Core.List.{List, [], _∷_, map}
+use lib.ListN.{take, drop, getD}
+use Rattle.grammar.specs.Content.{Feature, Content, Header as Headed}
+use Rattle.items.specs.Cases.{versionOf}
+use Rattle.items.specs.declared.Header.{Header}
+
+-- a feature's tag, and the place and length of its value
+pub record Row : Type 0 where
+  pub tag : ℕ
+  pub place : ℕ
+  pub size : ℕ
+
+-- the rows of a table, three numbers each; what is over is no row
+unfoldable pub rowsOf : List ℕ → List Row
+rowsOf [] = []
+rowsOf (tag ∷ []) = []
+rowsOf (tag ∷ place ∷ []) = []
+rowsOf (tag ∷ place ∷ size ∷ table) = record { tag = tag; place = place; size = size } ∷ rowsOf table
+
+pub record Given : Type 0 where
+  pub header : Header
+  pub text : List ℕ
+  pub table : List ℕ
+  pub values : List ℕ
+  pub signature : List ℕ
+
+abbrev pub featureOf : List ℕ → Row → Feature
+featureOf values r = record { tag = r .tag; value = take (r .size) (drop (r .place) values) }
+
+-- the country's three characters; it is an array of three, but a struct's array does not tell its length, so they are taken one by one
+abbrev pub threeOf : List ℕ → List ℕ
+threeOf c = getD c 0 0 ∷ getD c 1 0 ∷ getD c 2 0 ∷ []
+
+-- the header: signer and reference are the text's first four characters and the rest
+abbrev pub headerOf : Header → List ℕ → Headed
+headerOf h text = record { version = versionOf (h .version); country = threeOf (h .country); signer = take 4 text; reference = drop 4 text; issued = h .issued; signed = h .signed; definition = h .definition; category = h .category }
+
+unfoldable pub contentOf : Given → Content
+contentOf g = record { header = headerOf (g .header) (g .text); features = map (featureOf (g .values)) (rowsOf (g .table)); signature = g .signature }
+
+-- what is given, in the order of the call
+abbrev pub given : Header → List ℕ → List ℕ → List ℕ → List ℕ → Given
+given header text table values signature = record { header = header; text = text; table = table; values = values; signature = signature }

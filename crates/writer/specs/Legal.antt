@@ -1,0 +1,105 @@
+-- Which calls are answered 0: exactly those whose content is legal, whose shape is sound and for which there is room.
+-- Assumes nothing.
+pub mod Order
+pub mod Names
+pub mod Rows
+use mathlib.Core.Path.{_≡_, subst}
+use mathlib.Core.Logic.{_⊎_}
+use Prim.Native.Nat.{ℕ, _+_, _%_, _≤_}
+use borrow.Author.Tests.{eqb-true, eq-eqb}
+use mathlib.Core.List.{List, []}
+use lib.Dec.{eqb}
+use lib.ListN.{length}
+use Rattle.format.specs.Answers.{done}
+use Rattle.format.specs.Bytes.{Bytes, All}
+use Rattle.dates.specs.Days.{within, isDay}
+use Rattle.grammar.specs.Publish.{publish}
+use Rattle.grammar.specs.Legal.{Legal}
+use Rattle.items.specs.Items.Laws.{within-true}
+use Rattle.items.specs.Items.Sound.{within-both}
+use Rattle.items.specs.Items.FieldsSound.{both-true}
+use Rattle.writer.specs.Given.{rowsOf, Given, contentOf}
+use Rattle.writer.specs.Calls.{areRows, writing}
+use Rattle.writer.specs.Legal.Order.{done-passes, passes-done}
+use Rattle.writer.specs.Legal.Names.{both-are, version-is, version-passes, names-legal, names-pass}
+use Rattle.writer.specs.Legal.Rows.{Inside, rows-legal, legal-rows, size-of, size-passes}
+
+-- what the types of a call give
+pub record Lent (g : Given) : Type 0 where
+  pub country : length (g .header .country) ≡ 3
+  pub values : Bytes (g .values)
+  pub signature : Bytes (g .signature)
+
+-- what is asked of a call beside its content: a country of three characters, a version, L as the text has it, a table in threes, and each value inside the values buffer
+pub record Sound (g : Given) : Type 0 where
+  pub country : length (g .header .country) ≡ 3
+  pub version : (g .header .version ≡ 3) ⊎ (g .header .version ≡ 4)
+  pub measured : g .header .length + 4 ≡ length (g .text)
+  pub threes : length (g .table) % 3 ≡ 0
+  pub inside : All (Inside (length (g .values))) (rowsOf (g .table))
+
+-- a call that is answered 0
+pub record Written (g : Given) (room : ℕ) (s : List ℕ) : Type 0 where
+  pub legal : Legal (contentOf g)
+  pub sound : Sound g
+  pub form-is : publish (contentOf g) ≡ s
+  pub fits : length s ≤ room
+
+-- what is answered 0 is the published form of the legal content given, in a call of sound shape, and fits
+pub written-legal : (g : Given) (room : ℕ) (s : List ℕ) → Lent g → writing g room ≡ done s → Written g room s
+unfolding contentOf
+written-legal g room s lent e =
+    let h = g .header in
+    let d = done-passes g room s e in
+    let p = d .0 in
+    let n = names-legal h (g .text) (p .names) in
+    let days = both-true (isDay (h .issued)) (isDay (h .signed)) (p .days) in
+    let last = both-true (within 1 254 (h .definition)) (within 1 254 (h .category)) (p .last) in
+    let table = both-true (eqb (length (g .table) % 3) 0) (areRows (length (g .values)) [] (rowsOf (g .table))) (p .table) in
+    let rows = rows-legal (g .values) (eqb (h .version) 3) [] (rowsOf (g .table)) (lent .values) (table .1) (p .sizes) in
+    record {
+      legal = record {
+        header = record {
+          country = n .country;
+          signer = n .signer;
+          reference = n .reference;
+          size = n .size;
+          issued = days .0;
+          signed = days .1;
+          definition = within-both 1 254 (h .definition) (last .0);
+          category = within-both 1 254 (h .category) (last .1);
+        };
+        features = rows .0;
+        signature = size-of (length (g .signature)) (p .signature);
+        bytes = lent .signature;
+        size = p .size;
+      };
+      sound = record {
+        country = lent .country;
+        version = version-is (h .version) (p .version);
+        measured = n .measured;
+        threes = eqb-true (length (g .table) % 3) 0 (table .0);
+        inside = rows .1;
+      };
+      form-is = d .1;
+      fits = subst (λ u. length u ≤ room) (d .1) (p .fits);
+    }
+
+-- and every such call is answered 0 with that form
+pub legal-written : (g : Given) (room : ℕ) → Sound g → Legal (contentOf g) → length (publish (contentOf g)) ≤ room → writing g room ≡ done (publish (contentOf g))
+unfolding contentOf
+legal-written g room sound l fits =
+    let h = g .header in
+    let rows = legal-rows (g .values) (eqb (h .version) 3) [] (rowsOf (g .table)) (l .features) (sound .inside) in
+    passes-done g room
+    (record {
+      version = version-passes (h .version) (sound .version);
+      names = names-pass h (g .text) (record { country = l .header .country; signer = l .header .signer; reference = l .header .reference; size = l .header .size; measured = sound .measured });
+      days = both-are (isDay (h .issued)) (isDay (h .signed)) (l .header .issued) (l .header .signed);
+      last = both-are (within 1 254 (h .definition)) (within 1 254 (h .category)) (within-true 1 254 (h .definition) (l .header .definition .0) (l .header .definition .1)) (within-true 1 254 (h .category) (l .header .category .0) (l .header .category .1));
+      table = both-are (eqb (length (g .table) % 3) 0) (areRows (length (g .values)) [] (rowsOf (g .table))) (eq-eqb (length (g .table) % 3) 0 (sound .threes)) (rows .0);
+      sizes = rows .1;
+      signature = size-passes (length (g .signature)) (l .signature);
+      size = l .size;
+      fits = fits;
+    })

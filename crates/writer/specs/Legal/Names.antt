@@ -1,0 +1,183 @@
+-- The tests of 20 and 21 against the grammar: version, country, signer and reference, both ways.
+-- Assumes nothing.
+use mathlib.Core.Path.{_≡_, refl, ap, sym, subst, _∙_}
+use mathlib.Core.Logic.{_⊎_, inl, inr, ⊎-elim}
+use mathlib.Core.Bool.{Bool, true, false}
+use Prim.Native.Nat.{ℕ, _+_, _-_, _≤_}
+use native.Mathlib.Omega.{arith}
+use borrow.Author.Tests.{eqb-true, eq-eqb}
+use mathlib.Core.List.{List, [], _∷_}
+use lib.Dec.{eqb}
+use lib.ListN.{length, take, drop, length-drop}
+use lib.Seq.{length-take-le}
+use Rattle.format.specs.Choice.{pick}
+use Rattle.format.specs.Table.{both, either}
+use Rattle.format.specs.Bytes.{All}
+use Rattle.dates.specs.Days.{within}
+use Rattle.grammar.specs.Content.{three, four}
+use Rattle.grammar.specs.Legal.{Letter, LetterOrDigit, Filler, Country, Signer, ReferenceCharacter, ReferenceSize}
+use Rattle.grammar.specs.Pins.{filled-three}
+use Rattle.items.specs.Items.{isLetter, isDigit, isReference, all, isSigner}
+use Rattle.items.specs.Items.Laws.{within-true}
+use Rattle.items.specs.Items.Fields.{letter, reference-passes, all-pass}
+use Rattle.items.specs.Items.Sound.{within-both}
+use Rattle.items.specs.Items.FieldsSound.{both-true}
+use Rattle.items.specs.Cases.{versionOf}
+use Rattle.items.specs.declared.Header.{Header}
+use Rattle.writer.specs.Given.{threeOf}
+use Rattle.writer.specs.Calls.{isVersion, isFiller, isCountry, isTextSize, areNames}
+
+pub both-are : (a b : Bool) → a ≡ true → b ≡ true → both a b ≡ true
+both-are a b e f = ap (λ x. both x b) e ∙ f
+
+pub either-true : (a b : Bool) → either a b ≡ true → (a ≡ true) ⊎ (b ≡ true)
+either-true true b e = inl refl
+either-true false b e = inr e
+
+either-left : (a b : Bool) → a ≡ true → either a b ≡ true
+either-left a b e = ap (λ x. either x b) e
+
+either-right : (a b : Bool) → b ≡ true → either a b ≡ true
+either-right true b e = refl
+either-right false b e = e
+
+-- version 3 or 4
+pub version-is : (n : ℕ) → isVersion n ≡ true → (n ≡ 3) ⊎ (n ≡ 4)
+version-is n e = ⊎-elim (λ f. inl (eqb-true n 3 f)) (λ f. inr (eqb-true n 4 f)) (either-true (eqb n 3) (eqb n 4) e)
+
+pub version-passes : (n : ℕ) → (n ≡ 3) ⊎ (n ≡ 4) → isVersion n ≡ true
+version-passes n e = ⊎-elim (λ f. either-left (eqb n 3) (eqb n 4) (eq-eqb n 3 f)) (λ f. either-right (eqb n 3) (eqb n 4) (eq-eqb n 4 f)) e
+
+-- a country of three characters
+third-is : (c : ℕ) → either (isLetter c) (isFiller c) ≡ true → Letter c ⊎ Filler c
+third-is c e = ⊎-elim (λ f. inl (within-both 65 90 c f)) (λ f. inr (eqb-true c 60 f)) (either-true (isLetter c) (isFiller c) e)
+
+letter-no-filler : (c : ℕ) → Letter c → Filler c → ⊥
+letter-no-filler c l f = omega (arith, l .0)
+
+country-of : (a b c : ℕ) → Letter a → Letter b ⊎ Filler b → Letter c ⊎ Filler c → (Filler b → Filler c) → Country (a ∷ b ∷ c ∷ [])
+country-of a b c la eb ec f = record {
+  size = refl;
+  letters = (inl la, (eb, (ec, tt)));
+  first = la;
+  filled = filled-three a b c (λ g. absurd (letter-no-filler a la g)) f;
+}
+
+pub country-legal : (t : List ℕ) → length t ≡ 3 → isCountry t ≡ true → Country t
+country-legal [] l e = absurd (omega arith)
+country-legal (a ∷ []) l e = absurd (omega arith)
+country-legal (a ∷ b ∷ []) l e = absurd (omega arith)
+country-legal (a ∷ b ∷ c ∷ d ∷ t) l e = absurd (omega arith)
+country-legal (a ∷ b ∷ c ∷ []) l e =
+    let p = both-true (isLetter a) (either (both (isLetter b) (either (isLetter c) (isFiller c))) (both (isFiller b) (isFiller c))) e in
+    let la = within-both 65 90 a (p .0) in
+    ⊎-elim
+    (λ f.
+    let q = both-true (isLetter b) (either (isLetter c) (isFiller c)) f in
+    let lb = within-both 65 90 b (q .0) in
+    country-of a b c la (inl lb) (third-is c (q .1)) (λ g. absurd (letter-no-filler b lb g)))
+    (λ f.
+    let q = both-true (isFiller b) (isFiller c) f in
+    let fc = eqb-true c 60 (q .1) in
+    country-of a b c la (inr (eqb-true b 60 (q .0))) (inr fc) (λ g. fc))
+    (either-true (both (isLetter b) (either (isLetter c) (isFiller c))) (both (isFiller b) (isFiller c)) (p .1))
+
+pub country-passes : (t : List ℕ) → Country t → isCountry t ≡ true
+country-passes [] l = let e = l .size in absurd (omega arith)
+country-passes (a ∷ []) l = let e = l .size in absurd (omega arith)
+country-passes (a ∷ b ∷ []) l = let e = l .size in absurd (omega arith)
+country-passes (a ∷ b ∷ c ∷ d ∷ t) l = let e = l .size in absurd (omega arith)
+country-passes (a ∷ b ∷ c ∷ []) l =
+    let two = both (isLetter b) (either (isLetter c) (isFiller c)) in
+    let none = both (isFiller b) (isFiller c) in
+    let third : either (isLetter c) (isFiller c) ≡ true =
+    ⊎-elim (λ x. either-left (isLetter c) (isFiller c) (letter c x)) (λ f. either-right (isLetter c) (isFiller c) (eq-eqb c 60 f)) (l .letters .1 .1 .0) in
+    both-are (isLetter a) (either two none) (letter a (l .first))
+    (⊎-elim
+    (λ x. either-left two none (both-are (isLetter b) (either (isLetter c) (isFiller c)) (letter b x) third))
+    (λ f. either-right two none (both-are (isFiller b) (isFiller c) (eq-eqb b 60 f) (eq-eqb c 60 (l .filled 1 (omega arith) f))))
+    (l .letters .1 .0))
+
+-- signer and reference
+reference-of : (c : ℕ) → isReference c ≡ true → LetterOrDigit c
+reference-of c e = ⊎-elim (λ f. inl (within-both 65 90 c f)) (λ f. inr (within-both 48 57 c f)) (either-true (isLetter c) (isDigit c) e)
+
+all-of : (P : ℕ → Type 0) (test : ℕ → Bool) → ((c : ℕ) → test c ≡ true → P c) → (t : List ℕ) → all test t ≡ true → All P t
+all-of P test f [] e = tt
+all-of P test f (c ∷ t) e = let p = both-true (test c) (all test t) e in (f c (p .0), all-of P test f t (p .1))
+
+signer-of : (t : List ℕ) → length t ≡ 4 → isSigner t ≡ true → Signer t
+signer-of [] l e = absurd (omega arith)
+signer-of (a ∷ []) l e = absurd (omega arith)
+signer-of (a ∷ b ∷ []) l e = absurd (omega arith)
+signer-of (a ∷ b ∷ c ∷ []) l e = absurd (omega arith)
+signer-of (a ∷ b ∷ c ∷ d ∷ x ∷ t) l e = absurd (omega arith)
+signer-of (a ∷ b ∷ c ∷ d ∷ []) l e =
+    let p = both-true (all isLetter (a ∷ b ∷ [])) (all isReference (c ∷ d ∷ [])) e in
+    let f = all-of Letter isLetter (λ c. within-both 65 90 c) (a ∷ b ∷ []) (p .0) in
+    let g = all-of LetterOrDigit isReference reference-of (c ∷ d ∷ []) (p .1) in
+    record { size = refl; first = f .0; second = f .1 .0; third = g .0; fourth = g .1 .0 }
+
+signer-passes : (t : List ℕ) → Signer t → isSigner t ≡ true
+signer-passes [] l = let e = l .size in absurd (omega arith)
+signer-passes (a ∷ []) l = let e = l .size in absurd (omega arith)
+signer-passes (a ∷ b ∷ []) l = let e = l .size in absurd (omega arith)
+signer-passes (a ∷ b ∷ c ∷ []) l = let e = l .size in absurd (omega arith)
+signer-passes (a ∷ b ∷ c ∷ d ∷ []) l = rw (letter a (l .first), letter b (l .second), reference-passes c (l .third), reference-passes d (l .fourth)) refl
+signer-passes (a ∷ b ∷ c ∷ d ∷ e ∷ t) l = let f = l .size in absurd (omega arith)
+
+-- the size of the text, by the version
+
+text-size : (b : Bool) (n : ℕ) → pick b (eqb n 9) (within 5 259 n) ≡ true → (4 ≤ n) × ReferenceSize (pick b three four) (n - 4)
+text-size true n e = let f = eqb-true n 9 e in (omega arith, omega arith)
+text-size false n e = let w = within-both 5 259 n e in (omega arith, (omega arith, omega arith))
+
+text-passes : (b : Bool) (n : ℕ) → 4 ≤ n → ReferenceSize (pick b three four) (n - 4) → pick b (eqb n 9) (within 5 259 n) ≡ true
+text-passes true n h r = eq-eqb n 9 (omega arith)
+text-passes false n h r = within-true 5 259 n (omega (arith, r .0)) (omega (arith, r .1))
+
+-- the names of a call that passes, and back
+pub record LegalNames (h : Header) (text : List ℕ) : Type 0 where
+  pub country : Country (threeOf (h .country))
+  pub signer : Signer (take 4 text)
+  pub reference : All ReferenceCharacter (drop 4 text)
+  pub size : ReferenceSize (versionOf (h .version)) (length (drop 4 text))
+  pub measured : h .length + 4 ≡ length text
+
+pub names-legal : (h : Header) (text : List ℕ) → areNames h text ≡ true → LegalNames h text
+names-legal h text e =
+    let sized = both (isTextSize (h .version) (length text)) (eqb (h .length + 4) (length text)) in
+    let spelt = both (isSigner (take 4 text)) (all isReference (drop 4 text)) in
+    let p = both-true (isCountry (h .country)) (both sized spelt) e in
+    let q = both-true sized spelt (p .1) in
+    let r = both-true (isTextSize (h .version) (length text)) (eqb (h .length + 4) (length text)) (q .0) in
+    let s = both-true (isSigner (take 4 text)) (all isReference (drop 4 text)) (q .1) in
+    let n = text-size (eqb (h .version) 3) (length text) (r .0) in
+    record {
+      country = country-legal (threeOf (h .country)) refl (p .0);
+      signer = signer-of (take 4 text) (length-take-le 4 text (n .0)) (s .0);
+      reference = all-of ReferenceCharacter isReference reference-of (drop 4 text) (s .1);
+      size = subst (ReferenceSize (versionOf (h .version))) (sym (length-drop 4 text)) (n .1);
+      measured = eqb-true (h .length + 4) (length text) (r .1);
+    }
+
+pub names-pass : (h : Header) (text : List ℕ) → LegalNames h text → areNames h text ≡ true
+names-pass h text l =
+    let sized = both (isTextSize (h .version) (length text)) (eqb (h .length + 4) (length text)) in
+    let spelt = both (isSigner (take 4 text)) (all isReference (drop 4 text)) in
+    let long : 4 ≤ length text = omega (arith, l .measured) in
+    both-are (isCountry (h .country)) (both sized spelt) (country-passes (threeOf (h .country)) (l .country))
+    (both-are sized spelt
+    (both-are (isTextSize (h .version) (length text)) (eqb (h .length + 4) (length text))
+    (text-passes (eqb (h .version) 3) (length text) long (subst (ReferenceSize (versionOf (h .version))) (length-drop 4 text) (l .size)))
+    (eq-eqb (h .length + 4) (length text) (l .measured)))
+    (both-are (isSigner (take 4 text)) (all isReference (drop 4 text)) (signer-passes (take 4 text) (l .signer))
+    (all-pass ReferenceCharacter isReference reference-passes (drop 4 text) (l .reference))))
+
+-- a country of three characters is all of them
+pub three-of : (c : List ℕ) → length c ≡ 3 → threeOf c ≡ c
+three-of [] e = absurd (omega arith)
+three-of (x ∷ []) e = absurd (omega arith)
+three-of (x ∷ y ∷ []) e = absurd (omega arith)
+three-of (x ∷ y ∷ z ∷ []) e = refl
+three-of (x ∷ y ∷ z ∷ w ∷ t) e = absurd (omega arith)

@@ -1,0 +1,121 @@
+-- The tests of 24, 25 and 26 against the grammar: rows, sizes of values and the signature, both ways.
+-- Assumes nothing.
+use mathlib.Core.Path.{_≡_, refl, ap, sym, subst, _∙_}
+use mathlib.Core.Logic.{⊎-elim}
+use mathlib.Core.Bool.{Bool, true, false}
+use Prim.Native.Nat.{ℕ, _+_, _≤_}
+use borrow.Author.Tests.{leb-true, le-leb, eqb-true, ne-eqb, eqb-false}
+use mathlib.Core.List.{List, [], _∷_, map}
+use lib.Dec.{leb, eqb}
+use lib.ListN.{length, drop}
+use Rattle.format.specs.Choice.{pick}
+use Rattle.format.specs.Choice.Laws.{by-test}
+use Rattle.format.specs.Table.{both, either}
+use Rattle.format.specs.Bytes.{Bytes, All}
+use Rattle.format.specs.Bytes.Laws.{bytes-take, bytes-drop}
+use Rattle.grammar.specs.Content.{three, four}
+use Rattle.grammar.specs.Legal.{ValueSize, Unused, LegalFeatures, SignatureSize, n28, n32, n48, n64, n66}
+use Rattle.items.specs.Items.Sound.{not-true, taken-size}
+use Rattle.items.specs.Items.FieldsSound.{both-true}
+use Rattle.writer.specs.Given.{Row, featureOf}
+use Rattle.writer.specs.Calls.{used, isRow, areRows, areShort, isSignature}
+use Rattle.writer.specs.Legal.Names.{both-are, either-true}
+
+-- a value inside the values buffer, of so many bytes
+abbrev pub Inside : ℕ → Row → Type 0
+Inside n r = r .place + r .size ≤ n
+
+abbrev tags : List Row → List ℕ
+tags rows = map (λ r. r .tag) rows
+
+-- no row before has the tag
+unused-of : (tag : ℕ) (rows : List Row) → used tag rows ≡ false → Unused tag (tags rows)
+unused-of tag [] e = tt
+unused-of tag (r ∷ rows) e =
+    by-test (eqb tag (r .tag))
+    (λ f. absurd (not-true (sym e ∙ ap (λ b. either b (used tag rows)) f)))
+    (λ f. (eqb-false tag (r .tag) f, unused-of tag rows (sym (ap (λ b. either b (used tag rows)) f) ∙ e)))
+
+used-none : (tag : ℕ) (rows : List Row) → Unused tag (tags rows) → used tag rows ≡ false
+used-none tag [] u = refl
+used-none tag (r ∷ rows) u = ap (λ b. either b (used tag rows)) (ne-eqb tag (r .tag) (u .0)) ∙ used-none tag rows (u .1)
+
+picked : (b : Bool) → pick b false true ≡ true → b ≡ false
+picked true e = absurd (not-true e)
+picked false e = refl
+
+-- one row
+row-is : (n : ℕ) (before : List Row) (r : Row) → isRow n before r ≡ true → (r .tag ≤ 254) × (Unused (r .tag) (tags before) × Inside n r)
+row-is n before r e =
+    let p = both-true (leb (r .tag) 254) (both (pick (used (r .tag) before) false true) (leb (r .place + r .size) n)) e in
+    let q = both-true (pick (used (r .tag) before) false true) (leb (r .place + r .size) n) (p .1) in
+    (leb-true (r .tag) 254 (p .0), (unused-of (r .tag) before (picked (used (r .tag) before) (q .0)), leb-true (r .place + r .size) n (q .1)))
+
+row-passes : (n : ℕ) (before : List Row) (r : Row) → r .tag ≤ 254 → Unused (r .tag) (tags before) → Inside n r → isRow n before r ≡ true
+row-passes n before r h u i =
+    both-are (leb (r .tag) 254) (both (pick (used (r .tag) before) false true) (leb (r .place + r .size) n)) (le-leb (r .tag) 254 h)
+    (both-are (pick (used (r .tag) before) false true) (leb (r .place + r .size) n) (ap (λ b. pick b false true) (used-none (r .tag) before u)) (le-leb (r .place + r .size) n i))
+
+-- 25 is asked in version 3 only
+abbrev pub Short : Bool → List Row → Type 0
+Short b rows = pick b (areShort rows) true ≡ true
+
+short-head : (b : Bool) (r : Row) (rows : List Row) → Short b (r ∷ rows) → ValueSize (pick b three four) (r .size) × Short b rows
+unfolding areShort
+short-head true r rows e = let p = both-true (leb (r .size) 255) (areShort rows) e in (leb-true (r .size) 255 (p .0), p .1)
+short-head false r rows e = (tt, refl)
+
+short-cons : (b : Bool) (r : Row) (rows : List Row) → ValueSize (pick b three four) (r .size) → Short b rows → Short b (r ∷ rows)
+unfolding areShort
+short-cons true r rows h e = both-are (leb (r .size) 255) (areShort rows) (le-leb (r .size) 255 h) e
+short-cons false r rows h e = refl
+
+short-nil : (b : Bool) → Short b []
+unfolding areShort
+short-nil true = refl
+short-nil false = refl
+
+module _ (values : List ℕ) where
+  -- a value inside has its row's size
+  value-size : (r : Row) → Inside (length values) r → length (featureOf values r .value) ≡ r .size
+  value-size r h = taken-size (r .size) (r .place) values h
+
+  pub rows-legal : (b : Bool) (before rows : List Row) → Bytes values → areRows (length values) before rows ≡ true → Short b rows → LegalFeatures (pick b three four) (tags before) (map (featureOf values) rows) × All (Inside (length values)) rows
+  unfolding areRows
+  rows-legal b before [] bytes e s = (tt, tt)
+  rows-legal b before (r ∷ rows) bytes e s =
+      let n = length values in
+      let p = both-true (isRow n before r) (areRows n (r ∷ before) rows) e in
+      let q = row-is n before r (p .0) in
+      let t = short-head b r rows s in
+      let ih = rows-legal b (r ∷ before) rows bytes (p .1) (t .1) in
+      ((q .0, q .1 .0, subst (ValueSize (pick b three four)) (sym (value-size r (q .1 .1))) (t .0), bytes-take (r .size) (drop (r .place) values) (bytes-drop (r .place) values bytes), ih .0), (q .1 .1, ih .1))
+
+  pub legal-rows : (b : Bool) (before rows : List Row) → LegalFeatures (pick b three four) (tags before) (map (featureOf values) rows) → All (Inside (length values)) rows → (areRows (length values) before rows ≡ true) × Short b rows
+  unfolding areRows
+  legal-rows b before [] l i = (refl, short-nil b)
+  legal-rows b before (r ∷ rows) l i =
+      let n = length values in
+      let ih = legal-rows b (r ∷ before) rows (l .4) (i .1) in (
+        both-are (isRow n before r) (areRows n (r ∷ before) rows) (row-passes n before r (l .0) (l .1) (i .0)) (ih .0),
+        short-cons b r rows (subst (ValueSize (pick b three four)) (value-size r (i .0)) (l .2)) (ih .1),
+      )
+
+-- the five sizes
+pub size-of : (n : ℕ) → isSignature n ≡ true → SignatureSize n
+size-of n e =
+    ⊎-elim (λ f. subst SignatureSize (sym (eqb-true n 56 f)) n28)
+    (λ f. ⊎-elim (λ f. subst SignatureSize (sym (eqb-true n 64 f)) n32)
+    (λ f. ⊎-elim (λ f. subst SignatureSize (sym (eqb-true n 96 f)) n48)
+    (λ f. ⊎-elim (λ f. subst SignatureSize (sym (eqb-true n 128 f)) n64) (λ f. subst SignatureSize (sym (eqb-true n 132 f)) n66)
+    (either-true (eqb n 128) (eqb n 132) f))
+    (either-true (eqb n 96) (either (eqb n 128) (eqb n 132)) f))
+    (either-true (eqb n 64) (either (eqb n 96) (either (eqb n 128) (eqb n 132))) f))
+    (either-true (eqb n 56) (either (eqb n 64) (either (eqb n 96) (either (eqb n 128) (eqb n 132)))) e)
+
+pub size-passes : (n : ℕ) → SignatureSize n → isSignature n ≡ true
+size-passes n n28 = refl
+size-passes n n32 = refl
+size-passes n n48 = refl
+size-passes n n64 = refl
+size-passes n n66 = refl

@@ -1,0 +1,11 @@
+pub mod Given
+pub mod Calls
+pub mod Steps
+pub mod Sizes
+pub mod Rows
+pub mod Put
+pub mod Whole
+pub mod Pins
+pub mod Legal
+pub mod Theorems
+pub mod Witnesses

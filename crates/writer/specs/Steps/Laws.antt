@@ -1,0 +1,135 @@
+-- Laws of the judged parts: what the tests say of the characters, and the forms of a length.
+-- Assumes nothing.
+use mathlib.Core.Path.{_≡_, refl, ap, sym, subst, _∙_}
+use mathlib.Core.Bool.{Bool, true, false}
+use Prim.Native.Nat.{ℕ, _+_, _/_, _%_, _<_, _≤_}
+use native.Mathlib.Omega.{arith}
+use borrow.Author.Tests.{eq-eqb, ne-eqb, ltb-true, ltb-false, eqb-true, eqb-false}
+use mathlib.Core.List.{List, [], _∷_, _++_}
+use lib.Dec.{ltb, leb, eqb}
+use lib.ListN.{length, take, drop, take-append-drop}
+use Rattle.format.specs.Bytes.Laws.{all-append}
+use Rattle.format.specs.Choice.{pick}
+use Rattle.format.specs.Choice.Laws.{by-test}
+use Rattle.format.specs.Table.{both, either}
+use Rattle.format.specs.Numbers.{be}
+use Rattle.format.specs.Numbers.Laws.{be-two}
+use Rattle.c40.specs.Chart.{InChart}
+use Rattle.c40.specs.Chart.Laws.{letter-in, digit-in, space-in}
+use Rattle.c40.specs.Text.{Text}
+use Rattle.der.specs.Length.{form}
+use Rattle.der.specs.Length.Exact.{form-short, form-long}
+use Rattle.grammar.specs.Content.{three, four}
+use Rattle.grammar.specs.Publish.{carried, hexDigit, hexDigits, lengthOf}
+use Rattle.items.specs.Items.{isLetter, isDigit, isReference, isSigner, all}
+use Rattle.items.specs.Items.Sound.{within-both}
+use Rattle.items.specs.Cases.{versionOf}
+use Rattle.writer.specs.Calls.{isFiller, isCountry, isTextSize, isVersion}
+use Rattle.writer.specs.Steps.{Named, spelled}
+
+pub both-true : (a b : Bool) → both a b ≡ true → (a ≡ true) × (b ≡ true)
+both-true true b e = (refl, e)
+both-true false b e = let z : _≡_ {A = ℕ} 0 1 = cc in absurd (omega arith)
+
+pub either-true : {C : Type 0} (a b : Bool) → either a b ≡ true → (a ≡ true → C) → (b ≡ true → C) → C
+either-true true b e f g = f refl
+either-true false b e f g = g e
+
+-- characters of the chart
+letter-text : (c : ℕ) → isLetter c ≡ true → InChart c
+letter-text c e = let w = within-both 65 90 c e in letter-in c (w .0) (w .1)
+
+digit-text : (c : ℕ) → isReference c ≡ true → InChart c
+digit-text c e =
+    by-test (isLetter c)
+    (λ l. letter-text c l)
+    (λ l. let w = within-both 48 57 c (sym (ap (λ b. either b (isDigit c)) l) ∙ e) in digit-in c (w .0) (w .1))
+
+filler-text : (c : ℕ) → isFiller c ≡ true → InChart (carried c)
+filler-text c e = rw e space-in
+
+carried-letter : (c : ℕ) → isLetter c ≡ true → InChart (carried c)
+carried-letter c e =
+    let w = within-both 65 90 c e in
+    rw (ne-eqb c 60 (λ f. omega arith)) (letter-text c e)
+
+all-text : (test : ℕ → Bool) → ((c : ℕ) → test c ≡ true → InChart c) → (t : List ℕ) → all test t ≡ true → Text t
+all-text test f [] e = tt
+all-text test f (c ∷ t) e = let b = both-true (test c) (all test t) e in (f c (b .0), all-text test f t (b .1))
+
+-- the country's characters, as they are carried
+pub country-text : (a b c : ℕ) → isCountry (a ∷ b ∷ c ∷ []) ≡ true → Text (carried a ∷ carried b ∷ carried c ∷ [])
+country-text a b c e =
+    let first = both-true (isLetter a) _ e in (
+      carried-letter a (first .0),
+      either-true _ _ (first .1)
+          (λ two. let t = both-true (isLetter b) _ two in (
+            carried-letter b (t .0),
+            (either-true _ _ (t .1) (λ l. carried-letter c l) (λ l. filler-text c l), tt),
+          ))
+          (λ two. let t = both-true (isFiller b) _ two in (filler-text b (t .0), (filler-text c (t .1), tt))),
+    )
+
+-- signer and reference are text
+pub signer-text : (t : List ℕ) → isSigner t ≡ true → Text t
+signer-text t e =
+    let b = both-true (all isLetter (take 2 t)) _ e in
+    subst Text (take-append-drop 2 t) (all-append InChart (take 2 t) (drop 2 t) (all-text isLetter letter-text (take 2 t) (b .0)) (all-text isReference digit-text (drop 2 t) (b .1)))
+
+pub named-text : (v : ℕ) (t : List ℕ) → Named v t → Text t
+named-text v t n =
+    subst Text (take-append-drop 4 t) (all-append InChart (take 4 t) (drop 4 t) (signer-text (take 4 t) (n .signer)) (all-text isReference digit-text (drop 4 t) (n .reference)))
+
+hex-digit-in : (n : ℕ) → n < 16 → InChart (hexDigit n)
+hex-digit-in n h =
+    by-test (ltb n 10)
+    (λ e. rw e (digit-in (48 + n) (omega arith) (omega (arith, ltb-true n 10 e))))
+    (λ e. rw e (letter-in (55 + n) (omega (arith, ltb-false n 10 e)) (omega arith)))
+
+pub spelled-text : (v : ℕ) (t : List ℕ) → Named v t → length (drop 4 t) ≤ 255 → Text (spelled t)
+spelled-text v t n h =
+    let k = length (drop 4 t) in
+    let hex : Text (hexDigits k) = (hex-digit-in (k / 16) (omega arith), (hex-digit-in (k % 16) (omega arith), tt)) in
+    all-append InChart (take 4 t ++ hexDigits k) (drop 4 t) (all-append InChart (take 4 t) (hexDigits k) (signer-text (take 4 t) (n .signer)) hex) (all-text isReference digit-text (drop 4 t) (n .reference))
+
+-- the size of a text
+pub size-three : (v n : ℕ) → v ≡ 3 → isTextSize v n ≡ true → n ≡ 9
+size-three v n e s = eqb-true n 9 (sym (ap (λ b. pick b (eqb n 9) (both (leb 5 n) (leb n 259))) (eq-eqb v 3 e)) ∙ s)
+
+pub size-four : (v n : ℕ) → (v ≡ 3 → ⊥) → isTextSize v n ≡ true → (5 ≤ n) × (n ≤ 259)
+size-four v n e s = within-both 5 259 n (sym (ap (λ b. pick b (eqb n 9) (both (leb 5 n) (leb n 259))) (ne-eqb v 3 e)) ∙ s)
+
+pub size-any : (v n : ℕ) → isTextSize v n ≡ true → (5 ≤ n) × (n ≤ 259)
+size-any v n s =
+    by-test (eqb v 3)
+    (λ e. let nine = size-three v n (eqb-true v 3 e) s in (omega arith, omega arith))
+    (λ e. size-four v n (eqb-false v 3 e) s)
+
+-- the version of a number
+pub version-three : (v : ℕ) → v ≡ 3 → versionOf v ≡ three
+version-three v e = ap (λ b. pick b three four) (eq-eqb v 3 e)
+
+pub version-four : (v : ℕ) → (v ≡ 3 → ⊥) → versionOf v ≡ four
+version-four v e = ap (λ b. pick b three four) (ne-eqb v 3 e)
+
+pub version-is : (v : ℕ) → isVersion v ≡ true → (v ≡ 3 → ⊥) → v ≡ 4
+version-is v e h = eqb-true v 4 (sym (ap (λ b. either b (eqb v 4)) (ne-eqb v 3 h)) ∙ e)
+
+-- the forms of a length up to 4,096
+module _ (v n : ℕ) where
+  pub length-plain : v ≡ 3 → lengthOf (versionOf v) n ≡ n ∷ []
+  length-plain e = ap (λ w. lengthOf w n) (version-three v e)
+
+  module _ (other : v ≡ 3 → ⊥) where
+    length-der : lengthOf (versionOf v) n ≡ form n
+    length-der = ap (λ w. lengthOf w n) (version-four v other)
+
+    pub length-short : n < 0x80 → lengthOf (versionOf v) n ≡ n ∷ []
+    length-short h = length-der ∙ form-short n h
+
+    pub length-one : 0x80 ≤ n → n < 0x100 → lengthOf (versionOf v) n ≡ 0x81 ∷ n ∷ []
+    unfolding be
+    length-one h l = let low : n % 256 ≡ n = omega arith in length-der ∙ form-long 1 (omega arith) (omega arith) n h l ∙ ap (λ x. 0x81 ∷ x ∷ []) low
+
+    pub length-two : 0x100 ≤ n → n ≤ 4096 → lengthOf (versionOf v) n ≡ 0x82 ∷ (n / 256) ∷ (n % 256) ∷ []
+    length-two h l = length-der ∙ form-long 2 (omega arith) (omega arith) n h (omega arith) ∙ ap (λ s. 0x82 ∷ s) (be-two n (omega arith))

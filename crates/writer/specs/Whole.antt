@@ -1,0 +1,271 @@
+-- Laws of the whole seal: what its judged parts say, its size as a sum, and its parts put down one after another.
+-- Assumes nothing.
+use mathlib.Core.Path.{_≡_, refl, ap, sym, subst, _∙_}
+use mathlib.Core.Bool.{true, false}
+use Prim.Native.Nat.{ℕ, _+_, _-_, _*_, _/_, _%_, _≤_}
+use native.Mathlib.Omega.{arith}
+use native.Mathlib.Nat.{zero-add}
+use borrow.Author.Tests.{eqb-true, eqb-false, eq-eqb, leb-true}
+use mathlib.Core.List.{List, [], _∷_, _++_, map, append-assoc}
+use lib.Dec.{eqb, leb}
+use lib.ListN.{length, take, drop, set, length-append, length-drop, length-set}
+use lib.Seq.{length-take-le}
+use Rattle.format.specs.Bytes.{All}
+use Rattle.format.specs.Choice.{pick}
+use Rattle.format.specs.Choice.Laws.{by-test}
+use Rattle.format.specs.Table.{both, either}
+use Rattle.format.specs.Buffer.{over}
+use Rattle.format.specs.Buffer.Laws.{length-over, over-over, over-two, Held, held-more}
+use Rattle.c40.specs.Text.{publish as c40}
+use Rattle.c40.specs.Text.Laws.{length-publish}
+use Rattle.dates.specs.Days.{isDay, publish as date}
+use Rattle.dates.specs.Days.Laws.{length-publish as length-date}
+use Rattle.der.specs.Length.{form}
+use Rattle.grammar.specs.Content.{Version, four}
+use Rattle.grammar.specs.Publish.{versionByte, carried, names, lengthOf, feature, headerZone, messageZone, signatureZone, signedBytes, publish}
+use Rattle.items.specs.Items.{isSigner}
+use Rattle.items.specs.Items.Sound.{within-both}
+use Rattle.items.specs.Cases.{versionOf}
+use Rattle.items.specs.declared.Header.{Header}
+use Rattle.writer.specs.Given.{Row, rowsOf, featureOf, threeOf, Given, contentOf}
+use Rattle.writer.specs.Calls.{isVersion, isCountry, isTextSize, used, isRow, areRows, isTable, areShort, isSignature}
+use Rattle.writer.specs.Steps.{Room, Fitting, Named, Headed, Dated, front, rest, Passed, spelled}
+use Rattle.writer.specs.Steps.Laws.{both-true, either-true as either-is, size-three, size-four, version-three, version-four, version-is}
+use Rattle.writer.specs.Sizes.{rowsSize, namesSize, sealSize}
+use Rattle.writer.specs.Put.{zone-none, zone-cons, names-three, names-four, spelled-long}
+
+-- what the judged names say
+pub headed-country : (h : Header) (t : List ℕ) → Headed h t → isCountry (h .country) ≡ true
+headed-country h t d = both-true (isCountry (h .country)) _ (d .names) .0
+
+pub headed-named : (h : Header) (t : List ℕ) → Headed h t → Named (h .version) t
+headed-named h t d =
+    let a = both-true (isCountry (h .country)) _ (d .names) in
+    let b = both-true (both (isTextSize (h .version) (length t)) (eqb (h .length + 4) (length t))) _ (a .1) in
+    let s = both-true (isTextSize (h .version) (length t)) _ (b .0) in
+    let n = both-true (isSigner (take 4 t)) _ (b .1) in
+    record { size = s .0; signer = n .0; reference = n .1 }
+
+-- the version's byte
+pub version-byte : (v : ℕ) → isVersion v ≡ true → versionByte (versionOf v) ≡ v - 1
+version-byte v e =
+    by-test (eqb v 3)
+    (λ t. let is = eqb-true v 3 t in ap versionByte (version-three v is) ∙ omega arith)
+    (λ t. let is = version-is v e (eqb-false v 3 t) in ap versionByte (version-four v (eqb-false v 3 t)) ∙ omega arith)
+
+pub version-bounds : (v : ℕ) → isVersion v ≡ true → (3 ≤ v) × (v ≤ 4)
+version-bounds v e =
+    by-test (eqb v 3)
+    (λ t. let is = eqb-true v 3 t in (omega arith, omega arith))
+    (λ t. let is = version-is v e (eqb-false v 3 t) in (omega arith, omega arith))
+
+-- sizes of the header's parts
+code-size : (t : List ℕ) → length (c40 (map carried (threeOf t))) ≡ 2
+code-size t = length-publish (map carried (threeOf t))
+
+names-size : (v : ℕ) (t : List ℕ) → isTextSize v (length t) ≡ true → length (names (versionOf v) (take 4 t) (drop 4 t)) ≡ namesSize (versionOf v) (length t)
+names-size v t s =
+    by-test (eqb v 3)
+    (λ e.
+    let is = eqb-true v 3 e in
+    let nine = size-three v (length t) is s in
+    let six : length (c40 t) ≡ 6 = omega (arith, length-publish t) in
+    ap length (names-three v t is) ∙ six ∙ sym (ap (λ w. namesSize w (length t)) (version-three v is)))
+    (λ e.
+    let other = eqb-false v 3 e in
+    let least = size-four v (length t) other s in
+    let long : length (c40 (spelled t)) ≡ (length t + 4) / 3 * 2 = omega (arith, length-publish (spelled t), spelled-long t (omega arith)) in
+    ap length (names-four v t other) ∙ long ∙ sym (ap (λ w. namesSize w (length t)) (version-four v other)))
+
+pub front-size : (h : Header) (t : List ℕ) → Headed h t → length (front h t) ≡ 4 + namesSize (versionOf (h .version)) (length t)
+front-size h t d =
+    let n = names (versionOf (h .version)) (take 4 t) (drop 4 t) in
+    omega (arith, length-append (c40 (map carried (threeOf (h .country)))) n, code-size (h .country), names-size (h .version) t (headed-named h t d .size))
+
+pub rest-size : (h : Header) → length (rest h) ≡ 8
+rest-size h =
+    let last : List ℕ = h .definition ∷ h .category ∷ [] in
+    omega (arith, length-append (date (h .issued)) (date (h .signed) ++ last), length-append (date (h .signed)) last, length-date (h .issued), length-date (h .signed))
+
+-- the front put down
+module _ (h : Header) (t out : List ℕ) (d : Headed h t) (room : Room out 0 (front h t)) where
+  pub front-room : (code : List ℕ) → map carried (threeOf (h .country)) ≡ code → Room (set (set out 0 0xDC) 1 (h .version - 1)) 2 (c40 code)
+  front-room code e =
+      let n = names (versionOf (h .version)) (take 4 t) (drop 4 t) in
+      omega (arith, length-append (c40 (map carried (threeOf (h .country)))) n, ap (λ l. length (c40 l)) e, length-set (set out 0 0xDC) 1 (h .version - 1), length-set out 0 0xDC)
+
+  module _ (code out1 : List ℕ) (at1 : ℕ) (e : map carried (threeOf (h .country)) ≡ code) (e1 : at1 ≡ 2 + length (c40 code)) (o1 : out1 ≡ over (set (set out 0 0xDC) 1 (h .version - 1)) 2 (c40 code)) where
+    first : Held out (set (set out 0 0xDC) 1 (h .version - 1)) 2 (0xDC ∷ (h .version - 1) ∷ [])
+    first = record { many = refl; is = over-two out 0 0xDC (h .version - 1) (omega (arith, length-append (c40 (map carried (threeOf (h .country)))) (names (versionOf (h .version)) (take 4 t) (drop 4 t)))) }
+
+    sum : length (front h t) ≡ at1 + length (names (versionOf (h .version)) (take 4 t) (drop 4 t))
+    sum = omega (arith, length-append (c40 (map carried (threeOf (h .country)))) (names (versionOf (h .version)) (take 4 t) (drop 4 t)), ap (λ l. length (c40 l)) e, e1)
+
+    second : Held out out1 at1 (0xDC ∷ (h .version - 1) ∷ c40 code)
+    second = held-more out (set (set out 0 0xDC) 1 (h .version - 1)) 2 (0xDC ∷ (h .version - 1) ∷ []) first (c40 code) out1 at1 o1 (sym e1) (omega (arith, sum))
+
+    pub names-room : Room out1 at1 (names (versionOf (h .version)) (take 4 t) (drop 4 t))
+    names-room = omega (arith, sum, ap length (second .is) ∙ length-over out 0 (0xDC ∷ (h .version - 1) ∷ c40 code) (omega (arith, second .many, sum)))
+
+    pub put-front : (out2 : List ℕ) (at2 : ℕ) → at2 ≡ at1 + length (names (versionOf (h .version)) (take 4 t) (drop 4 t)) → out2 ≡ over out1 at1 (names (versionOf (h .version)) (take 4 t) (drop 4 t)) → (at2 ≡ length (front h t)) × (out2 ≡ over out 0 (front h t))
+    put-front out2 at2 e2 o2 =
+        let n = names (versionOf (h .version)) (take 4 t) (drop 4 t) in
+        let third = held-more out out1 at1 (0xDC ∷ (h .version - 1) ∷ c40 code) second n out2 at2 o2 (sym e2) (omega (arith, sum)) in
+        (omega (arith, sum), third .is ∙ ap (λ b. over out 0 (0xDC ∷ b ∷ (c40 code ++ n))) (sym (version-byte (h .version) (d .version))) ∙ ap (λ l. over out 0 (0xDC ∷ versionByte (versionOf (h .version)) ∷ (c40 l ++ n))) (sym e))
+
+-- a part after a part
+pub over-then : (out : List ℕ) (at : ℕ) (p q out1 : List ℕ) (at1 : ℕ) (out2 : List ℕ) → Room out at (p ++ q) → out1 ≡ over out at p → at1 ≡ at + length p → out2 ≡ over out1 at1 q → out2 ≡ over out at (p ++ q)
+over-then out at p q out1 at1 out2 room o1 e1 o2 =
+    o2 ∙ ap (λ o. over o at1 q) o1 ∙ ap (λ k. over (over out at p) k q) e1 ∙ over-over out at p q (omega (arith, length-append p q))
+
+pub then-room : (out : List ℕ) (at : ℕ) (p q out1 : List ℕ) (at1 : ℕ) → Room out at (p ++ q) → out1 ≡ over out at p → at1 ≡ at + length p → Room out1 at1 q
+then-room out at p q out1 at1 room o1 e1 = omega (arith, length-append p q, ap length o1 ∙ length-over out at p (omega (arith, length-append p q)))
+
+pub front-part : (out : List ℕ) (at : ℕ) (p q : List ℕ) → Room out at (p ++ q) → Room out at p
+front-part out at p q room = omega (arith, length-append p q)
+
+-- the rows that were judged
+abbrev pub Inside : ℕ → Row → Type 0
+Inside n r = (r .tag ≤ 254) × (r .place + r .size ≤ n)
+
+rows-inside : (n : ℕ) (before rows : List Row) → areRows n before rows ≡ true → All (Inside n) rows
+unfolding areRows
+rows-inside n before [] e = tt
+rows-inside n before (r ∷ rows) e =
+    let b = both-true (isRow n before r) (areRows n (r ∷ before) rows) e in
+    let t = both-true (leb (r .tag) 254) _ (b .0) in
+    let u = both-true (pick (used (r .tag) before) false true) _ (t .1) in
+    ((leb-true (r .tag) 254 (t .0), leb-true (r .place + r .size) n (u .1)), rows-inside n (r ∷ before) rows (b .1))
+
+zone-size : (v : Version) (values : List ℕ) (rows : List Row) → All (Inside (length values)) rows → length (messageZone v (map (featureOf values) rows)) ≡ rowsSize v rows
+unfolding rowsSize
+zone-size v values [] a = ap length (zone-none v values)
+zone-size v values (r ∷ rows) a =
+    let ih = zone-size v values rows (a .1) in
+    let value = take (r .size) (drop (r .place) values) in
+    let long : length value ≡ r .size = length-take-le (r .size) (drop (r .place) values) (omega (arith, a .0 .1, length-drop (r .place) values)) in
+    let f = feature v (featureOf values r) in
+    let part : length f ≡ 1 + length (lengthOf v (r .size)) + r .size =
+    omega (arith, length-append (lengthOf v (length value)) value, ap (λ k. length (lengthOf v k)) long) in
+    ap length (zone-cons v values r rows) ∙ length-append f (messageZone v (map (featureOf values) rows)) ∙ omega arith
+
+short-fit : (version n : ℕ) (rows : List Row) → All (Inside n) rows → rowsSize (versionOf version) rows ≤ 4096 → (version ≡ 3 → areShort rows ≡ true) → Fitting version n rows
+unfolding rowsSize areShort
+short-fit version n [] a h s = tt
+short-fit version n (r ∷ rows) a h s =
+    let ih = short-fit version n rows (a .1) (omega arith) (λ e. both-true (leb (r .size) 255) (areShort rows) (s e) .1) in
+    ((a .0 .0, a .0 .1, (omega arith, λ e. leb-true (r .size) 255 (both-true (leb (r .size) 255) (areShort rows) (s e) .0))), ih)
+
+-- the published form, part by part
+pub seal-parts : (g : Given) → publish (contentOf g) ≡ front (g .header) (g .text) ++ (rest (g .header) ++ (messageZone (versionOf (g .header .version)) (map (featureOf (g .values)) (rowsOf (g .table))) ++ feature four (record { tag = 0xFF; value = g .signature })))
+unfolding publish signedBytes headerZone signatureZone contentOf
+seal-parts g = simp append-assoc
+
+module _ (g : Given) (h : Headed (g .header) (g .text)) (table : isTable (length (g .values)) (g .table) ≡ true) where
+  inside : All (Inside (length (g .values))) (rowsOf (g .table))
+  inside = rows-inside (length (g .values)) [] (rowsOf (g .table)) (both-true (eqb (length (g .table) % 3) 0) (areRows (length (g .values)) [] (rowsOf (g .table))) table .1)
+
+  pub seal-size : length (publish (contentOf g)) ≡ sealSize (versionOf (g .header .version)) (length (g .text)) (rowsOf (g .table)) (length (g .signature))
+  seal-size =
+      let a = front (g .header) (g .text) in
+      let b = rest (g .header) in
+      let z = messageZone (versionOf (g .header .version)) (map (featureOf (g .values)) (rowsOf (g .table))) in
+      let s = feature four (record { tag = 0xFF; value = g .signature }) in
+      ap length (seal-parts g)
+      ∙ omega (arith, length-append a (b ++ (z ++ s)), length-append b (z ++ s), length-append z s, length-append (form (length (g .signature))) (g .signature), front-size (g .header) (g .text) h, rest-size (g .header), zone-size (versionOf (g .header .version)) (g .values) (rowsOf (g .table)) inside)
+
+pub passed-fit : (g : Given) → Passed g → Fitting (g .header .version) (length (g .values)) (rowsOf (g .table))
+passed-fit g p =
+    let size = seal-size g (p .header) (p .table) in
+    short-fit (g .header .version) (length (g .values)) (rowsOf (g .table)) (inside g (p .header) (p .table)) (omega (arith, p .size))
+    (λ e. sym (ap (λ b. pick b (areShort (rowsOf (g .table))) true) (eq-eqb (g .header .version) 3 e)) ∙ p .values)
+
+-- a signature's length
+pub signature-most : (n : ℕ) → isSignature n ≡ true → n ≤ 132
+signature-most n e =
+    either-is (eqb n 56) (either (eqb n 64) (either (eqb n 96) (either (eqb n 128) (eqb n 132)))) e (λ a. omega (arith, eqb-true n 56 a)) (λ e2.
+    either-is (eqb n 64) (either (eqb n 96) (either (eqb n 128) (eqb n 132))) e2 (λ a. omega (arith, eqb-true n 64 a)) (λ e3.
+    either-is (eqb n 96) (either (eqb n 128) (eqb n 132)) e3 (λ a. omega (arith, eqb-true n 96 a)) (λ e4.
+    either-is (eqb n 128) (eqb n 132) e4 (λ a. omega (arith, eqb-true n 128 a)) (λ a. omega (arith, eqb-true n 132 a)))))
+
+-- both dates and the last two bytes
+pub dated-days : (h : Header) → Dated h → (isDay (h .issued) ≡ true) × (isDay (h .signed) ≡ true)
+dated-days h d = both-true (isDay (h .issued)) (isDay (h .signed)) (d .days)
+
+pub dated-last : (h : Header) → Dated h → (h .definition ≤ 254) × (h .category ≤ 254)
+dated-last h d =
+    let b = both-true (both (leb 1 (h .definition)) (leb (h .definition) 254)) _ (d .last) in
+    (within-both 1 254 (h .definition) (b .0) .1, within-both 1 254 (h .category) (b .1) .1)
+
+-- the header's last items put down
+module _ (h : Header) (out : List ℕ) (at : ℕ) (room : Room out at (rest h)) (out1 : List ℕ) (at1 : ℕ) (e1 : at1 ≡ at + 3) (o1 : out1 ≡ over out at (date (h .issued))) where
+  abbrev last : List ℕ
+  last = h .definition ∷ h .category ∷ []
+
+  sum1 : at1 ≡ at + length (date (h .issued))
+  sum1 = omega (arith, length-date (h .issued))
+
+  room1 : Room out1 at1 (date (h .signed) ++ last)
+  room1 = then-room out at (date (h .issued)) (date (h .signed) ++ last) out1 at1 room o1 sum1
+
+  pub rest-second : Room out1 at1 (date (h .signed))
+  rest-second = front-part out1 at1 (date (h .signed)) last room1
+
+  module _ (out2 : List ℕ) (at2 : ℕ) (e2 : at2 ≡ at1 + 3) (o2 : out2 ≡ over out1 at1 (date (h .signed))) where
+    sum2 : at2 ≡ at1 + length (date (h .signed))
+    sum2 = omega (arith, length-date (h .signed))
+
+    pub rest-last : at2 + 2 ≤ length out2
+    rest-last = then-room out1 at1 (date (h .signed)) last out2 at2 room1 o2 sum2
+
+    pub put-rest : (at2 + 2 ≡ at + 8) × (set (set out2 at2 (h .definition)) (at2 + 1) (h .category) ≡ over out at (rest h))
+    put-rest = (
+      omega arith,
+      over-then out at (date (h .issued)) (date (h .signed) ++ last) out1 at1 (set (set out2 at2 (h .definition)) (at2 + 1) (h .category)) room o1 sum1
+          (over-then out1 at1 (date (h .signed)) last out2 at2 (set (set out2 at2 (h .definition)) (at2 + 1) (h .category)) room1 o2 sum2 (over-two out2 at2 (h .definition) (h .category) rest-last)),
+    )
+
+-- the seal's parts put down
+module _ (g : Given) (out : List ℕ) (room : Room out 0 (publish (contentOf g))) where
+  abbrev zone : List ℕ
+  zone = messageZone (versionOf (g .header .version)) (map (featureOf (g .values)) (rowsOf (g .table)))
+
+  abbrev mark : List ℕ
+  mark = feature four (record { tag = 0xFF; value = g .signature })
+
+  whole-room : Room out 0 (front (g .header) (g .text) ++ (rest (g .header) ++ (zone ++ mark)))
+  whole-room = subst (Room out 0) (seal-parts g) room
+
+  pub seal-front : Room out 0 (front (g .header) (g .text))
+  seal-front = front-part out 0 (front (g .header) (g .text)) (rest (g .header) ++ (zone ++ mark)) whole-room
+
+  module _ (out1 : List ℕ) (at1 : ℕ) (e1 : at1 ≡ length (front (g .header) (g .text))) (o1 : out1 ≡ over out 0 (front (g .header) (g .text))) where
+    zero-first : at1 ≡ 0 + length (front (g .header) (g .text))
+    zero-first = e1 ∙ sym (zero-add (length (front (g .header) (g .text))))
+
+    past-front : Room out1 at1 (rest (g .header) ++ (zone ++ mark))
+    past-front = then-room out 0 (front (g .header) (g .text)) (rest (g .header) ++ (zone ++ mark)) out1 at1 whole-room o1 zero-first
+
+    pub seal-rest : Room out1 at1 (rest (g .header))
+    seal-rest = front-part out1 at1 (rest (g .header)) (zone ++ mark) past-front
+
+    module _ (out2 : List ℕ) (at2 : ℕ) (e2 : at2 ≡ at1 + 8) (o2 : out2 ≡ over out1 at1 (rest (g .header))) where
+      eight : at2 ≡ at1 + length (rest (g .header))
+      eight = e2 ∙ ap (λ n. at1 + n) (sym (rest-size (g .header)))
+
+      past-rest : Room out2 at2 (zone ++ mark)
+      past-rest = then-room out1 at1 (rest (g .header)) (zone ++ mark) out2 at2 past-front o2 eight
+
+      pub seal-rows : Room out2 at2 (messageZone (versionOf (g .header .version)) (map (featureOf (g .values)) (rowsOf (g .table))))
+      seal-rows = front-part out2 at2 zone mark past-rest
+
+      module _ (out3 : List ℕ) (at3 : ℕ) (e3 : at3 ≡ at2 + length (messageZone (versionOf (g .header .version)) (map (featureOf (g .values)) (rowsOf (g .table))))) (o3 : out3 ≡ over out2 at2 (messageZone (versionOf (g .header .version)) (map (featureOf (g .values)) (rowsOf (g .table))))) where
+        pub seal-mark : Room out3 at3 (feature four (record { tag = 0xFF; value = g .signature }))
+        seal-mark = then-room out2 at2 zone mark out3 at3 past-rest o3 e3
+
+        pub put-seal : (out4 : List ℕ) → out4 ≡ over out3 at3 (feature four (record { tag = 0xFF; value = g .signature })) → out4 ≡ over out 0 (publish (contentOf g))
+        put-seal out4 o4 =
+            let third = over-then out2 at2 zone mark out3 at3 out4 past-rest o3 e3 o4 in
+            let second = over-then out1 at1 (rest (g .header)) (zone ++ mark) out2 at2 out4 past-front o2 eight third in
+            over-then out 0 (front (g .header) (g .text)) (rest (g .header) ++ (zone ++ mark)) out1 at1 out4 whole-room o1 zero-first second
+            ∙ ap (over out 0) (sym (seal-parts g))

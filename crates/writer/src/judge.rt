@@ -1,0 +1,110 @@
+// The judging of header, text and signature (document 01, numbers 20 to 23 and 26).
+ghost use mathlib.Core.Path.{_≡_};
+ghost use mathlib.Core.List.{[], _∷_};
+ghost use Rattle.writer.specs.Calls as call;
+use items::Header;
+
+// Version 3 or 4.
+pub(crate) fn is_version(version: usize) -> bool
+    ensures { λ r. ⌜ r ≡ call.isVersion version ⌝ }
+{
+    if version == 3 {
+        return true;
+    }
+    version == 4
+}
+
+// A country, with fillers as `<`: a letter first, and no letter after a filler.
+pub(crate) fn is_country(a: u8, b: u8, c: u8) -> bool
+    ensures { λ r. ⌜ r ≡ call.isCountry (a ∷ b ∷ c ∷ []) ⌝ }
+{
+    if !items::is_letter(a) {
+        return false;
+    }
+    if items::is_letter(b) {
+        if items::is_letter(c) {
+            return true;
+        }
+        return c == b'<';
+    }
+    if b != b'<' {
+        return false;
+    }
+    c == b'<'
+}
+
+// Whether text of so many bytes has the size that signer and reference have.
+pub(crate) fn is_text_size(version: usize, size: usize) -> bool
+    ensures { λ r. ⌜ r ≡ call.isTextSize version size ⌝ }
+{
+    if version == 3 {
+        return size == 9;
+    }
+    if size < 5 {
+        return false;
+    }
+    size <= 259
+}
+
+// Country, signer and reference; the header's L is the reference's length.
+pub(crate) fn are_names(header: Header, text: &[u8]) -> bool
+    ensures { λ r. ⌜ r ≡ call.areNames header (now (text .entry)) ⌝ }
+{
+    let country = header.country;
+    if !is_country(country[0], country[1], country[2]) {
+        return false;
+    }
+    let size = text.len();
+    if !is_text_size(header.version, size) {
+        return false;
+    }
+    if header.length != size - 4 {
+        return false;
+    }
+    if !items::is_signer(text[0], text[1], text[2], text[3]) {
+        return false;
+    }
+    items::all_reference(&text[4..])
+}
+
+// Both dates are days.
+pub(crate) fn are_days(header: Header) -> bool
+    ensures { λ r. ⌜ r ≡ call.areDays header ⌝ }
+{
+    let issued = header.issued;
+    let signed = header.signed;
+    if !issued.is_day() {
+        return false;
+    }
+    signed.is_day()
+}
+
+// Definition reference and category are 1 to 254.
+pub(crate) fn are_last(header: Header) -> bool
+    ensures { λ r. ⌜ r ≡ call.areLast header ⌝ }
+{
+    if header.definition < 1 {
+        return false;
+    }
+    if 254 < header.definition {
+        return false;
+    }
+    if header.category < 1 {
+        return false;
+    }
+    header.category <= 254
+}
+
+// Whether this is the length of a raw signature: 2n for n of 28, 32, 48, 64 or 66.
+pub(crate) fn is_signature(size: usize) -> bool
+    ensures { λ r. ⌜ r ≡ call.isSignature size ⌝ }
+{
+    match size {
+        56 => true,
+        64 => true,
+        96 => true,
+        128 => true,
+        132 => true,
+        _ => false,
+    }
+}

@@ -1,0 +1,83 @@
+// The writer (document 01): a seal from its header, text, rows over a values buffer, and raw signature.
+ghost use mathlib.Core.Path.{_≡_};
+ghost use lib.ListN.{length};
+ghost use Rattle.format.specs.Answers.{told, filled};
+ghost use Rattle.writer.specs.Given.{given};
+ghost use Rattle.writer.specs.Calls.{writing, writingOf};
+
+mod judge;
+mod names;
+mod put;
+mod rows;
+mod size;
+
+use items::Header;
+
+// What a writing answers; `writingOf` of specs/Calls.antt gives each case its number.
+pub enum Writing {
+    // 0: the count of bytes written
+    Done(usize),
+    // 20: version not 3 or 4
+    Version,
+    // 21: country, signer or reference
+    Names,
+    // 22: a date
+    Dates,
+    // 23: definition reference or category
+    Last,
+    // 24: table not in threes, tag over 254 or used twice, or a value outside the values buffer
+    Rows,
+    // 25: value over 255 bytes in version 3
+    Values,
+    // 26: signature length
+    Signature,
+    // 27: the seal would pass 4,096
+    TooLong,
+    // 28: no room for the whole seal
+    NoRoom,
+}
+
+// Writes a seal from the start of `out`. The rows are the reader's: tag, place and length of the value in `values`. All is judged before the first byte is
+// written, so a refusal leaves `out` as it was.
+pub fn write(
+    header: Header,
+    text: &[u8],
+    rows: &[usize],
+    values: &[u8],
+    signature: &[u8],
+    out: &mut [u8],
+) -> Writing
+    ensures answer { λ r. ⌜ writingOf r ≡ told (writing (given header (now (text .entry)) (now (rows .entry)) (now (values .entry)) (now (signature .entry))) (length (now (out .entry)))) ⌝ }
+    ensures buffer { λ r. ⌜ now (out .exit) ≡ filled (writing (given header (now (text .entry)) (now (rows .entry)) (now (values .entry)) (now (signature .entry))) (length (now (out .entry)))) (now (out .entry)) ⌝ }
+{
+    if !judge::is_version(header.version) {
+        return Writing::Version;
+    }
+    if !judge::are_names(header, text) {
+        return Writing::Names;
+    }
+    if !judge::are_days(header) {
+        return Writing::Dates;
+    }
+    if !judge::are_last(header) {
+        return Writing::Last;
+    }
+    if !rows::are_rows(rows, values.len()) {
+        return Writing::Rows;
+    }
+    if !rows::are_values(header.version, rows) {
+        return Writing::Values;
+    }
+    if !judge::is_signature(signature.len()) {
+        return Writing::Signature;
+    }
+    let size = size::seal_size(header.version, text.len(), rows, signature.len());
+    if 4096 < size {
+        return Writing::TooLong;
+    }
+    if out.len() < size {
+        return Writing::NoRoom;
+    }
+    put::put_seal(header, text, rows, values, signature, out);
+    Writing::Done(size)
+}

@@ -1,0 +1,148 @@
+// The parts of a seal put down one after another (document 01, Layout); each answers the place reached.
+ghost use mathlib.Core.Path.{_≡_};
+ghost use Prim.Native.Nat.{_+_, _<_};
+ghost use mathlib.Core.List.{map};
+ghost use lib.ListN.{length};
+ghost use Rattle.format.specs.Buffer.{over};
+ghost use Rattle.dates.specs.Days.{Day, publish as dateIn};
+ghost use Rattle.grammar.specs.Publish.{lengthOf, feature, messageZone, publish};
+ghost use Rattle.items.specs.Cases.{versionOf};
+ghost use Rattle.writer.specs.Given.{given, rowsOf, featureOf, contentOf};
+ghost use Rattle.writer.specs.Steps.{Room, Measured, Fitting, Headed, Dated, front, rest, Passed};
+use crate::names::carried;
+use crate::names::put_names;
+use crate::names::put_text;
+use dates::Date;
+use dates::Numbered;
+use items::Header;
+
+// Puts down a date.
+pub(crate) fn put_date(date: Date, out: &mut [u8], at: usize) -> usize
+    requires { ⌜ Day date × Room (now out) at (dateIn date) ⌝ }
+    ensures place { λ r. ⌜ r ≡ at + 3 ⌝ }
+    ensures buffer { λ r. ⌜ now (out .exit) ≡ over (now (out .entry)) at (dateIn date) ⌝ }
+{
+    let Numbered::Number(number) = date.number() else {
+        return at + 3;
+    };
+    out[at] = (number / 65536) as u8;
+    out[at + 1] = (number / 256 % 256) as u8;
+    out[at + 2] = (number % 256) as u8;
+    at + 3
+}
+
+// Puts down the header's first items: DC, the version, country, signer and reference.
+pub(crate) fn put_front(header: Header, text: &[u8], out: &mut [u8]) -> usize
+    requires { ⌜ Headed header (now text) × Room (now out) 0 (front header (now text)) ⌝ }
+    ensures place { λ r. ⌜ r ≡ length (front header (now (text .entry))) ⌝ }
+    ensures buffer { λ r. ⌜ now (out .exit) ≡ over (now (out .entry)) 0 (front header (now (text .entry))) ⌝ }
+{
+    let version = header.version;
+    let country = header.country;
+    out[0] = 0xDC;
+    out[1] = (version - 1) as u8;
+    let code = [
+        carried(country[0]),
+        carried(country[1]),
+        carried(country[2]),
+    ];
+    let at = put_text(&code, out, 2);
+    put_names(version, text, out, at)
+}
+
+// Puts down the header's last items: both dates, definition reference and category.
+pub(crate) fn put_rest(header: Header, out: &mut [u8], at: usize) -> usize
+    requires { ⌜ Dated header × Room (now out) at (rest header) ⌝ }
+    ensures place { λ r. ⌜ r ≡ at + 8 ⌝ }
+    ensures buffer { λ r. ⌜ now (out .exit) ≡ over (now (out .entry)) at (rest header) ⌝ }
+{
+    let signed = put_date(header.issued, out, at);
+    let last = put_date(header.signed, out, signed);
+    out[last] = header.definition as u8;
+    out[last + 1] = header.category as u8;
+    last + 2
+}
+
+// Puts down a length: one plain byte in version 3 and a DER length in version 4.
+pub(crate) fn put_length(version: usize, size: usize, out: &mut [u8], at: usize) -> usize
+    requires { ⌜ Measured version size × Room (now out) at (lengthOf (versionOf version) size) ⌝ }
+    ensures place { λ r. ⌜ r ≡ at + length (lengthOf (versionOf version) size) ⌝ }
+    ensures buffer { λ r. ⌜ now (out .exit) ≡ over (now (out .entry)) at (lengthOf (versionOf version) size) ⌝ }
+{
+    if version == 3 {
+        out[at] = size as u8;
+        return at + 1;
+    }
+    if size < 0x80 {
+        out[at] = size as u8;
+        return at + 1;
+    }
+    if size < 0x100 {
+        out[at] = 0x81;
+        out[at + 1] = size as u8;
+        return at + 2;
+    }
+    out[at] = 0x82;
+    out[at + 1] = (size / 256) as u8;
+    out[at + 2] = (size % 256) as u8;
+    at + 3
+}
+
+// Puts down a feature; the signature is put down as one too, after its mark FF and with a DER length.
+pub(crate) fn put_feature(
+    version: usize,
+    tag: usize,
+    value: &[u8],
+    out: &mut [u8],
+    at: usize,
+) -> usize
+    requires { ⌜ (tag < 256) × Measured version (length (now value)) × Room (now out) at (feature (versionOf version) (record { tag = tag; value = now value })) ⌝ }
+    ensures place { λ r. ⌜ r ≡ at + length (feature (versionOf version) (record { tag = tag; value = now (value .entry) })) ⌝ }
+    ensures buffer { λ r. ⌜ now (out .exit) ≡ over (now (out .entry)) at (feature (versionOf version) (record { tag = tag; value = now (value .entry) })) ⌝ }
+{
+    out[at] = tag as u8;
+    let next = put_length(version, value.len(), out, at + 1);
+    octets::copy(value, out, next)
+}
+
+// Puts down the features of the rows.
+pub(crate) fn put_rows(
+    version: usize,
+    rows: &[usize],
+    values: &[u8],
+    out: &mut [u8],
+    start: usize,
+) -> usize
+    requires { ⌜ Fitting version (length (now values)) (rowsOf (now rows)) × Room (now out) start (messageZone (versionOf version) (map (featureOf (now values)) (rowsOf (now rows)))) ⌝ }
+    ensures place { λ r. ⌜ r ≡ start + length (messageZone (versionOf version) (map (featureOf (now (values .entry))) (rowsOf (now (rows .entry))))) ⌝ }
+    ensures buffer { λ r. ⌜ now (out .exit) ≡ over (now (out .entry)) start (messageZone (versionOf version) (map (featureOf (now (values .entry))) (rowsOf (now (rows .entry))))) ⌝ }
+{
+    let n = rows.len();
+    let mut at = start;
+    let mut row: usize = 0;
+    while row + 2 < n {
+        let place = rows[row + 1];
+        let end = place + rows[row + 2];
+        at = put_feature(version, rows[row], &values[place..end], out, at);
+        row += 3;
+    }
+    at
+}
+
+// Puts down a seal whose parts were judged, from the start of `out`, which has room for it.
+pub(crate) fn put_seal(
+    header: Header,
+    text: &[u8],
+    rows: &[usize],
+    values: &[u8],
+    signature: &[u8],
+    out: &mut [u8],
+)
+    requires { ⌜ Passed (given header (now text) (now rows) (now values) (now signature)) × Room (now out) 0 (publish (contentOf (given header (now text) (now rows) (now values) (now signature)))) ⌝ }
+    ensures { λ r. ⌜ now (out .exit) ≡ over (now (out .entry)) 0 (publish (contentOf (given header (now (text .entry)) (now (rows .entry)) (now (values .entry)) (now (signature .entry))))) ⌝ }
+{
+    let at = put_front(header, text, out);
+    let message = put_rest(header, out, at);
+    let end = put_rows(header.version, rows, values, out, message);
+    put_feature(4, 0xFF, signature, out, end);
+}

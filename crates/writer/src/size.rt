@@ -1,0 +1,67 @@
+// The size of a seal before it is written (document 01, number 27): a sum that stops at 4,097, so that it never wraps.
+ghost use mathlib.Core.Path.{_≡_};
+ghost use Prim.Native.Nat.{min, _+_, _≤_};
+ghost use lib.ListN.{length};
+ghost use Rattle.grammar.specs.Publish.{lengthOf};
+ghost use Rattle.items.specs.Cases.{versionOf};
+ghost use Rattle.writer.specs.Given.{rowsOf};
+ghost use Rattle.writer.specs.Sizes.{rowsSize, namesSize, sealSize};
+
+// How many bytes a length takes.
+pub(crate) fn width_of(version: usize, size: usize) -> usize
+    requires { ⌜ size ≤ 4096 ⌝ }
+    ensures { λ r. ⌜ r ≡ length (lengthOf (versionOf version) size) ⌝ }
+{
+    if version == 3 {
+        return 1;
+    }
+    if size < 0x80 {
+        return 1;
+    }
+    if size < 0x100 {
+        return 2;
+    }
+    3
+}
+
+// A start and the size of the features after it.
+pub(crate) fn rows_size(version: usize, rows: &[usize], start: usize) -> usize
+    requires { ⌜ start ≤ 4096 ⌝ }
+    ensures { λ r. ⌜ r ≡ min (start + rowsSize (versionOf version) (rowsOf (now (rows .entry)))) 4097 ⌝ }
+{
+    let n = rows.len();
+    let mut total = start;
+    let mut at: usize = 0;
+    while at + 2 < n {
+        let size = rows[at + 2];
+        if 4096 < size {
+            return 4097;
+        }
+        total += 1 + width_of(version, size) + size;
+        if 4096 < total {
+            return 4097;
+        }
+        at += 3;
+    }
+    total
+}
+
+// How many bytes signer and reference take, of so many characters.
+pub(crate) fn names_size(version: usize, text: usize) -> usize
+    requires { ⌜ text ≤ 259 ⌝ }
+    ensures { λ r. ⌜ r ≡ namesSize (versionOf version) text ⌝ }
+{
+    if version == 3 {
+        return 6;
+    }
+    (text + 4) / 3 * 2
+}
+
+// The size of a seal with so many bytes of text and of signature.
+pub(crate) fn seal_size(version: usize, text: usize, rows: &[usize], signature: usize) -> usize
+    requires { ⌜ (text ≤ 259) × (signature ≤ 132) ⌝ }
+    ensures { λ r. ⌜ r ≡ min (sealSize (versionOf version) text (rowsOf (now (rows .entry))) signature) 4097 ⌝ }
+{
+    let fixed = 12 + names_size(version, text) + 1 + width_of(4, signature) + signature;
+    rows_size(version, rows, fixed)
+}
