@@ -1,0 +1,92 @@
+-- A seal made anew says what was read, and the call has a sound shape.
+-- Assumes nothing.
+use mathlib.Core.Path.{_≡_, refl, ap, sym, subst, _∙_}
+use mathlib.Core.Logic.{_⊎_, inl, inr}
+use Prim.Native.Nat.{ℕ, _+_, _*_, _≤_}
+use native.Mathlib.Omega.{arith}
+use mathlib.Core.List.{List, [], _∷_, _++_, map, append-nil}
+use lib.ListN.{length, drop, length-append}
+use lib.Seq.{take-at, drop-at}
+use Rattle.format.specs.Bytes.{All}
+use Rattle.grammar.specs.Content.{Version, three, four, Feature, Content}
+use Rattle.grammar.specs.Publish.{headerZone, messageZone, publish, lengthOf}
+use Rattle.grammar.specs.Theorems.{zones-add-up}
+use Rattle.items.specs.Cases.{edition}
+use Rattle.items.specs.Cases.Laws.{version-back}
+use Rattle.reader.specs.Judge.{Row, Report, accepted}
+use Rattle.reader.specs.Judge.Complete.{reportOf}
+use Rattle.reader.specs.Judge.Features.{rowsOf as rowsFrom, feature-parts}
+use Rattle.reader.specs.Report.{part, featureOf as featureIn, contentOf as contentRead}
+use Rattle.reader.specs.Calls.{answerOf, table, text, then}
+use Rattle.writer.specs.Given.{rowsOf, featureOf, contentOf}
+use Rattle.writer.specs.Legal.{Sound}
+use Rattle.writer.specs.Legal.Names.{three-of}
+use Rattle.writer.specs.Legal.Rows.{Inside}
+use Rattle.seal.specs.Again.{againFrom, again}
+
+pub table-size : (rows : List Row) → length (table rows) ≡ 3 * length rows
+unfolding table
+table-size [] = refl
+table-size (r ∷ rows) = let ih = table-size rows in omega arith
+
+-- what the caller holds gives the same call
+pub again-held : (s : List ℕ) (r : Report) (rows names : List ℕ) → length (r .header .signer) ≡ 4 → againFrom s (answerOf (accepted r)) (then (table (r .rows)) rows) (then (text r) names) ≡ again s r
+again-held s r rows names long =
+    let h = r .header in
+    let t = take-at (text r) (drop (length (text r)) names) (4 + length (h .reference)) (length-append (h .signer) (h .reference) ∙ ap (λ n. n + length (h .reference)) long) in
+    let u = take-at (table (r .rows)) (drop (length (table (r .rows))) rows) (3 * length (r .rows)) (table-size (r .rows)) in
+    λ i. record { header = answerOf (accepted r) .header; text = t i; table = u i; values = s; signature = part (r .signature-place) (r .signature-size) s }
+
+-- the rows of the table are those read
+features-again : (s : List ℕ) (rows : List Row) → map (featureOf s) (rowsOf (table rows)) ≡ map (featureIn s) rows
+unfolding rowsOf table
+features-again s [] = refl
+features-again s (r ∷ rows) = let ih = features-again s rows in ap (λ u. featureIn s r ∷ u) ih
+
+pub content-again : (s : List ℕ) (r : Report) → length (r .header .signer) ≡ 4 → length (r .header .country) ≡ 3 → contentOf (again s r) ≡ contentRead s r
+unfolding contentOf contentRead
+content-again s r long three-long =
+    let h = r .header in
+    let signer = take-at (h .signer) (h .reference) 4 long in
+    let reference = drop-at (h .signer) (h .reference) 4 long in
+    let country = three-of (h .country) three-long in
+    λ i. record {
+      header = record { version = version-back (h .version) i; country = country i; signer = signer i; reference = reference i; issued = h .issued; signed = h .signed; definition = h .definition; category = h .category };
+      features = features-again s (r .rows) i;
+      signature = part (r .signature-place) (r .signature-size) s;
+    }
+
+-- each value read stands inside the seal
+zone-size : (v : Version) (f : Feature) (fs : List Feature) → length (messageZone v (f ∷ fs)) ≡ 1 + length (lengthOf v (length (f .value))) + length (f .value) + length (messageZone v fs)
+zone-size v f fs =
+    let z = messageZone v fs in
+    let e = ap length (sym (append-nil (messageZone v (f ∷ fs))) ∙ feature-parts v f fs []) in
+    omega (arith, e, length-append (lengthOf v (length (f .value))) (f .value ++ (z ++ [])), length-append (f .value) (z ++ []), length-append z [])
+
+rows-inside : (v : Version) (at n : ℕ) (fs : List Feature) → at + length (messageZone v fs) ≤ n → All (Inside n) (rowsOf (table (rowsFrom v at fs)))
+unfolding rowsOf table rowsFrom
+rows-inside v at n [] h = tt
+rows-inside v at n (f ∷ fs) h =
+    let z = zone-size v f fs in
+    let ih = rows-inside v (at + 1 + length (lengthOf v (length (f .value))) + length (f .value)) n fs (omega arith) in
+    (omega arith, ih)
+
+edition-is : (v : Version) → (edition v ≡ 3) ⊎ (edition v ≡ 4)
+edition-is three = inl refl
+edition-is four = inr refl
+
+inside-again : (c : Content) → All (Inside (length (publish c))) (rowsOf (table (reportOf c .rows)))
+unfolding reportOf
+inside-again c =
+    rows-inside (c .header .version) (length (headerZone (c .header))) (length (publish c)) (c .features) (omega (arith, zones-add-up c))
+
+pub sound-again : (s : List ℕ) (r : Report) (c : Content) → publish c ≡ s → r ≡ reportOf c → length (r .header .signer) ≡ 4 → length (r .header .country) ≡ 3 → Sound (again s r)
+sound-again s r c form same long three-long =
+    let h = r .header in
+    record {
+      country = three-long;
+      version = edition-is (h .version);
+      measured = omega (arith, length-append (h .signer) (h .reference));
+      threes = omega (arith, table-size (r .rows));
+      inside = subst (λ u. All (Inside (length u)) (rowsOf (table (r .rows)))) form (subst (λ q. All (Inside (length (publish c))) (rowsOf (table (q .rows)))) (sym same) (inside-again c));
+    }

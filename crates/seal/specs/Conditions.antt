@@ -1,0 +1,217 @@
+-- The tender's conditions of acceptance for reader and writer, as theorems: each after its sentence. What is cited stands in
+--   Legal, publish, signedBytes, Content           crates/grammar/specs (a grammar that knows nothing of reader and writer: crates.txt)
+--   reading, answerOf, rowsIn, textIn, then        crates/reader/specs/Calls.antt (the contract of `read`; of `judge`: Judge.antt), contentIn: Answer.antt there
+--   writing, contentOf, Lent, Sound                crates/writer/specs/Calls.antt (the contract of `write`), Given.antt and Legal.antt there
+--   told, filled                                   crates/format/specs/Answers.antt
+--   againFrom                                      crates/seal/specs/Again.antt
+-- C40 text, dates, INTEGERs and signature forms: condition 1 in Entries.antt beside this file, condition 2 in the file Exact.antt of c40, dates, integers and ecdsa.
+-- Assumes nothing.
+pub mod Laws
+use mathlib.Core.Path.{_≡_, refl, ap, sym, subst, _∙_}
+use mathlib.Core.Logic.{_⊎_, inl, inr, ⊎-elim}
+use Prim.Native.Nat.{ℕ, _+_, _*_, _≤_}
+use mathlib.Core.List.{List, [], _++_}
+use lib.ListN.{length, take}
+use lib.Seq.{take-at}
+use Rattle.format.specs.Answers.{done, refused as refusedWith, told, filled}
+use Rattle.format.specs.Bytes.{Bytes}
+use Rattle.format.specs.Bytes.Laws.{bytes-take}
+use Rattle.grammar.specs.Content.{Content}
+use Rattle.grammar.specs.Publish.{signatureZone, signedBytes, publish}
+use Rattle.grammar.specs.Legal.{Legal}
+use Rattle.grammar.specs.Theorems as grammar
+use Rattle.reader.specs.Judge.{accepted, refused, judge}
+use Rattle.reader.specs.Judge.Numbers.{from-list}
+use Rattle.reader.specs.Judge.Complete.{published-accepted as legal-accepted}
+use Rattle.reader.specs.Judge.Seals.{accepted-only}
+use Rattle.reader.specs.Calls.{answerOf, reading, rowsIn, textIn, then}
+use Rattle.reader.specs.Calls.Given.{given-accepted}
+use Rattle.reader.specs.Answer.{contentIn}
+use Rattle.reader.specs.Theorems as reader
+use Rattle.reader.specs.declared.Reading.{Reading}
+use Rattle.writer.specs.Given.{Given, contentOf}
+use Rattle.writer.specs.Calls.{writing}
+use Rattle.writer.specs.Legal.{Lent, Sound, written-legal, legal-written}
+use Rattle.writer.specs.Theorems as writer
+use Rattle.seal.specs.Again.{againFrom}
+use Rattle.seal.specs.Again.Laws.{again-held}
+use Rattle.seal.specs.Conditions.Laws.{zero-accepted, signer-long, again-writes, header-given, text-held, back-reads, back-content, same-text, same-header, refusal-of, verdict-listed, zero-judged, signed-first}
+
+-- What `read` gives for a seal and a lent table and text: its answer, and what table and text hold afterwards.
+abbrev pub answer : List ℕ → List ℕ → List ℕ → Reading
+answer s rows names = answerOf (reading s (length rows) (length names))
+
+abbrev pub tableAfter : List ℕ → List ℕ → List ℕ → List ℕ
+tableAfter s rows names = then (rowsIn (reading s (length rows) (length names))) rows
+
+abbrev pub textAfter : List ℕ → List ℕ → List ℕ → List ℕ
+textAfter s rows names = then (textIn (reading s (length rows) (length names))) names
+
+-- the content that the caller then holds
+abbrev pub contentHeld : List ℕ → List ℕ → List ℕ → Content
+contentHeld s rows names = contentIn s (answer s rows names) (tableAfter s rows names) (textAfter s rows names)
+
+-- What `write` gives for a call and a lent buffer: its number and count, and what the buffer holds afterwards.
+abbrev pub numberOf : Given → List ℕ → ℕ
+numberOf g out = told (writing g (length out)) .number
+
+abbrev pub bufferAfter : Given → List ℕ → List ℕ
+bufferAfter g out = filled (writing g (length out)) out
+
+-- the seal: as many bytes of the buffer as the count says
+abbrev pub sealIn : Given → List ℕ → List ℕ
+sealIn g out = take (told (writing g (length out)) .count) (bufferAfter g out)
+
+-- Condition 1. "Every entry point takes every input, from no bytes to too many, and answers from the numbered list in document 01."
+pub reader-listed : (s rows names : List ℕ) → answer s rows names .number ≤ 12
+reader-listed s rows names = reader.listed s (length rows) (length names)
+
+-- the verdict alone, of `judge`
+pub judge-listed : (s : List ℕ) → answerOf (judge s) .number ≤ 11
+judge-listed s = verdict-listed (judge s) (from-list s)
+
+pub writer-listed : (g : Given) (out : List ℕ) → (numberOf g out ≡ 0) ⊎ ((20 ≤ numberOf g out) × (numberOf g out ≤ 28))
+writer-listed g out = ⊎-elim (λ e. inl (ap (λ o. o .number) e)) (λ e. inr (e .0)) (writer.listed g (length out))
+
+-- "Writer: 20 to 28 in order" (document 01): the number of the first test that is not passed
+pub writer-in-order : (g : Given) (out : List ℕ) → numberOf g out ≡ writer.first (writer.tests g (length out))
+writer-in-order g out = writer.in-order g (length out)
+
+-- "A refusal carries its number and place and changes nothing in the buffers we lent." Every other field of the answer is 0.
+pub reader-refusal : (s rows names : List ℕ) → (answer s rows names .number ≡ 0 → ⊥) → (answer s rows names ≡ answerOf (refused (answer s rows names .number) (answer s rows names .place))) × ((tableAfter s rows names ≡ rows) × (textAfter s rows names ≡ names))
+reader-refusal s rows names h = refusal-of (reading s (length rows) (length names)) rows names h
+
+pub writer-refusal : (g : Given) (out : List ℕ) → (numberOf g out ≡ 0 → ⊥) → (told (writing g (length out)) ≡ told (refusedWith (numberOf g out) 0)) × (bufferAfter g out ≡ out)
+writer-refusal g out h =
+    ⊎-elim (λ e. absurd (h (ap (λ o. o .number) e))) (λ e. (ap told (e .1), ap (λ o. filled o out) (e .1))) (writer.listed g (length out))
+
+-- Condition 2. "What the writer makes reads back as the fields, tags, value bytes and signature given."
+-- On 0 the seal made stands in the buffer from its start, and past it the buffer is as it was (`filled`).
+pub seal-made : (g : Given) (out : List ℕ) → numberOf g out ≡ 0 → writing g (length out) ≡ done (sealIn g out)
+seal-made g out z =
+    let e = writer.zero-done g (length out) z in
+    e ∙ ap done (sym (writer.stands g out (writing g (length out) .written) e))
+
+-- read with as much table and text as was given: header and text are those given, and the content held, with its tags, value bytes and signature, is the one given
+pub record ReadsBack (g : Given) (s rows names : List ℕ) : Type 0 where
+  pub number : answer s rows names .number ≡ 0
+  pub header : answer s rows names .header ≡ g .header
+  pub text : take (length (g .text)) (textAfter s rows names) ≡ g .text
+  pub content : contentHeld s rows names ≡ contentOf g
+
+pub written-reads : (g : Given) (out : List ℕ) → Lent g → numberOf g out ≡ 0 → (rows names : List ℕ) → length (g .table) ≤ length rows → length (g .text) ≤ length names → ReadsBack g (sealIn g out) rows names
+written-reads g out lent z rows names more-rows more-names =
+    let s = sealIn g out in
+    let w = written-legal g (length out) s lent (seal-made g out z) in
+    let e = sym (back-reads g (length out) s w rows names more-rows more-names) in
+    record {
+      number = ap (λ v. answerOf v .number) (sym e);
+      header = subst (λ v. answerOf v .header ≡ g .header) e (header-given g (w .sound));
+      text = subst (λ v. take (length (g .text)) (then (textIn v) names) ≡ g .text) e (text-held g names);
+      content = subst (λ v. contentIn s (answerOf v) (then (rowsIn v) rows) (then (textIn v) names) ≡ contentOf g) e (back-content g (length out) s w rows names);
+    }
+
+-- "What the reader accepts writes back, given room, as the same bytes."
+pub read-writes : (s : List ℕ) → Bytes s → (rows names : List ℕ) → answer s rows names .number ≡ 0 → (room : ℕ) → length s ≤ room → writing (againFrom s (answer s rows names) (tableAfter s rows names) (textAfter s rows names)) room ≡ done s
+read-writes s bytes rows names z room fits =
+    let a = zero-accepted s (length rows) (length names) z in
+    let j = given-accepted (judge s) (length rows) (length names) (a .report) (a .reads) in
+    ap (λ v. writing (againFrom s (answerOf v) (then (rowsIn v) rows) (then (textIn v) names)) room) (a .reads)
+    ∙ ap (λ g. writing g room) (again-held s (a .report) rows names (signer-long s bytes (a .report) j))
+    ∙ again-writes s bytes (a .report) j room fits
+
+-- The writer is done exactly when the content given is legal, the call's shape is sound and there is room; what it makes is the published form.
+pub writes-legal : (g : Given) (out : List ℕ) → Lent g → numberOf g out ≡ 0 → Legal (contentOf g) × (Sound g × ((length (publish (contentOf g)) ≤ length out) × (sealIn g out ≡ publish (contentOf g))))
+writes-legal g out lent z =
+    let w = written-legal g (length out) (sealIn g out) lent (seal-made g out z) in
+    (w .legal, (w .sound, (subst (λ s. length s ≤ length out) (sym (w .form-is)) (w .fits), sym (w .form-is))))
+
+pub legal-writes : (g : Given) (out : List ℕ) → Sound g → Legal (contentOf g) → length (publish (contentOf g)) ≤ length out → numberOf g out ≡ 0
+legal-writes g out sound legal fits = ap (λ o. told o .number) (legal-written g (length out) sound legal fits)
+
+-- Condition 3. "Given room for the answer, a byte string is accepted exactly when it is the published form of a legal content."
+pub record Published (s : List ℕ) : Type 0 where
+  pub content : Content
+  pub legal : Legal content
+  pub form-is : publish content ≡ s
+
+-- room for the answer: three numbers a feature, and 4 + L characters
+abbrev pub Room : Content → List ℕ → List ℕ → Type 0
+Room c rows names = (3 * length (c .features) ≤ length rows) × (4 + length (c .header .reference) ≤ length names)
+
+pub accepted-published : (s : List ℕ) → Bytes s → (rows names : List ℕ) → answer s rows names .number ≡ 0 → Published s
+accepted-published s bytes rows names z =
+    let a = zero-accepted s (length rows) (length names) z in
+    let r = reader.accepted-exactly s bytes rows names (a .report) (a .reads) in
+    record { content = r .content; legal = r .legal; form-is = r .form-is }
+
+pub published-accepted : (s : List ℕ) (p : Published s) (rows names : List ℕ) → Room (p .content) rows names → answer s rows names .number ≡ 0
+published-accepted s p rows names room =
+    ap (λ u. answer u rows names .number) (sym (p .form-is)) ∙ ap (λ v. answerOf v .number) (reader.accepted-when (p .content) (p .legal) (length rows) (length names) (room .0) (room .1))
+
+-- `judge` needs no room
+pub judged-published : (s : List ℕ) → Bytes s → answerOf (judge s) .number ≡ 0 → Published s
+judged-published s bytes z =
+    let a = zero-judged (judge s) (from-list s) z in
+    let seal = accepted-only s bytes (a .report) (a .reads) in
+    record { content = seal .content; legal = seal .legal; form-is = seal .form-is }
+
+pub published-judged : (s : List ℕ) (p : Published s) → answerOf (judge s) .number ≡ 0
+published-judged s p = ap (λ u. answerOf (judge u) .number) (sym (p .form-is)) ∙ ap (λ v. answerOf v .number) (legal-accepted (p .content) (p .legal))
+
+-- "That content is then the only one"
+pub only-content : (s : List ℕ) (p q : Published s) → p .content ≡ q .content
+only-content s p q = grammar.one-content (p .content) (q .content) (p .legal) (q .legal) (p .form-is ∙ sym (q .form-is))
+
+-- "and it is what the reader reports."
+pub reports : (s : List ℕ) → Bytes s → (p : Published s) (rows names : List ℕ) → answer s rows names .number ≡ 0 → contentHeld s rows names ≡ p .content
+reports s bytes p rows names z =
+    let a = zero-accepted s (length rows) (length names) z in
+    let r = reader.accepted-exactly s bytes rows names (a .report) (a .reads) in
+    ap (λ v. contentIn s (answerOf v) (then (rowsIn v) rows) (then (textIn v) names)) (a .reads) ∙ r .reports ∙ sym (r .only (p .content) (p .legal) (p .form-is))
+
+-- "No accepted seal is the front part of a longer accepted one"
+pub no-front-part : (s t : List ℕ) → Bytes (s ++ t) → (rows names rows′ names′ : List ℕ) → answer s rows names .number ≡ 0 → answer (s ++ t) rows′ names′ .number ≡ 0 → t ≡ []
+no-front-part s t bytes rows names rows′ names′ z z′ =
+    let front : Bytes s = subst Bytes (take-at s t (length s) refl) (bytes-take (length s) (s ++ t) bytes) in
+    let a = zero-accepted s (length rows) (length names) z in
+    let b = zero-accepted (s ++ t) (length rows′) (length names′) z′ in
+    reader.no-front s t bytes front (a .report) (b .report) (given-accepted (judge s) (length rows) (length names) (a .report) (a .reads)) (given-accepted (judge (s ++ t)) (length rows′) (length names′) (b .report) (b .reads))
+
+-- "and two legal contents that differ in header or features differ in their signed bytes."
+pub signed-apart : (a b : Content) → Legal a → Legal b → signedBytes a ≡ signedBytes b → (a .header ≡ b .header) × (a .features ≡ b .features)
+signed-apart a b la lb e = grammar.signed-apart a b la lb e
+
+-- The signed bytes of an accepted seal are its front part, up to the end of the message zone that the answer gives.
+pub signed-front : (s : List ℕ) → Bytes s → (p : Published s) (rows names : List ℕ) → answer s rows names .number ≡ 0 → take (answer s rows names .ends .message) s ≡ signedBytes (p .content)
+signed-front s bytes p rows names z =
+    let a = zero-accepted s (length rows) (length names) z in
+    let r = reader.accepted-exactly s bytes rows names (a .report) (a .reads) in
+    ap (λ v. take (answerOf v .ends .message) s) (a .reads) ∙ r .signed ∙ ap signedBytes (sym (r .only (p .content) (p .legal) (p .form-is)))
+
+-- Two accepted seals with the same signed bytes say the same but for the signature.
+pub seals-apart : (s s′ : List ℕ) → Bytes s → Bytes s′ → (rows names rows′ names′ : List ℕ) → answer s rows names .number ≡ 0 → answer s′ rows′ names′ .number ≡ 0 → take (answer s rows names .ends .message) s ≡ take (answer s′ rows′ names′ .ends .message) s′ → (contentHeld s rows names .header ≡ contentHeld s′ rows′ names′ .header) × (contentHeld s rows names .features ≡ contentHeld s′ rows′ names′ .features)
+seals-apart s s′ bytes bytes′ rows names rows′ names′ z z′ e =
+    let p = accepted-published s bytes rows names z in
+    let q = accepted-published s′ bytes′ rows′ names′ z′ in
+    let f = reports s bytes p rows names z in
+    let g = reports s′ bytes′ q rows′ names′ z′ in
+    let same = signed-apart (p .content) (q .content) (p .legal) (q .legal) (sym (signed-front s bytes p rows names z) ∙ e ∙ signed-front s′ bytes′ q rows′ names′ z′) in
+    (ap (λ c. c .header) f ∙ same .0 ∙ ap (λ c. c .header) (sym g), ap (λ c. c .features) f ∙ same .1 ∙ ap (λ c. c .features) (sym g))
+
+-- The signed bytes of a seal that was written are its front part too, and the rest is FF, the length and the signature given.
+pub signed-made : (g : Given) (out : List ℕ) → Lent g → numberOf g out ≡ 0 → sealIn g out ≡ signedBytes (contentOf g) ++ signatureZone (g .signature)
+signed-made g out lent z = writes-legal g out lent z .1 .1 .1 ∙ signed-first g
+
+-- Two calls of the writer that are done and whose seals have the same signed bytes were given the same header, text, tags and value bytes.
+pub record SameSigned (g g′ : Given) : Type 0 where
+  pub header : g .header ≡ g′ .header
+  pub text : g .text ≡ g′ .text
+  pub features : contentOf g .features ≡ contentOf g′ .features
+
+pub calls-apart : (g g′ : Given) (out out′ : List ℕ) → Lent g → Lent g′ → numberOf g out ≡ 0 → numberOf g′ out′ ≡ 0 → signedBytes (contentOf g) ≡ signedBytes (contentOf g′) → SameSigned g g′
+calls-apart g g′ out out′ lent lent′ z z′ e =
+    let w = writes-legal g out lent z in
+    let w′ = writes-legal g′ out′ lent′ z′ in
+    let same = signed-apart (contentOf g) (contentOf g′) (w .0) (w′ .0) e in
+    record { header = same-header g g′ (same .0) (w .1 .0) (w′ .1 .0); text = same-text g g′ (same .0); features = same .1 }

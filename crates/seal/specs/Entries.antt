@@ -1,0 +1,152 @@
+-- Condition 1 for the other entry points: C40 text, dates, INTEGERs, signature forms and the choice of hash.
+-- Assumes nothing.
+use mathlib.Core.Path.{_≡_, refl, ap}
+use mathlib.Core.Logic.{_⊎_, inl, inr, ⊎-elim}
+use mathlib.Core.Bool.{Bool, true, false}
+use Prim.Native.Nat.{ℕ, _-_, _*_, _%_}
+use mathlib.Core.List.{List, [], _∷_}
+use lib.Dec.{ltb, eqb}
+use lib.IntN.{ℤ, pos}
+use lib.ListN.{length, take, drop}
+use Rattle.format.specs.Choice.{pick}
+use Rattle.format.specs.Answers.{Outcome, done, refused, filled, Given, given, refusal}
+use Rattle.c40.specs.Decode.{Decoded, text, wrong, decode}
+use Rattle.c40.specs.Text.{publish, width}
+use Rattle.c40.specs.Calls as c40
+use Rattle.dates.specs.declared.Date.{Date}
+use Rattle.dates.specs.Days.{isDay, numberOf, dateOf}
+use Rattle.dates.specs.Calls as dates
+use Rattle.der.specs.declared.Element.{Element}
+use Rattle.der.specs.declared.Element.the-variants.{Body, Nothing}
+use Rattle.der.specs.Element.{elementIn}
+use Rattle.der.specs.Content.{strict}
+use Rattle.integers.specs.Integer.{valueOf, integerOf}
+use Rattle.integers.specs.Calls as integers
+use Rattle.ecdsa.specs.Signature.{isSize, integers as integersOf, signature}
+use Rattle.ecdsa.specs.Strict.{Raw, raw, none, rawOf}
+use Rattle.ecdsa.specs.Calls as ecdsa
+
+-- a number of a list
+abbrev pub OneOf : ℕ → List ℕ → Type 0
+OneOf n [] = ⊥
+OneOf n (k ∷ ks) = (n ≡ k) ⊎ OneOf n ks
+
+-- a call that fills a buffer: done, or refused with one of these numbers and nothing written
+abbrev pub Answers : List ℕ → Outcome → Type 0
+Answers ns o = (o ≡ done (o .written)) ⊎ (OneOf (o .number) ns × (o .written ≡ []))
+
+-- "changes nothing in the buffers we lent"
+pub keeps : (ns : List ℕ) (o : Outcome) (out : List ℕ) → Answers ns o → (o .number ≡ 0 → ⊥) → filled o out ≡ out
+keeps ns o out a h = ⊎-elim (λ e. absurd (h (ap (λ p. p .number) e))) (λ e. ap (λ w. filled (record { number = 0; place = 0; written = w }) out) (e .1)) a
+
+choose : (ns : List ℕ) (b : Bool) (x y : Outcome) → Answers ns x → Answers ns y → Answers ns (pick b x y)
+choose ns true x y l m = l
+choose ns false x y l m = m
+
+-- C40 reading: 45, 40, 41 or 42
+abbrev reads : List ℕ
+reads = 45 ∷ 40 ∷ 41 ∷ 42 ∷ []
+
+decoded : (room : ℕ) (d : Decoded) → Answers reads (c40.inRoom room d)
+decoded room (wrong at) = inr (inr (inr (inl refl)), refl)
+decoded room (text t) = choose reads (ltb room (length t)) (refused 42 0) (done t) (inr (inr (inr (inr (inl refl))), refl)) (inl refl)
+
+pub c40-reading : (bytes : List ℕ) (room : ℕ) → Answers (45 ∷ 40 ∷ 41 ∷ 42 ∷ []) (c40.reading bytes room)
+unfolding c40.reading
+c40-reading bytes room =
+    choose reads (ltb 4096 (length bytes)) (refused 45 0) (pick (eqb (length bytes % 2) 1) (refused 40 (length bytes)) (c40.inRoom room (decode 0 bytes))) (inr (inl refl, refl))
+    (choose reads (eqb (length bytes % 2) 1) (refused 40 (length bytes)) (c40.inRoom room (decode 0 bytes)) (inr (inr (inl refl), refl)) (decoded room (decode 0 bytes)))
+
+-- C40 writing: 45, 43 or 44
+abbrev writes : List ℕ
+writes = 45 ∷ 43 ∷ 44 ∷ []
+
+pub c40-writing : (t : List ℕ) (room : ℕ) → Answers (45 ∷ 43 ∷ 44 ∷ []) (c40.writing t room)
+unfolding c40.writing
+c40-writing t room =
+    let last = pick (ltb room (width (length t))) (refused 44 0) (done (publish t)) in
+    choose writes (ltb 6144 (length t)) (refused 45 0) (pick (ltb (c40.known t) (length t)) (refused 43 (c40.known t)) last) (inr (inl refl, refl))
+    (choose writes (ltb (c40.known t) (length t)) (refused 43 (c40.known t)) last (inr (inr (inl refl), refl))
+    (choose writes (ltb room (width (length t))) (refused 44 0) (done (publish t)) (inr (inr (inr (inl refl)), refl)) (inl refl)))
+
+-- signatures to DER: 60, 61, 64 or 63
+abbrev toDers : List ℕ
+toDers = 60 ∷ 61 ∷ 64 ∷ 63 ∷ []
+
+formed-listed : (r s : List ℕ) (room : ℕ) → Answers toDers (ecdsa.formed r s room)
+unfolding ecdsa.formed
+formed-listed r s room =
+    choose toDers (ltb 255 (length (integersOf r s))) (refused 64 0) (pick (ltb room (length (signature r s))) (refused 63 0) (done (signature r s))) (inr (inr (inr (inl refl)), refl))
+    (choose toDers (ltb room (length (signature r s))) (refused 63 0) (done (signature r s)) (inr (inr (inr (inr (inl refl))), refl)) (inl refl))
+
+pub to-der : (n : ℕ) (bytes : List ℕ) (room : ℕ) → Answers (60 ∷ 61 ∷ 64 ∷ 63 ∷ []) (ecdsa.toDer n bytes room)
+unfolding ecdsa.toDer
+to-der n bytes room =
+    let formed = ecdsa.formed (take n bytes) (drop n bytes) room in
+    choose toDers (isSize n) (pick (eqb (length bytes) (2 * n)) formed (refused 61 0)) (refused 60 0)
+    (choose toDers (eqb (length bytes) (2 * n)) formed (refused 61 0) (formed-listed (take n bytes) (drop n bytes) room) (inr (inr (inl refl), refl)))
+    (inr (inl refl, refl))
+
+-- signatures to raw: 60, 62 or 63
+abbrev toRaws : List ℕ
+toRaws = 60 ∷ 62 ∷ 63 ∷ []
+
+raw-listed : (n room : ℕ) (r : Raw) → Answers toRaws (ecdsa.inRoom n room r)
+raw-listed n room (raw bytes) = choose toRaws (ltb room (2 * n)) (refused 63 0) (done bytes) (inr (inr (inr (inl refl)), refl)) (inl refl)
+raw-listed n room none = inr (inr (inl refl), refl)
+
+pub to-raw : (n : ℕ) (bytes : List ℕ) (room : ℕ) → Answers (60 ∷ 62 ∷ 63 ∷ []) (ecdsa.toRaw n bytes room)
+unfolding ecdsa.toRaw
+to-raw n bytes room =
+    choose toRaws (isSize n) (ecdsa.inRoom n room (rawOf n bytes)) (refused 60 0) (raw-listed n room (rawOf n bytes)) (inr (inl refl, refl))
+
+-- INTEGER writing: 63
+pub integer-writing : (v : ℤ) (room : ℕ) → Answers (63 ∷ []) (integers.writing v room)
+unfolding integers.writing
+integer-writing v room = choose (63 ∷ []) (ltb room (length (integerOf v))) (refused 63 0) (done (integerOf v)) (inr (inl refl, refl)) (inl refl)
+
+-- a call that gives a value: done, or refused with this number
+abbrev pub Gives : {A : Type 0} → ℕ → A → Given A → Type 0
+Gives n zero o = (o ≡ given (o .value)) ⊎ (o ≡ refusal zero n)
+
+select : {A : Type 0} (n : ℕ) (zero : A) (b : Bool) (x y : Given A) → Gives n zero x → Gives n zero y → Gives n zero (pick b x y)
+select n zero true x y l m = l
+select n zero false x y l m = m
+
+-- a date from its number: 6; to it: 22
+pub date-taken : (n : ℕ) → Gives 6 dates.no-date (dates.fromNumber n)
+unfolding dates.fromNumber
+date-taken n = select 6 dates.no-date (isDay (dateOf n)) (given (dateOf n)) (refusal dates.no-date 6) (inl refl) (inr refl)
+
+pub date-numbered : (d : Date) → Gives 22 0 (dates.toNumber d)
+unfolding dates.toNumber
+date-numbered d = select 22 0 (isDay d) (given (numberOf d)) (refusal 0 22) (inl refl) (inr refl)
+
+-- hash: 60
+pub hash : (n : ℕ) → Gives 60 0 (ecdsa.hashFor n)
+unfolding ecdsa.hashFor
+hash n =
+    let h4 : Given ℕ = pick (eqb n 66) (given 512) (refusal 0 60) in
+    let h3 : Given ℕ = pick (eqb n 64) (given 512) h4 in
+    let h2 : Given ℕ = pick (eqb n 48) (given 384) h3 in
+    let h1 : Given ℕ = pick (eqb n 32) (given 256) h2 in
+    select 60 0 (eqb n 28) (given 224) h1 (inl refl)
+    (select 60 0 (eqb n 32) (given 256) h2 (inl refl)
+    (select 60 0 (eqb n 48) (given 384) h3 (inl refl)
+    (select 60 0 (eqb n 64) (given 512) h4 (inl refl)
+    (select 60 0 (eqb n 66) (given 512) (refusal 0 60) (inl refl) (inr refl)))))
+
+-- INTEGER reading: 65
+content-listed : (c : List ℕ) → Gives 65 (pos 0) (integers.content c)
+content-listed c =
+    select 65 (pos 0) (strict c) (pick (ltb 8 (length c)) (refusal (pos 0) 65) (given (valueOf c))) (refusal (pos 0) 65)
+    (select 65 (pos 0) (ltb 8 (length c)) (refusal (pos 0) 65) (given (valueOf c)) (inr refl) (inl refl))
+    (inr refl)
+
+whole-listed : (s : List ℕ) (e : Element) → Gives 65 (pos 0) (integers.whole s e)
+whole-listed s (Body start end) = select 65 (pos 0) (eqb end (length s)) (integers.content (take (end - start) (drop start s))) (refusal (pos 0) 65) (content-listed (take (end - start) (drop start s))) (inr refl)
+whole-listed s Nothing = inr refl
+
+pub integer-reading : (s : List ℕ) → Gives 65 (pos 0) (integers.reading s)
+unfolding integers.reading
+integer-reading s = whole-listed s (elementIn 0x02 s)

@@ -1,0 +1,4 @@
+pub mod Again
+pub mod Sizes
+pub mod Entries
+pub mod Conditions
