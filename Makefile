@@ -30,6 +30,7 @@ vectors:
 	@python3 vectors/der_cases.py crates/vectors_numbers numbers
 	@python3 vectors/der_cases.py crates/vectors_signatures signatures
 	@python3 -B vectors/seal_cases.py crates/vectors_seals
+	@python3 -B vectors/write_cases.py crates/vectors_writing
 
 clean:
 	@rm -rf target
