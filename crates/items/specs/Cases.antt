@@ -16,8 +16,8 @@ use Rattle.c40.specs.Text.{width}
 use Rattle.c40.specs.Decode.{decode}
 use Rattle.dates.specs.declared.Date.{Date}
 use Rattle.grammar.specs.Content.{Version, three, four}
-use Rattle.items.specs.Items.{Item, is, not, exactly}
-use Rattle.items.specs.Items as read
+use Rattle.verdict.specs.Items.{Item, is, not, exactly}
+use Rattle.verdict.specs.Items as read
 use Rattle.items.specs.declared.cursor.Refusal.{Refusal}
 use Rattle.items.specs.declared.cursor.Byte.{Byte}
 use Rattle.items.specs.declared.cursor.Byte.the-variants as byte

@@ -1,3 +1,1 @@
-pub mod Items
 pub mod Cases
-pub mod Pins

@@ -1,6 +1,6 @@
 // The items of a seal, each read at a place: a cursor goes in, and the item comes out with the next cursor (document 01, "Reader").
 ghost use mathlib.Core.Path.{_≡_};
-ghost use Rattle.items.specs.Items as read;
+ghost use Rattle.verdict.specs.Items as read;
 ghost use Rattle.items.specs.Cases.{byteOf, wholeOf, stepOf, numberOf, dayOf, whyOf, through, edition, versionOf, past};
 use dates::Date;
 use dates::Taken;

@@ -3,7 +3,7 @@ ghost use mathlib.Core.Path.{_≡_};
 ghost use Prim.Native.Nat.{_<_, _≤_};
 ghost use lib.ListN.{length};
 ghost use mathlib.Core.List.{[], _∷_};
-ghost use Rattle.items.specs.Items as read;
+ghost use Rattle.verdict.specs.Items as read;
 ghost use Rattle.items.specs.Cases.{Sized, Fills, stepOf, namesOf, whyOf, versionOf, anyText, through, measured, valueOr, textOver};
 use crate::cursor::Cursor;
 use crate::cursor::Refusal;

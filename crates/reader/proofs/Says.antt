@@ -7,7 +7,7 @@ use native.Mathlib.Omega.{arith}
 use mathlib.Core.List.{[], _∷_}
 use types.Run.{OneOf}
 use denote.Enum.Declared.{tagOf}
-use Rattle.items.specs.Items.{Item, not}
+use Rattle.verdict.specs.Items.{Item, not}
 use Rattle.items.specs.Cases.{whyOf, stepOf, numberOf, dayOf}
 use Rattle.items.specs.declared.cursor.Refusal.{Refusal}
 use Rattle.items.specs.declared.cursor.Step.{Step}

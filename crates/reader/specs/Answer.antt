@@ -6,8 +6,8 @@ use mathlib.Core.List.{List, [], _∷_, map}
 use lib.ListN.{take, drop, getD}
 use Rattle.grammar.specs.Content.{Content}
 use Rattle.items.specs.Cases.{versionOf}
-use Rattle.reader.specs.Judge.{Row}
-use Rattle.reader.specs.Report.{part, featureOf}
+use Rattle.verdict.specs.Judge.{Row}
+use Rattle.verdict.specs.Report.{part, featureOf}
 use Rattle.reader.specs.declared.Reading.{Reading}
 
 -- so many rows of a table, three numbers each

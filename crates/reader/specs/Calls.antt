@@ -11,7 +11,7 @@ use lib.ListN.{length, take, drop}
 use Rattle.format.specs.Choice.{pick}
 use Rattle.dates.specs.declared.Date.{Date}
 use Rattle.items.specs.Cases.{edition}
-use Rattle.reader.specs.Judge.{Row, Report, Verdict, accepted, refused, judge}
+use Rattle.verdict.specs.Judge.{Row, Report, Verdict, accepted, refused, judge}
 use Rattle.reader.specs.declared.Reading.{Reading}
 
 abbrev pub noDate : Date

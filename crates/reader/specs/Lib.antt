@@ -1,5 +1,3 @@
-pub mod Judge
-pub mod Report
 pub mod Steps
 pub mod Calls
 pub mod Answer

@@ -8,7 +8,7 @@ use Prim.Native.Nat.{ℕ}
 use mathlib.Core.List.{List}
 use lib.ListN.{take, drop}
 use Rattle.dates.specs.declared.Date.{Date}
-use Rattle.items.specs.Items.{Item, is, not, next, mark, version, country, names, date, last}
+use Rattle.verdict.specs.Items.{Item, is, not, next, mark, version, country, names, date, last}
 use Rattle.items.specs.Cases.{edition, Measured, measured}
 use Rattle.reader.specs.declared.fields.Front.{Front}
 use Rattle.reader.specs.declared.fields.Front.the-variants as front

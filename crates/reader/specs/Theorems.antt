@@ -12,10 +12,10 @@ use Rattle.grammar.specs.Content.{Content}
 use Rattle.grammar.specs.Publish.{headerZone, messageZone, signatureZone, signedBytes, publish}
 use Rattle.grammar.specs.Legal.{Legal}
 use Rattle.grammar.specs.Theorems.{one-content, no-front-part, zones-add-up, signed-front}
-use Rattle.reader.specs.Judge.{Report, accepted, refused, judge}
-use Rattle.reader.specs.Judge.Numbers.{from-list}
-use Rattle.reader.specs.Judge.Complete.{reportOf}
-use Rattle.reader.specs.Judge.Seals.{accepted-only}
+use Rattle.verdict.specs.Judge.{Report, accepted, refused, judge}
+use Rattle.verdict.specs.Judge.Numbers.{from-list}
+use Rattle.verdict.specs.Judge.Complete.{reportOf}
+use Rattle.verdict.specs.Judge.Seals.{accepted-only}
 use Rattle.reader.specs.Calls.{answerOf, table, text, reading, rowsIn, textIn, then}
 use Rattle.reader.specs.Calls.Given.{room-enough, given-accepted, given-listed}
 use Rattle.reader.specs.Answer.{contentIn}

@@ -12,7 +12,7 @@ use Rattle.c40.specs.Decode.{decode}
 use Rattle.dates.specs.Days.{isDay}
 use Rattle.der.specs.Length.{readLength, longForm}
 use Rattle.grammar.specs.Examples.{seal-a}
-use Rattle.reader.specs.Judge.{refused, header, tag, row, features, signature, reading as readingOf, judge}
+use Rattle.verdict.specs.Judge.{refused, header, tag, row, features, signature, reading as readingOf, judge}
 use Rattle.reader.specs.Calls.{reading}
 
 -- a seal, how many numbers and how much room are lent for its answer, and the number and place of the refusal

@@ -4,7 +4,7 @@ ghost use Prim.Native.Nat.{_*_, _≤_};
 ghost use mathlib.Core.List.{[]};
 ghost use lib.ListN.{length};
 ghost use Rattle.items.specs.Cases.{whyOf, through, versionOf};
-ghost use Rattle.reader.specs.Judge.{features as featuresFrom};
+ghost use Rattle.verdict.specs.Judge.{features as featuresFrom};
 ghost use Rattle.reader.specs.Calls.{table as tableOf, then};
 ghost use Rattle.reader.specs.Steps.{featuresOf};
 ghost use Rattle.reader.specs.Steps.Rows.{rowsAt, rowsRead, AreRead};

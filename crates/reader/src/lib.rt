@@ -1,7 +1,7 @@
 // The reader (document 01): the verdict on every byte string, and for a good seal what it says.
 ghost use mathlib.Core.Path.{_≡_};
 ghost use lib.ListN.{length};
-ghost use Rattle.reader.specs.Judge.{judge as verdict, refused as refusedBy};
+ghost use Rattle.verdict.specs.Judge.{judge as verdict, refused as refusedBy};
 ghost use Rattle.reader.specs.Calls.{answerOf, reading, rowsIn, textIn, then, Named};
 
 mod features;

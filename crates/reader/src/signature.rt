@@ -1,7 +1,7 @@
 // The signature after FF (document 01, Layout): its length, which is a DER length in both versions, and its bytes, with nothing after them.
 ghost use mathlib.Core.Path.{_≡_};
 ghost use Rattle.items.specs.Cases.{whyOf};
-ghost use Rattle.reader.specs.Judge.{isSignature, signature as signatureAt};
+ghost use Rattle.verdict.specs.Judge.{isSignature, signature as signatureAt};
 ghost use Rattle.reader.specs.Steps.{signatureOf};
 use items::Cursor;
 use items::Number;

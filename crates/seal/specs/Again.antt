@@ -5,8 +5,8 @@ pub mod Laws
 use Prim.Native.Nat.{ℕ, _+_, _*_}
 use mathlib.Core.List.{List}
 use lib.ListN.{take}
-use Rattle.reader.specs.Judge.{Report, accepted}
-use Rattle.reader.specs.Report.{part}
+use Rattle.verdict.specs.Judge.{Report, accepted}
+use Rattle.verdict.specs.Report.{part}
 use Rattle.reader.specs.Calls.{answerOf, table, text}
 use Rattle.reader.specs.declared.Reading.{Reading}
 use Rattle.writer.specs.Given.{Given, given}

@@ -20,10 +20,10 @@ use Rattle.grammar.specs.Content.{Content}
 use Rattle.grammar.specs.Publish.{signatureZone, signedBytes, publish}
 use Rattle.grammar.specs.Legal.{Legal}
 use Rattle.grammar.specs.Theorems as grammar
-use Rattle.reader.specs.Judge.{accepted, refused, judge}
-use Rattle.reader.specs.Judge.Numbers.{from-list}
-use Rattle.reader.specs.Judge.Complete.{published-accepted as legal-accepted}
-use Rattle.reader.specs.Judge.Seals.{accepted-only}
+use Rattle.verdict.specs.Judge.{accepted, refused, judge}
+use Rattle.verdict.specs.Judge.Numbers.{from-list}
+use Rattle.verdict.specs.Judge.Complete.{published-accepted as legal-accepted}
+use Rattle.verdict.specs.Judge.Seals.{accepted-only}
 use Rattle.reader.specs.Calls.{answerOf, reading, rowsIn, textIn, then}
 use Rattle.reader.specs.Calls.Given.{given-accepted}
 use Rattle.reader.specs.Answer.{contentIn}

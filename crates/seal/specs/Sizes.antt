@@ -10,7 +10,7 @@ use Rattle.format.specs.Choice.Laws.{by-test}
 use Rattle.format.specs.Table.{either}
 use Rattle.grammar.specs.Legal.{SignatureSize}
 use Rattle.ecdsa.specs.Signature.{isSize}
-use Rattle.reader.specs.Judge.{isSignature as isSignatureRead}
+use Rattle.verdict.specs.Judge.{isSignature as isSignatureRead}
 use Rattle.writer.specs.Calls.{isSignature}
 use Rattle.writer.specs.Legal.Rows.{size-of, size-passes}
 

@@ -11,7 +11,7 @@ use Rattle.format.specs.Table.{both, either}
 use Rattle.format.specs.Answers.{Outcome, Answer, done, refused}
 use Rattle.dates.specs.Days.{within, isDay}
 use Rattle.grammar.specs.Publish.{publish}
-use Rattle.items.specs.Items.{isLetter, isReference, all, isSigner}
+use Rattle.verdict.specs.Items.{isLetter, isReference, all, isSigner}
 use Rattle.items.specs.declared.Header.{Header}
 use Rattle.writer.specs.Given.{Row, rowsOf, Given, contentOf}
 use Rattle.writer.specs.declared.Writing.{Writing}

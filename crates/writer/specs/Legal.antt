@@ -15,9 +15,9 @@ use Rattle.format.specs.Bytes.{Bytes, All}
 use Rattle.dates.specs.Days.{within, isDay}
 use Rattle.grammar.specs.Publish.{publish}
 use Rattle.grammar.specs.Legal.{Legal}
-use Rattle.items.specs.Items.Laws.{within-true}
-use Rattle.items.specs.Items.Sound.{within-both}
-use Rattle.items.specs.Items.FieldsSound.{both-true}
+use Rattle.verdict.specs.Items.Laws.{within-true}
+use Rattle.verdict.specs.Items.Sound.{within-both}
+use Rattle.verdict.specs.Items.FieldsSound.{both-true}
 use Rattle.writer.specs.Given.{rowsOf, Given, contentOf}
 use Rattle.writer.specs.Calls.{areRows, writing}
 use Rattle.writer.specs.Legal.Order.{done-passes, passes-done}

@@ -10,7 +10,7 @@ use Rattle.format.specs.Bytes.{All}
 use Rattle.c40.specs.Text.{publish as c40}
 use Rattle.dates.specs.Days.{publish as date}
 use Rattle.grammar.specs.Publish.{versionByte, carried, hexDigits, names, publish}
-use Rattle.items.specs.Items.{isReference, all, isSigner}
+use Rattle.verdict.specs.Items.{isReference, all, isSigner}
 use Rattle.items.specs.Cases.{versionOf}
 use Rattle.items.specs.declared.Header.{Header}
 use Rattle.writer.specs.Given.{Row, Given, threeOf, contentOf}

@@ -23,8 +23,8 @@ use Rattle.dates.specs.Days.Laws.{length-publish as length-date}
 use Rattle.der.specs.Length.{form}
 use Rattle.grammar.specs.Content.{Version, four}
 use Rattle.grammar.specs.Publish.{versionByte, carried, names, lengthOf, feature, headerZone, messageZone, signatureZone, signedBytes, publish}
-use Rattle.items.specs.Items.{isSigner}
-use Rattle.items.specs.Items.Sound.{within-both}
+use Rattle.verdict.specs.Items.{isSigner}
+use Rattle.verdict.specs.Items.Sound.{within-both}
 use Rattle.items.specs.Cases.{versionOf}
 use Rattle.items.specs.declared.Header.{Header}
 use Rattle.writer.specs.Given.{Row, rowsOf, featureOf, threeOf, Given, contentOf}

@@ -19,8 +19,8 @@ use Rattle.format.specs.Answers.{Given, given, refusal}
 use Rattle.dates.specs.Calls.{no-date, fromNumber}
 use Rattle.der.specs.Length.{readLength}
 use Rattle.grammar.specs.Content.{Version, three, four}
-use Rattle.items.specs.Items.{Item, is, not, whole, byte, mark, version, last, lastIn, date, dateIn, plainIn, derOf, derLength, markIn, versionIn}
-use Rattle.items.specs.Items.Laws.{whole-read, unread}
+use Rattle.verdict.specs.Items.{Item, is, not, whole, byte, mark, version, last, lastIn, date, dateIn, plainIn, derOf, derLength, markIn, versionIn}
+use Rattle.verdict.specs.Items.Laws.{whole-read, unread}
 use Rattle.items.specs.Cases.{through, edition, past, versionOf}
 
 -- an item of k bytes that are not all there, or are

@@ -11,8 +11,8 @@ use lib.Seq.{take-add, take-at, drop-at, length-take-le}
 use Rattle.format.specs.Choice.{pick}
 use Rattle.format.specs.Buffer.{over}
 use Rattle.octets.specs.Copy.{copied}
-use Rattle.items.specs.Items.{Item, is, not, Names}
-use Rattle.items.specs.Items.Laws.{unread}
+use Rattle.verdict.specs.Items.{Item, is, not, Names}
+use Rattle.verdict.specs.Items.Laws.{unread}
 use Rattle.items.specs.Cases.{stepOf, namesOf, through, Measured, measured, valueOr, textOver}
 use Rattle.items.specs.Cases.Field.{Unread}
 use Rattle.items.specs.declared.cursor.Refusal.{Refusal}

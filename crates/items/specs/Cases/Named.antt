@@ -14,10 +14,10 @@ use Rattle.format.specs.Choice.Laws.{by-test}
 use Rattle.format.specs.Table.{both}
 use Rattle.dates.specs.Days.{within}
 use Rattle.grammar.specs.Content.{three, four}
-use Rattle.items.specs.Items.{Item, is, not, next, isLetter, isDigit, isReference, all, isSigner, isCountry, hexValue, field, shown, country, lengthIn, isSix, nine, named, after, names, Names}
-use Rattle.items.specs.Items.Sound.{within-both}
-use Rattle.items.specs.Items.Fields.{letter-shown}
-use Rattle.items.specs.Items.FieldsSound.{both-true}
+use Rattle.verdict.specs.Items.{Item, is, not, next, isLetter, isDigit, isReference, all, isSigner, isCountry, hexValue, field, shown, country, lengthIn, isSix, nine, named, after, names, Names}
+use Rattle.verdict.specs.Items.Sound.{within-both}
+use Rattle.verdict.specs.Items.Fields.{letter-shown}
+use Rattle.verdict.specs.Items.FieldsSound.{both-true}
 use Rattle.items.specs.Cases.{stepOf, whyOf, versionOf, through, measured}
 use Rattle.items.specs.Cases.Field.{Unread, field-good}
 use Rattle.items.specs.declared.cursor.Refusal.{Refusal}

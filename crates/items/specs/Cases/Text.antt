@@ -19,8 +19,8 @@ use Rattle.c40.specs.Calls.Laws.{reading-wrong, reading-no-room, reading-done}
 use Rattle.c40.specs.declared.Reading.{Reading}
 use Rattle.c40.specs.declared.Reading.the-variants.{Done}
 use Rattle.dates.specs.Days.{within}
-use Rattle.items.specs.Items.Sound.{within-both}
-use Rattle.items.specs.Items.{isLetter, isDigit, isReference, all, isCountry, isSigner, hexValue, shown, exactly}
+use Rattle.verdict.specs.Items.Sound.{within-both}
+use Rattle.verdict.specs.Items.{isLetter, isDigit, isReference, all, isCountry, isSigner, hexValue, shown, exactly}
 use Rattle.items.specs.Cases.{Sized, Fills}
 
 -- a range's last test

@@ -7,9 +7,9 @@ use mathlib.Core.List.{[]}
 use Prim.Native.Nat.{_+_, _≤_}
 use lib.ListN.{length}
 use denote.Ref.{now}
-use Rattle.items.specs.Items.{not}
+use Rattle.verdict.specs.Items.{not}
 use Rattle.items.specs.Cases.{whyOf, versionOf}
-use Rattle.reader.specs.Judge.{features, signature as signatureAt}
+use Rattle.verdict.specs.Judge.{features, signature as signatureAt}
 use Rattle.reader.specs.Steps.{fields, dated, frontOf, restOf, featuresOf, signatureOf}
 use Rattle.reader.specs.declared.fields.Front.the-variants as front
 use Rattle.reader.specs.declared.fields.Rest.the-variants as rest

@@ -6,8 +6,8 @@ use mathlib.Core.List.{List, [], _∷_, _++_, append-assoc, map}
 use lib.ListN.{length, take, drop}
 use lib.Seq.{take-at, drop-at}
 use Rattle.items.specs.Cases.Laws.{version-back}
-use Rattle.reader.specs.Judge.{Row, Report, accepted}
-use Rattle.reader.specs.Report.{contentOf, featureOf}
+use Rattle.verdict.specs.Judge.{Row, Report, accepted}
+use Rattle.verdict.specs.Report.{contentOf, featureOf}
 use Rattle.reader.specs.Calls.{answerOf, table, text, then}
 use Rattle.reader.specs.Answer.{rowsOf, contentIn}
 

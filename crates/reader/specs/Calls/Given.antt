@@ -10,10 +10,10 @@ use Rattle.format.specs.Choice.{pick}
 use Rattle.grammar.specs.Content.{Content}
 use Rattle.grammar.specs.Publish.{publish, headerZone}
 use Rattle.grammar.specs.Legal.{Legal}
-use Rattle.reader.specs.Judge.{Report, Verdict, accepted, refused}
-use Rattle.reader.specs.Judge.Numbers.{FromList}
-use Rattle.reader.specs.Judge.Complete.{reportOf, published-accepted}
-use Rattle.reader.specs.Judge.Sound.{unaccepted}
+use Rattle.verdict.specs.Judge.{Report, Verdict, accepted, refused}
+use Rattle.verdict.specs.Judge.Numbers.{FromList}
+use Rattle.verdict.specs.Judge.Complete.{reportOf, published-accepted}
+use Rattle.verdict.specs.Judge.Sound.{unaccepted}
 use Rattle.reader.specs.Calls.{answerOf, given, reading}
 use Rattle.reader.specs.Calls.Reads.{rows-many, both-fit}
 

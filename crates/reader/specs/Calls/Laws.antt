@@ -5,7 +5,7 @@ use Prim.Native.Nat.{ℕ, _+_}
 use mathlib.Core.List.{List, _++_}
 use lib.ListN.{length, take, drop}
 use lib.Seq.{take-add}
-use Rattle.reader.specs.Judge.{Row, Report, accepted, refused, judge}
+use Rattle.verdict.specs.Judge.{Row, Report, accepted, refused, judge}
 use Rattle.reader.specs.Steps.{Fields, Dated}
 use Rattle.reader.specs.Steps.Judged.{Known, headerOf}
 use Rattle.reader.specs.Calls.{answerOf, Named}

@@ -16,19 +16,19 @@ use Rattle.grammar.specs.Content.{Version, three, four, Feature}
 use Rattle.grammar.specs.Publish.{lengthOf, headerZone}
 use Rattle.grammar.specs.Legal.{ReferenceSize}
 use Rattle.grammar.specs.Sizes.{features-most}
-use Rattle.items.specs.Items.{is}
-use Rattle.items.specs.Items.Sound.{steps, same-value}
+use Rattle.verdict.specs.Items.{is}
+use Rattle.verdict.specs.Items.Sound.{steps, same-value}
 use Rattle.items.specs.Cases.{versionOf}
 use Rattle.items.specs.Cases.Laws.{version-back}
-use Rattle.reader.specs.Judge.{Report, Verdict, accepted, refused, header, features, signature, verdict, reading as readingOf, judge}
-use Rattle.reader.specs.Judge.Numbers.{FromList, from-list}
-use Rattle.reader.specs.Judge.Complete.{reportOf}
-use Rattle.reader.specs.Judge.Features.{rowsOf}
-use Rattle.reader.specs.Judge.Sound.{verdict-read, unaccepted}
+use Rattle.verdict.specs.Judge.{Report, Verdict, accepted, refused, header, features, signature, verdict, reading as readingOf, judge}
+use Rattle.verdict.specs.Judge.Numbers.{FromList, from-list}
+use Rattle.verdict.specs.Judge.Complete.{reportOf}
+use Rattle.verdict.specs.Judge.Features.{rowsOf}
+use Rattle.verdict.specs.Judge.Sound.{verdict-read, unaccepted}
 use Rattle.reader.specs.Steps.Rows.{rowsAt, rowsRead, AreRead}
 use Rattle.reader.specs.Steps.RowsLaws.{rows-there, rows-are}
 use Rattle.reader.specs.Calls.{answerOf, table, text, given, reading, rowsIn, textIn, then, Named}
-use Rattle.reader.specs.Judge.Seals.{accepted-only}
+use Rattle.verdict.specs.Judge.Seals.{accepted-only}
 use Rattle.reader.specs.declared.Reading.{Reading}
 
 -- what is promised of the answer, the table and the text

@@ -8,11 +8,11 @@ use lib.ListN.{length}
 use Rattle.format.specs.Choice.{pick}
 use Rattle.dates.specs.declared.Date.{Date}
 use Rattle.grammar.specs.Content.{Version, Header}
-use Rattle.items.specs.Items.{Item, is, not, next, mark, version, country, names, date, last, Names}
-use Rattle.items.specs.Items.Laws.{unread}
+use Rattle.verdict.specs.Items.{Item, is, not, next, mark, version, country, names, date, last, Names}
+use Rattle.verdict.specs.Items.Laws.{unread}
 use Rattle.items.specs.Cases.{through, edition, versionOf, measured}
 use Rattle.items.specs.Cases.Laws.{version-back}
-use Rattle.reader.specs.Judge.{Row, accepted, refused, header, features, signature, verdict, reading, judge}
+use Rattle.verdict.specs.Judge.{Row, accepted, refused, header, features, signature, verdict, reading, judge}
 use Rattle.reader.specs.Steps.Laws.{placeOf, valueOf, numberOf}
 use Rattle.reader.specs.Steps.{Fields, Dated, fields, dated}
 

@@ -9,11 +9,11 @@ use mathlib.Core.List.{List}
 use lib.ListN.{length, take, drop}
 use Rattle.dates.specs.declared.Date.{Date}
 use Rattle.grammar.specs.Content.{Version, three, four}
-use Rattle.items.specs.Items.{Item, is, not, next, whole, mark, version, country, names, date, last, derLength}
-use Rattle.items.specs.Items.Laws.{unread}
+use Rattle.verdict.specs.Items.{Item, is, not, next, whole, mark, version, country, names, date, last, derLength}
+use Rattle.verdict.specs.Items.Laws.{unread}
 use Rattle.items.specs.Cases.{through, edition, versionOf, Measured, measured}
 use Rattle.items.specs.Cases.Laws.{Past, judged}
-use Rattle.reader.specs.Judge.{isSignature, signature, rawIn}
+use Rattle.verdict.specs.Judge.{isSignature, signature, rawIn}
 use Rattle.reader.specs.Steps.{Fields, fields, dated}
 
 -- place and value of an item that was read, and number and place of one that was not

@@ -3,9 +3,9 @@
 use Prim.Native.Nat.{ℕ, zero, suc}
 use mathlib.Core.List.{List, [], _∷_}
 use Rattle.grammar.specs.Content.{Version}
-use Rattle.items.specs.Items.{Item, is, not, next, byte, plainIn}
+use Rattle.verdict.specs.Items.{Item, is, not, next, byte, plainIn}
 use Rattle.items.specs.Cases.{through}
-use Rattle.reader.specs.Judge.{Row, row}
+use Rattle.verdict.specs.Judge.{Row, row}
 
 -- so many rows, and the place after the last
 unfoldable pub rowsAt : ℕ → Version → ℕ → List ℕ → Item (List Row)

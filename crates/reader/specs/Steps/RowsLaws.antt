@@ -9,11 +9,11 @@ use lib.ListN.{length, take, drop, getD}
 use Rattle.format.specs.Choice.{pick}
 use Rattle.format.specs.Choice.Laws.{by-test}
 use Rattle.grammar.specs.Content.{Version}
-use Rattle.items.specs.Items.{is, not, next, byte, plainIn}
-use Rattle.items.specs.Items.Laws.{unread, whole-read}
-use Rattle.items.specs.Items.Sound.{steps, same-value, same-place}
+use Rattle.verdict.specs.Items.{is, not, next, byte, plainIn}
+use Rattle.verdict.specs.Items.Laws.{unread, whole-read}
+use Rattle.verdict.specs.Items.Sound.{steps, same-value, same-place}
 use Rattle.items.specs.Cases.Laws.{whole-is, read-byte}
-use Rattle.reader.specs.Judge.{Row, used, tagIn, tag, row, features}
+use Rattle.verdict.specs.Judge.{Row, used, tagIn, tag, row, features}
 use Rattle.reader.specs.Steps.Rows.{rowsAt, rowsRead, AreRead}
 
 -- a tag that was read is the byte there

@@ -13,10 +13,10 @@ use Rattle.grammar.specs.Publish.{headerZone, messageZone, publish, lengthOf}
 use Rattle.grammar.specs.Theorems.{zones-add-up}
 use Rattle.items.specs.Cases.{edition}
 use Rattle.items.specs.Cases.Laws.{version-back}
-use Rattle.reader.specs.Judge.{Row, Report, accepted}
-use Rattle.reader.specs.Judge.Complete.{reportOf}
-use Rattle.reader.specs.Judge.Features.{rowsOf as rowsFrom, feature-parts}
-use Rattle.reader.specs.Report.{part, featureOf as featureIn, contentOf as contentRead}
+use Rattle.verdict.specs.Judge.{Row, Report, accepted}
+use Rattle.verdict.specs.Judge.Complete.{reportOf}
+use Rattle.verdict.specs.Judge.Features.{rowsOf as rowsFrom, feature-parts}
+use Rattle.verdict.specs.Report.{part, featureOf as featureIn, contentOf as contentRead}
 use Rattle.reader.specs.Calls.{answerOf, table, text, then}
 use Rattle.writer.specs.Given.{rowsOf, featureOf, contentOf}
 use Rattle.writer.specs.Legal.{Sound}

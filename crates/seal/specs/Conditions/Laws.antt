@@ -16,12 +16,12 @@ use Rattle.grammar.specs.Content.{Content}
 use Rattle.grammar.specs.Publish.{signatureZone, signedBytes, publish}
 use Rattle.grammar.specs.Legal.{Legal}
 use Rattle.items.specs.Cases.{edition, versionOf}
-use Rattle.reader.specs.Judge.{Report, Verdict, accepted, refused, judge}
-use Rattle.reader.specs.Judge.Numbers.{FromList, from-list}
-use Rattle.reader.specs.Judge.Complete.{reportOf}
-use Rattle.reader.specs.Judge.Seals.{accepted-only}
-use Rattle.reader.specs.Report.{contentOf as contentRead}
-use Rattle.reader.specs.Report.Laws.{reported}
+use Rattle.verdict.specs.Judge.{Report, Verdict, accepted, refused, judge}
+use Rattle.verdict.specs.Judge.Numbers.{FromList, from-list}
+use Rattle.verdict.specs.Judge.Complete.{reportOf}
+use Rattle.verdict.specs.Judge.Seals.{accepted-only}
+use Rattle.verdict.specs.Report.{contentOf as contentRead}
+use Rattle.verdict.specs.Report.Laws.{reported}
 use Rattle.reader.specs.Calls.{answerOf, table, text, given, reading, rowsIn, textIn, then}
 use Rattle.reader.specs.Answer.{contentIn}
 use Rattle.reader.specs.Answer.Laws.{held}

@@ -12,9 +12,9 @@ use Rattle.format.specs.Choice.{pick}
 use Rattle.format.specs.Table.{both}
 use Rattle.format.specs.Answers.{Outcome, done, refused}
 use Rattle.grammar.specs.Publish.{publish}
-use Rattle.items.specs.Items.{isLetter, isReference, all, isSigner}
+use Rattle.verdict.specs.Items.{isLetter, isReference, all, isSigner}
 use Rattle.items.specs.declared.Header.{Header}
-use Rattle.items.specs.Items.Sound.{within-both}
+use Rattle.verdict.specs.Items.Sound.{within-both}
 use Rattle.items.specs.Cases.Text.{either-false-right}
 use Rattle.writer.specs.Given.{Given, contentOf}
 use Rattle.writer.specs.Calls.{isVersion, isCountry, isTextSize, areNames, areDays, areLast, isTable, areValues, isSignature, inRoom, writing}

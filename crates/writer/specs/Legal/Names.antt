@@ -17,11 +17,11 @@ use Rattle.dates.specs.Days.{within}
 use Rattle.grammar.specs.Content.{three, four}
 use Rattle.grammar.specs.Legal.{Letter, LetterOrDigit, Filler, Country, Signer, ReferenceCharacter, ReferenceSize}
 use Rattle.grammar.specs.Pins.{filled-three}
-use Rattle.items.specs.Items.{isLetter, isDigit, isReference, all, isSigner}
-use Rattle.items.specs.Items.Laws.{within-true}
-use Rattle.items.specs.Items.Fields.{letter, reference-passes, all-pass}
-use Rattle.items.specs.Items.Sound.{within-both}
-use Rattle.items.specs.Items.FieldsSound.{both-true}
+use Rattle.verdict.specs.Items.{isLetter, isDigit, isReference, all, isSigner}
+use Rattle.verdict.specs.Items.Laws.{within-true}
+use Rattle.verdict.specs.Items.Fields.{letter, reference-passes, all-pass}
+use Rattle.verdict.specs.Items.Sound.{within-both}
+use Rattle.verdict.specs.Items.FieldsSound.{both-true}
 use Rattle.items.specs.Cases.{versionOf}
 use Rattle.items.specs.declared.Header.{Header}
 use Rattle.writer.specs.Given.{threeOf}

@@ -15,8 +15,8 @@ use Rattle.format.specs.Bytes.{Bytes, All}
 use Rattle.format.specs.Bytes.Laws.{bytes-take, bytes-drop}
 use Rattle.grammar.specs.Content.{three, four}
 use Rattle.grammar.specs.Legal.{ValueSize, Unused, LegalFeatures, SignatureSize, n28, n32, n48, n64, n66}
-use Rattle.items.specs.Items.Sound.{not-true, taken-size}
-use Rattle.items.specs.Items.FieldsSound.{both-true}
+use Rattle.verdict.specs.Items.Sound.{not-true, taken-size}
+use Rattle.verdict.specs.Items.FieldsSound.{both-true}
 use Rattle.writer.specs.Given.{Row, featureOf}
 use Rattle.writer.specs.Calls.{used, isRow, areRows, areShort, isSignature}
 use Rattle.writer.specs.Legal.Names.{both-are, either-true}

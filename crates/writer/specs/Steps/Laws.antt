@@ -21,8 +21,8 @@ use Rattle.der.specs.Length.{form}
 use Rattle.der.specs.Length.Exact.{form-short, form-long}
 use Rattle.grammar.specs.Content.{three, four}
 use Rattle.grammar.specs.Publish.{carried, hexDigit, hexDigits, lengthOf}
-use Rattle.items.specs.Items.{isLetter, isDigit, isReference, isSigner, all}
-use Rattle.items.specs.Items.Sound.{within-both}
+use Rattle.verdict.specs.Items.{isLetter, isDigit, isReference, isSigner, all}
+use Rattle.verdict.specs.Items.Sound.{within-both}
 use Rattle.items.specs.Cases.{versionOf}
 use Rattle.writer.specs.Calls.{isFiller, isCountry, isTextSize, isVersion}
 use Rattle.writer.specs.Steps.{Named, spelled}

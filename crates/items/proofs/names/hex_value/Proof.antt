@@ -4,7 +4,7 @@ use borrow.Author.Needs.{needs}
 use native.Mathlib.Omega.{arith}
 use mathlib.Core.Path.{sym, _∙_}
 use Rattle.items.specs.Cases.Text.{hex-digit, hex-low, hex-high, hex-letter}
-use Rattle.items.specs.Items.Sound.{within-both}
+use Rattle.verdict.specs.Items.Sound.{within-both}
 use Rattle.items.proofs.names.hex_value.Statement.{statement}
 use Rattle.items.proofs.names.hex_value.Tie as tie
 

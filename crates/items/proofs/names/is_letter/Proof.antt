@@ -2,7 +2,7 @@
 -- Assumes nothing.
 use native.Mathlib.Omega.{arith}
 use mathlib.Core.Path.{sym}
-use Rattle.items.specs.Items.Laws.{within-below}
+use Rattle.verdict.specs.Items.Laws.{within-below}
 use Rattle.items.specs.Cases.Text.{within-last}
 use Rattle.items.proofs.names.is_letter.Statement.{statement}
 use Rattle.items.proofs.names.is_letter.Tie as tie

@@ -9,7 +9,7 @@ use mathlib.Core.List.{List}
 use denote.Ref.{now}
 use lib.ListN.{length, length-set}
 use Rattle.grammar.specs.Content.{Version}
-use Rattle.items.specs.Items.{is, byte, plainIn, featureLength}
+use Rattle.verdict.specs.Items.{is, byte, plainIn, featureLength}
 use Rattle.items.specs.Cases.{versionOf, byteOf, numberOf}
 use Rattle.reader.proofs.Says.{number-says}
 use Rattle.reader.proofs.features.put_rows.Proof.Turn.{Put, put-start, put-length, put-end, put-tag, put-size, put-value, put-more}

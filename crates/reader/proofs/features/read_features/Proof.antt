@@ -12,7 +12,7 @@ use lib.ListN.{getD}
 use borrow.Author.Count.{below-none, below-more}
 use Rattle.format.specs.Bytes.{Bytes}
 use Rattle.grammar.specs.Content.{Version}
-use Rattle.items.specs.Items.{is, byte, plainIn, featureLength}
+use Rattle.verdict.specs.Items.{is, byte, plainIn, featureLength}
 use Rattle.items.specs.Cases.{versionOf, byteOf, wholeOf, numberOf}
 use Rattle.reader.proofs.Says.{number-says}
 use Rattle.reader.proofs.features.read_features.Proof.Turn.{Kept, kept-start, kept-cut, kept-end, kept-again, kept-most, New, new-unsized, new-small, new-room, new-short, new-more}

@@ -4,7 +4,7 @@ use borrow.Author.Needs.{needs}
 use mathlib.Core.Path.{_≡_, _∙_, ap, sym}
 use mathlib.Core.List.{[]}
 use denote.Ref.{now}
-use Rattle.items.specs.Items.{is, not, mark, version, country, names}
+use Rattle.verdict.specs.Items.{is, not, mark, version, country, names}
 use Rattle.items.specs.Cases.{stepOf, numberOf, namesOf, whyOf, through, edition, versionOf, measured}
 use Rattle.items.specs.declared.names.Names.the-variants as read
 use Rattle.reader.specs.Steps.Laws.{fields-mark, fields-version, fields-country, fields-names, fields-all}

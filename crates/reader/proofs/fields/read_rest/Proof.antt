@@ -3,7 +3,7 @@
 use borrow.Author.Needs.{needs}
 use mathlib.Core.Path.{_≡_, _∙_, ap, sym}
 use denote.Ref.{now}
-use Rattle.items.specs.Items.{is, date, last}
+use Rattle.verdict.specs.Items.{is, date, last}
 use Rattle.items.specs.Cases.{dayOf, numberOf}
 use Rattle.reader.specs.Steps.Laws.{dated-issued, dated-signed, dated-definition, dated-category, dated-all}
 use Rattle.reader.proofs.Says.{day-says, number-says}

@@ -4,7 +4,7 @@ use mathlib.Core.Path.{_≡_, refl, ap, sym}
 use mathlib.Core.Bool.{false}
 use Prim.Native.Nat.{ℕ}
 use borrow.Author.Tests.{ne-eqb}
-use Rattle.reader.specs.Judge.{isSignature}
+use Rattle.verdict.specs.Judge.{isSignature}
 use Rattle.reader.proofs.signature.is_signature.Statement.{statement}
 use Rattle.reader.proofs.signature.is_signature.Tie as tie
 

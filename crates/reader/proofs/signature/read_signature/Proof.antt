@@ -5,10 +5,10 @@ use native.Mathlib.Omega.{arith}
 use mathlib.Core.Path.{_≡_, _∙_, refl, ap, sym}
 use mathlib.Core.Bool.{Bool, true, false, not}
 use denote.Ref.{now}
-use Rattle.items.specs.Items.{is, derLength}
+use Rattle.verdict.specs.Items.{is, derLength}
 use Rattle.items.specs.Cases.{numberOf, wholeOf}
 use Rattle.items.specs.Cases.Laws.{Past, past-whole, whole-none}
-use Rattle.reader.specs.Judge.{isSignature, rawIn}
+use Rattle.verdict.specs.Judge.{isSignature, rawIn}
 use Rattle.reader.specs.Steps.Laws.{signature-length, signature-size, signature-cut, signature-more, signature-is}
 use Rattle.reader.proofs.Says.{number-says}
 use Rattle.reader.proofs.signature.read_signature.Statement.{statement}

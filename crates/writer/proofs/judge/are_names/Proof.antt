@@ -8,7 +8,7 @@ use mathlib.Core.Bool.{true}
 use Prim.Native.Nat.{_+_, _≤_}
 use denote.Ref.{now}
 use lib.ListN.{length, take}
-use Rattle.items.specs.Items.{isSigner, isReference, all}
+use Rattle.verdict.specs.Items.{isSigner, isReference, all}
 use Rattle.items.specs.Cases.Named.{first-four, rest-of}
 use Rattle.writer.specs.Calls.{isCountry, isTextSize}
 use Rattle.writer.specs.Calls.Laws.{names-country, names-size, names-length, names-signer, names-reference}

@@ -6,8 +6,8 @@ use mathlib.Core.Path.{_≡_, _∙_, ap, sym}
 use denote.Ref.{now}
 use lib.ListN.{length}
 use Rattle.grammar.specs.Legal.{Country}
-use Rattle.items.specs.Items.{country}
-use Rattle.items.specs.Items.FieldsSound.{country-read}
+use Rattle.verdict.specs.Items.{country}
+use Rattle.verdict.specs.Items.FieldsSound.{country-read}
 use Rattle.items.specs.Cases.{stepOf}
 use Rattle.items.specs.Cases.Lent.{step-kept, step-given, copied-all}
 use Rattle.items.proofs.Unread.{unread}

@@ -7,7 +7,7 @@ use mathlib.Core.Path.{_≡_, ap, sym, _∙_}
 use mathlib.Core.List.{map}
 use mathlib.Core.Bool.{true}
 use lib.ListN.{length}
-use Rattle.items.specs.Items.{is, isCountry, shown, field}
+use Rattle.verdict.specs.Items.{is, isCountry, shown, field}
 use Rattle.items.specs.Cases.{stepOf, anyText}
 use Rattle.items.specs.Cases.Field.{field-not, field-passes, field-fails}
 use Rattle.items.specs.Cases.Named.{answer-on, country-is, country-wrong}

@@ -10,7 +10,7 @@ use denote.Ref.{now}
 use Rattle.format.specs.Numbers.{val}
 use Rattle.dates.specs.Days.{dateOf}
 use Rattle.dates.specs.Calls.{takenOf}
-use Rattle.items.specs.Items.{dateIn}
+use Rattle.verdict.specs.Items.{dateIn}
 use Rattle.items.specs.Cases.{wholeOf}
 use Rattle.items.specs.Cases.Laws.{Past, past-whole, whole-none, date-is, date-wrong, taken-day, taken-none}
 use Rattle.items.proofs.cursor.Cursor.date.Statement.{statement}

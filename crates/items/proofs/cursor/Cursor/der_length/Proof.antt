@@ -10,7 +10,7 @@ use lib.Seq.{take-all}
 use Rattle.format.specs.Bytes.Laws.{bytes-drop}
 use Rattle.der.specs.Length.{readLength}
 use Rattle.der.specs.Length.Exact.{read-is-form}
-use Rattle.items.specs.Items.{derOf}
+use Rattle.verdict.specs.Items.{derOf}
 use Rattle.items.specs.Cases.Laws.{der-past}
 use Rattle.items.proofs.cursor.Cursor.der_length.Statement.{statement}
 use Rattle.items.proofs.cursor.Cursor.der_length.Tie as tie

@@ -7,7 +7,7 @@ use Prim.Native.Nat.{ℕ}
 use denote.Ref.{now}
 use Rattle.grammar.specs.Content.{three, four}
 use Rattle.format.specs.Choice.{pick}
-use Rattle.items.specs.Items.{featureLength}
+use Rattle.verdict.specs.Items.{featureLength}
 use Rattle.items.specs.Cases.{byteOf, versionOf}
 use Rattle.items.proofs.cursor.Cursor.feature_length.Statement.{statement}
 use Rattle.items.proofs.cursor.Cursor.feature_length.Tie as tie

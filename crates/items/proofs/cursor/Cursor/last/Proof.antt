@@ -4,7 +4,7 @@ use borrow.Author.Needs.{needs}
 use native.Mathlib.Omega.{arith}
 use mathlib.Core.Path.{_≡_, _∙_, ap, sym}
 use denote.Ref.{now}
-use Rattle.items.specs.Items.{not, byte, plainIn, lastIn}
+use Rattle.verdict.specs.Items.{not, byte, plainIn, lastIn}
 use Rattle.items.specs.Cases.{byteOf}
 use Rattle.items.specs.Cases.Laws.{Read, read-byte, byte-none, last-is, last-low, last-high}
 use Rattle.items.proofs.cursor.Cursor.last.Statement.{statement}

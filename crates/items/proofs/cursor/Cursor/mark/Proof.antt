@@ -3,7 +3,7 @@
 use borrow.Author.Needs.{needs}
 use mathlib.Core.Path.{_≡_, _∙_, ap, sym}
 use denote.Ref.{now}
-use Rattle.items.specs.Items.{not, byte, plainIn, markIn}
+use Rattle.verdict.specs.Items.{not, byte, plainIn, markIn}
 use Rattle.items.specs.Cases.{byteOf}
 use Rattle.items.specs.Cases.Laws.{Read, read-byte, byte-none, mark-is, mark-wrong}
 use Rattle.items.proofs.cursor.Cursor.mark.Statement.{statement}

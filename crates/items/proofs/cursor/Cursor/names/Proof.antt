@@ -6,7 +6,7 @@ use mathlib.Core.Path.{_≡_, _∙_, ap, sym}
 use denote.Ref.{now}
 use lib.ListN.{length}
 use lib.Seq.{length-take-le}
-use Rattle.items.specs.Items.{names}
+use Rattle.verdict.specs.Items.{names}
 use Rattle.items.specs.Cases.{namesOf, versionOf}
 use Rattle.items.specs.Cases.Lent.{names-kept, Found, found-names, found-room, names-given}
 use Rattle.items.proofs.cursor.Cursor.names.Statement.{statement}

@@ -6,8 +6,8 @@ use native.Mathlib.Omega.{arith}
 use mathlib.Core.Path.{_≡_, ap, sym, _∙_}
 use Prim.Native.Nat.{_≤_}
 use lib.ListN.{length, take}
-use Rattle.items.specs.Items.{isSigner, isReference, all}
-use Rattle.items.specs.Items as read
+use Rattle.verdict.specs.Items.{isSigner, isReference, all}
+use Rattle.verdict.specs.Items as read
 use Rattle.items.specs.Cases.{stepOf, anyText}
 use Rattle.items.specs.Cases.Field.{field-not, field-passes, field-fails}
 use Rattle.items.specs.Cases.Named.{first-four, rest-of, nine-no, nine-is}

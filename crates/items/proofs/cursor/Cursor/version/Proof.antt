@@ -3,7 +3,7 @@
 use borrow.Author.Needs.{needs}
 use mathlib.Core.Path.{_≡_, _∙_, ap, sym}
 use denote.Ref.{now}
-use Rattle.items.specs.Items.{not, byte, plainIn, versionIn}
+use Rattle.verdict.specs.Items.{not, byte, plainIn, versionIn}
 use Rattle.items.specs.Cases.{byteOf}
 use Rattle.items.specs.Cases.Laws.{Read, read-byte, byte-none, version-three, version-four, version-wrong}
 use Rattle.items.specs.Cases.{through, edition}

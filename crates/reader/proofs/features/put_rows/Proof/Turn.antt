@@ -7,11 +7,11 @@ use mathlib.Core.List.{List, [], _∷_, _++_, append-assoc, append-nil}
 use lib.ListN.{length, set}
 use Rattle.format.specs.Buffer.Laws.{Held, held-start, held-more, held-length, over-start, over-three}
 use Rattle.grammar.specs.Content.{Version}
-use Rattle.items.specs.Items.{Item, is, not, next, whole, byte, plainIn, featureLength}
-use Rattle.items.specs.Items.Laws.{unread, whole-read}
-use Rattle.items.specs.Items.Sound.{steps, same-value, same-place}
+use Rattle.verdict.specs.Items.{Item, is, not, next, whole, byte, plainIn, featureLength}
+use Rattle.verdict.specs.Items.Laws.{unread, whole-read}
+use Rattle.verdict.specs.Items.Sound.{steps, same-value, same-place}
 use Rattle.items.specs.Cases.{through}
-use Rattle.reader.specs.Judge.{Row, valueIn, row}
+use Rattle.verdict.specs.Judge.{Row, valueIn, row}
 use Rattle.reader.specs.Calls.{table, then}
 use Rattle.reader.specs.Steps.Rows.{rowsAt, rowsRead, AreRead}
 

@@ -15,10 +15,10 @@ use Rattle.format.specs.Table.{either}
 use Rattle.format.specs.Bytes.{Bytes}
 use Rattle.grammar.specs.Content.{Version}
 use Rattle.grammar.specs.Sizes.{has, free, free-less}
-use Rattle.items.specs.Items.{is, not, next, whole, byte, plainIn, featureLength}
+use Rattle.verdict.specs.Items.{is, not, next, whole, byte, plainIn, featureLength}
 use Rattle.items.specs.Cases.{past, through}
 use Rattle.items.specs.Cases.Laws.{Read, read-byte, judged-byte, byte-none, Past, past-whole, judged, whole-none}
-use Rattle.reader.specs.Judge.{Row, used, tagIn, tag, valueIn, row, features}
+use Rattle.verdict.specs.Judge.{Row, used, tagIn, tag, valueIn, row, features}
 
 -- the tags of the rows
 abbrev pub tagsOf : List Row → List ℕ

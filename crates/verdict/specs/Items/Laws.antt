@@ -26,7 +26,7 @@ use Rattle.der.specs.Length.Exact.{form-reads}
 use Rattle.grammar.specs.Content.{Version, three, four}
 use Rattle.grammar.specs.Publish.{versionByte, lengthOf}
 use Rattle.grammar.specs.Legal.{LastByte}
-use Rattle.items.specs.Items.{Item, is, not, whole, byte, markIn, versionIn, lastIn, dateIn, plainIn, exactly, fieldIn, field, mark, version, last, date, derOf, derLength, featureLength}
+use Rattle.verdict.specs.Items.{Item, is, not, whole, byte, markIn, versionIn, lastIn, dateIn, plainIn, exactly, fieldIn, field, mark, version, last, date, derOf, derLength, featureLength}
 
 -- k bytes that stand after p are taken whole
 pub whole-there : {A : Type 0} (k : ℕ) (p b t : List ℕ) (f : List ℕ → Item A) → length b ≡ k → whole k (length p) (p ++ (b ++ t)) f ≡ f b

@@ -21,11 +21,11 @@ use Rattle.grammar.specs.Publish.{versionByte, carried, headerZone, messageZone
 use Rattle.grammar.specs.Legal.{LegalHeader, SignatureSize, n28, n32, n48, n64, n66, Legal}
 use Rattle.grammar.specs.Sizes.{features-most}
 use Rattle.grammar.specs.Zones.{header-parts, legal-names}
-use Rattle.items.specs.Items.{Item, is, not, next, whole, mark, version, country, names, date, last, derLength}
-use Rattle.items.specs.Items.Laws.{whole-there, der-there, mark-there, version-there, last-there, date-there}
-use Rattle.items.specs.Items.Fields.{country-there, names-there}
-use Rattle.reader.specs.Judge.{Report, accepted, header, features, isSignature, rawIn, sizeIn, signature, reading, judge}
-use Rattle.reader.specs.Judge.Features.{rowsOf, features-there}
+use Rattle.verdict.specs.Items.{Item, is, not, next, whole, mark, version, country, names, date, last, derLength}
+use Rattle.verdict.specs.Items.Laws.{whole-there, der-there, mark-there, version-there, last-there, date-there}
+use Rattle.verdict.specs.Items.Fields.{country-there, names-there}
+use Rattle.verdict.specs.Judge.{Report, accepted, header, features, isSignature, rawIn, sizeIn, signature, reading, judge}
+use Rattle.verdict.specs.Judge.Features.{rowsOf, features-there}
 
 -- an item that stands after p, with what it was cut to; then the rest is read after both
 step : {A B : Type 0} (i : Item A) (a : A) (at : ℕ) (rest : A → ℕ → Item B) → i ≡ is a at → next i rest ≡ rest a at

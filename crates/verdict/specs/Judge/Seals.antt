@@ -7,11 +7,11 @@ use Rattle.format.specs.Bytes.{Bytes}
 use Rattle.grammar.specs.Content.{Content}
 use Rattle.grammar.specs.Publish.{publish}
 use Rattle.grammar.specs.Legal.{Legal}
-use Rattle.reader.specs.Judge.{Report, Verdict, accepted, refused, judge}
-use Rattle.reader.specs.Judge.Complete.{reportOf, published-accepted}
-use Rattle.reader.specs.Judge.Sound.{accepted-published}
-use Rattle.reader.specs.Report.{contentOf}
-use Rattle.reader.specs.Report.Laws.{reported}
+use Rattle.verdict.specs.Judge.{Report, Verdict, accepted, refused, judge}
+use Rattle.verdict.specs.Judge.Complete.{reportOf, published-accepted}
+use Rattle.verdict.specs.Judge.Sound.{accepted-published}
+use Rattle.verdict.specs.Report.{contentOf}
+use Rattle.verdict.specs.Report.Laws.{reported}
 
 pub record Seal (s : List ℕ) (r : Report) : Type 0 where
   pub content : Content

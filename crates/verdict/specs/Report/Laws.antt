@@ -9,9 +9,9 @@ use lib.Seq.{take-at, drop-at}
 use Rattle.der.specs.Length.{form as derForm}
 use Rattle.grammar.specs.Content.{Version, Feature, Content}
 use Rattle.grammar.specs.Publish.{lengthOf, headerZone, messageZone, signatureZone, signedBytes, publish}
-use Rattle.reader.specs.Judge.Features.{rowsOf, feature-parts}
-use Rattle.reader.specs.Judge.Complete.{reportOf}
-use Rattle.reader.specs.Report.{part, featureOf, contentOf}
+use Rattle.verdict.specs.Judge.Features.{rowsOf, feature-parts}
+use Rattle.verdict.specs.Judge.Complete.{reportOf}
+use Rattle.verdict.specs.Report.{part, featureOf, contentOf}
 
 -- a part that stands after p
 part-there : (p b t s : List ℕ) (k : ℕ) → s ≡ p ++ (b ++ t) → length p ≡ k → part k (length b) s ≡ b

@@ -16,8 +16,8 @@ use Rattle.der.specs.Length.{readLength}
 use Rattle.der.specs.declared.Length.{Length}
 use Rattle.der.specs.declared.Length.the-variants as length
 use Rattle.grammar.specs.Content.{Version, three, four}
-use Rattle.items.specs.Items.{Item, is, not, next, whole, byte, mark, version, country, names, date, last, derLength, featureLength, derOf, field, exactly, fieldIn, nine, isSix, isReference, isCountry, all, lengthIn, named, after, shown, dateIn, lastIn, plainIn, markIn, versionIn}
-use Rattle.reader.specs.Judge.{Row, Report, Verdict, accepted, refused, header, used, tagIn, tag, valueIn, row, features, isSignature, rawIn, sizeIn, signature, verdict, reading, judge}
+use Rattle.verdict.specs.Items.{Item, is, not, next, whole, byte, mark, version, country, names, date, last, derLength, featureLength, derOf, field, exactly, fieldIn, nine, isSix, isReference, isCountry, all, lengthIn, named, after, shown, dateIn, lastIn, plainIn, markIn, versionIn}
+use Rattle.verdict.specs.Judge.{Row, Report, Verdict, accepted, refused, header, used, tagIn, tag, valueIn, row, features, isSignature, rawIn, sizeIn, signature, verdict, reading, judge}
 
 abbrev Listed : {A : Type 0} → Item A → Type 0
 Listed (is a at) = Unit

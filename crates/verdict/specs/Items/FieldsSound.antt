@@ -25,10 +25,10 @@ use Rattle.grammar.specs.Publish as form
 use Rattle.grammar.specs.Legal.{Letter, LetterOrDigit, Filler, Country, Signer, ReferenceCharacter}
 use Rattle.grammar.specs.Parts.{Names as LegalNames, four-form}
 use Rattle.grammar.specs.Pins.{filled-three}
-use Rattle.items.specs.Items.{is, isLetter, isDigit, isReference, all, isCountry, isSigner, hexValue, exactly, fieldIn, field, shown, country, Names, nine, lengthIn, isSix, named, after, names}
-use Rattle.items.specs.Items.Laws.{whole-read}
-use Rattle.items.specs.Items.Fields.{letter-carried, letter-shown}
-use Rattle.items.specs.Items.Sound.{Stands, stands-append, steps, stands, taken-size, same-value, same-place, passed, not-true, within-both}
+use Rattle.verdict.specs.Items.{is, isLetter, isDigit, isReference, all, isCountry, isSigner, hexValue, exactly, fieldIn, field, shown, country, Names, nine, lengthIn, isSix, named, after, names}
+use Rattle.verdict.specs.Items.Laws.{whole-read}
+use Rattle.verdict.specs.Items.Fields.{letter-carried, letter-shown}
+use Rattle.verdict.specs.Items.Sound.{Stands, stands-append, steps, stands, taken-size, same-value, same-place, passed, not-true, within-both}
 
 pub both-true : (a b : Bool) → both a b ≡ true → (a ≡ true) × (b ≡ true)
 both-true true b e = (refl, e)

@@ -4,6 +4,7 @@ pub mod Laws
 pub mod Fields
 pub mod Sound
 pub mod FieldsSound
+pub mod Pins
 use mathlib.Core.Bool.{Bool, true}
 use Prim.Native.Nat.{ℕ, _+_, _-_, _*_}
 use mathlib.Core.List.{List, [], _∷_, map}

@@ -14,9 +14,9 @@ use Rattle.format.specs.Table.{either}
 use Rattle.grammar.specs.Content.{Version, Feature}
 use Rattle.grammar.specs.Publish.{lengthOf, messageZone}
 use Rattle.grammar.specs.Legal.{Unused, LegalFeatures}
-use Rattle.items.specs.Items.{is, not, whole, byte, featureLength}
-use Rattle.items.specs.Items.Laws.{byte-there, whole-there, feature-length-there}
-use Rattle.reader.specs.Judge.{Row, used, tag, row, features, tagIn, valueIn}
+use Rattle.verdict.specs.Items.{is, not, whole, byte, featureLength}
+use Rattle.verdict.specs.Items.Laws.{byte-there, whole-there, feature-length-there}
+use Rattle.verdict.specs.Judge.{Row, used, tag, row, features, tagIn, valueIn}
 
 -- the rows of features that are published from a place on
 unfoldable pub rowsOf : Version → ℕ → List Feature → List Row

@@ -24,8 +24,8 @@ use Rattle.grammar.specs.Publish.{carried, hexDigit, hexDigits}
 use Rattle.grammar.specs.Publish as form
 use Rattle.grammar.specs.Legal.{Letter, LetterOrDigit, Filler, Country, Signer, ReferenceCharacter}
 use Rattle.grammar.specs.Parts.{country-text, signer-text, reference-text, Names as LegalNames, six, six-text, four-form}
-use Rattle.items.specs.Items.{is, next, isLetter, isDigit, isReference, all, isCountry, isSigner, hexValue, field, shown, country, nine, lengthIn, isSix, named, after, names}
-use Rattle.items.specs.Items.Laws.{within-true, within-below, within-above, field-there}
+use Rattle.verdict.specs.Items.{is, next, isLetter, isDigit, isReference, all, isCountry, isSigner, hexValue, field, shown, country, nine, lengthIn, isSix, named, after, names}
+use Rattle.verdict.specs.Items.Laws.{within-true, within-below, within-above, field-there}
 
 -- letters and digits pass their tests
 pub letter : (c : ℕ) → Letter c → isLetter c ≡ true

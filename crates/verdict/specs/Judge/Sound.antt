@@ -19,11 +19,11 @@ use Rattle.grammar.specs.Content.{Version, Header, Feature, Content}
 use Rattle.grammar.specs.Publish.{lengthOf, headerZone, messageZone, signatureZone, signedBytes, publish}
 use Rattle.grammar.specs.Legal.{LegalHeader, Unused, ValueSize, LegalFeatures, SignatureSize, n28, n32, n48, n64, n66, Legal}
 use Rattle.grammar.specs.Zones.{header-parts}
-use Rattle.items.specs.Items.{Item, is, not, next, whole, mark, version, country, names, date, last, derLength, featureLength}
-use Rattle.items.specs.Items.Sound.{Stands, stands-append, steps, stands, taken-size, same-value, same-place, passed, mark-read, version-read, last-read, date-read, der-read, feature-length-read, byte-read, not-true}
-use Rattle.items.specs.Items.Laws.{unread, whole-read}
-use Rattle.items.specs.Items.FieldsSound.{country-read, names-read}
-use Rattle.reader.specs.Judge.{Row, Report, Verdict, accepted, refused, header, used, tagIn, tag, valueIn, row, features, isSignature, rawIn, sizeIn, signature, verdict, reading, judge}
+use Rattle.verdict.specs.Items.{Item, is, not, next, whole, mark, version, country, names, date, last, derLength, featureLength}
+use Rattle.verdict.specs.Items.Sound.{Stands, stands-append, steps, stands, taken-size, same-value, same-place, passed, mark-read, version-read, last-read, date-read, der-read, feature-length-read, byte-read, not-true}
+use Rattle.verdict.specs.Items.Laws.{unread, whole-read}
+use Rattle.verdict.specs.Items.FieldsSound.{country-read, names-read}
+use Rattle.verdict.specs.Judge.{Row, Report, Verdict, accepted, refused, header, used, tagIn, tag, valueIn, row, features, isSignature, rawIn, sizeIn, signature, verdict, reading, judge}
 
 pub header-read : (s : List ℕ) (h : Header) (end : ℕ) → Bytes s → header s ≡ is h end → LegalHeader h × Stands (headerZone h) 0 end s
 unfolding header

@@ -5,6 +5,7 @@ pub mod Numbers
 pub mod Features
 pub mod Sound
 pub mod Seals
+pub mod Pins
 use mathlib.Core.Bool.{Bool, false}
 use Prim.Native.Nat.{ℕ, zero, suc, _+_}
 use mathlib.Core.List.{List, [], _∷_, _++_}
@@ -13,7 +14,7 @@ use lib.ListN.{length}
 use Rattle.format.specs.Choice.{pick}
 use Rattle.format.specs.Table.{either}
 use Rattle.grammar.specs.Content.{Version, Header}
-use Rattle.items.specs.Items.{Item, is, not, next, whole, byte, mark, version, country, names, date, last, derLength, featureLength}
+use Rattle.verdict.specs.Items.{Item, is, not, next, whole, byte, mark, version, country, names, date, last, derLength, featureLength}
 
 -- a feature's tag, the place of its value and its length
 pub record Row : Type 0 where

@@ -5,7 +5,7 @@ use Prim.Native.Nat.{ℕ}
 use mathlib.Core.List.{List, map}
 use lib.ListN.{take, drop}
 use Rattle.grammar.specs.Content.{Feature, Content}
-use Rattle.reader.specs.Judge.{Row, Report}
+use Rattle.verdict.specs.Judge.{Row, Report}
 
 abbrev pub part : ℕ → ℕ → List ℕ → List ℕ
 part place size s = take size (drop place s)

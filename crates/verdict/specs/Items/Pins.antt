@@ -9,7 +9,7 @@ use Rattle.der.specs.Length.{readLength, longForm}
 use Rattle.dates.specs.Days.{isDay}
 use Rattle.format.specs.Numbers.{val}
 use Rattle.grammar.specs.Content.{three, four}
-use Rattle.items.specs.Items.{is, not, mark, version, country, names, date, last, derLength, featureLength}
+use Rattle.verdict.specs.Items.{is, not, mark, version, country, names, date, last, derLength, featureLength}
 
 -- the first two bytes
 marks : (mark 0 (0xDC ∷ []) ≡ is tt 1) × (mark 0 (0xDD ∷ []) ≡ not 3 0) × (mark 0 [] ≡ not 2 0)

@@ -1,0 +1,3 @@
+pub mod Items
+pub mod Judge
+pub mod Report
