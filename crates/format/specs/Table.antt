@@ -1,5 +1,6 @@
 -- A rule of a table, proved at all of its entries by one test that the checker computes, one entry after the other.
 -- Assumes nothing.
+pub mod Laws
 use mathlib.Core.Bool.{Bool, true, false}
 use mathlib.Core.List.{List, [], _∷_}
 use Prim.Native.Nat.{ℕ, zero, suc, _+_, _<_}

@@ -11,10 +11,6 @@ pub use cursor::Step;
 pub use cursor::Whole;
 use dates::Date;
 pub use names::Names;
-pub use names::all_reference;
-pub use names::is_letter;
-pub use names::is_reference;
-pub use names::is_signer;
 
 // The header of a seal, as the reader gives it and the writer takes it: version 3 or 4, the country with fillers as `<`, and the reference's length L.
 pub struct Header {

@@ -4,13 +4,13 @@ ghost use Prim.Native.Nat.{_<_, _≤_};
 ghost use lib.ListN.{length};
 ghost use mathlib.Core.List.{[], _∷_};
 ghost use Rattle.verdict.specs.Items as read;
+ghost use Rattle.letters.specs.Characters.{isReference, all};
 ghost use Rattle.items.specs.Cases.{Sized, Fills, stepOf, namesOf, whyOf, versionOf, anyText, through, measured, valueOr, textOver};
 use crate::cursor::Cursor;
 use crate::cursor::Refusal;
 use crate::cursor::Step;
 use crate::cursor::Whole;
 use c40::Reading;
-use octets::wide;
 
 // Signer and reference.
 pub enum Names {
@@ -32,109 +32,6 @@ impl Names {
             Names::Not(why) => why,
         }
     }
-}
-
-pub fn is_letter(c: u8) -> bool
-    ensures { λ r. ⌜ r ≡ read.isLetter c ⌝ }
-{
-    if c < b'A' {
-        return false;
-    }
-    c <= b'Z'
-}
-
-pub(crate) fn is_digit(c: u8) -> bool
-    ensures { λ r. ⌜ r ≡ read.isDigit c ⌝ }
-{
-    if c < b'0' {
-        return false;
-    }
-    c <= b'9'
-}
-
-// Which characters a reference may have.
-pub fn is_reference(c: u8) -> bool
-    ensures { λ r. ⌜ r ≡ read.isReference c ⌝ }
-{
-    if is_letter(c) {
-        return true;
-    }
-    is_digit(c)
-}
-
-// Whether all of a text may stand in a reference.
-pub fn all_reference(text: &[u8]) -> bool
-    ensures { λ r. ⌜ r ≡ read.all read.isReference (now (text .entry)) ⌝ }
-{
-    let mut i: usize = 0;
-    while i < text.len() {
-        if !is_reference(text[i]) {
-            return false;
-        }
-        i += 1;
-    }
-    true
-}
-
-// Two letters, then two letters or digits.
-pub fn is_signer(a: u8, b: u8, c: u8, d: u8) -> bool
-    ensures { λ r. ⌜ r ≡ read.isSigner (a ∷ b ∷ c ∷ d ∷ []) ⌝ }
-{
-    if !is_letter(a) {
-        return false;
-    }
-    if !is_letter(b) {
-        return false;
-    }
-    if !is_reference(c) {
-        return false;
-    }
-    is_reference(d)
-}
-
-// A country, its fillers as the spaces that carry them: a letter first, and no letter after a filler.
-pub(crate) fn is_country(a: u8, b: u8, c: u8) -> bool
-    ensures { λ r. ⌜ r ≡ read.isCountry (a ∷ b ∷ c ∷ []) ⌝ }
-{
-    if !is_letter(a) {
-        return false;
-    }
-    if is_letter(b) {
-        if is_letter(c) {
-            return true;
-        }
-        return c == b' ';
-    }
-    if b != b' ' {
-        return false;
-    }
-    c == b' '
-}
-
-// A filler is given as `<`.
-pub(crate) fn shown(c: u8) -> u8
-    ensures { λ r. ⌜ r ≡ read.shown c ⌝ }
-{
-    if c == b' ' {
-        return b'<';
-    }
-    c
-}
-
-// What an upper-case hexadecimal digit stands for; 16 for any other character.
-pub(crate) fn hex_value(c: u8) -> usize
-    ensures { λ r. ⌜ r ≡ read.hexValue c ⌝ }
-{
-    if is_digit(c) {
-        return wide(c - b'0');
-    }
-    if c < b'A' {
-        return 16;
-    }
-    if b'F' < c {
-        return 16;
-    }
-    wide(c - 55)
 }
 
 // Whether bytes are C40 of exactly as many characters as `text` has room for, which then stand there.
@@ -173,11 +70,11 @@ impl Cursor {
         let Step::Past(next) = read else {
             return read;
         };
-        if !is_country(code[0], code[1], code[2]) {
+        if !letters::is_country(code[0], code[1], code[2], b' ') {
             return Step::Wrong;
         }
-        code[1] = shown(code[1]);
-        code[2] = shown(code[2]);
+        code[1] = letters::shown(code[1]);
+        code[2] = letters::shown(code[2]);
         Step::Past(next)
     }
 
@@ -204,10 +101,10 @@ impl Cursor {
         let Step::Past(next) = read else {
             return read;
         };
-        if !is_signer(text[0], text[1], text[2], text[3]) {
+        if !letters::is_signer(text[0], text[1], text[2], text[3]) {
             return Step::Wrong;
         }
-        if all_reference(&text[4..]) {
+        if letters::all_reference(&text[4..]) {
             return Step::Past(next);
         }
         Step::Wrong
@@ -222,11 +119,11 @@ impl Cursor {
         let Step::Past(next) = read else {
             return read;
         };
-        if !is_signer(text[0], text[1], text[2], text[3]) {
+        if !letters::is_signer(text[0], text[1], text[2], text[3]) {
             return Step::Wrong;
         }
-        let high = hex_value(text[4]);
-        let low = hex_value(text[5]);
+        let high = letters::hex_value(text[4]);
+        let low = letters::hex_value(text[5]);
         if high == 16 {
             return Step::Wrong;
         }
@@ -242,13 +139,13 @@ impl Cursor {
     // The reference, of as many characters as `text` has room for.
     pub(crate) fn reference(self, seal: &[u8], text: &mut [u8]) -> Step
         requires { ⌜ (0 < length (now text)) × (length (now text) ≤ 255) ⌝ }
-        ensures { λ r. ⌜ stepOf 5 (self .place) (now (text .exit)) r ≡ read.field (length (now (text .entry))) (read.all read.isReference) (self .place) (now (seal .entry)) ⌝ }
+        ensures { λ r. ⌜ stepOf 5 (self .place) (now (text .exit)) r ≡ read.field (length (now (text .entry))) (all isReference) (self .place) (now (seal .entry)) ⌝ }
     {
         let read = self.field(seal, text);
         let Step::Past(next) = read else {
             return read;
         };
-        if all_reference(text) {
+        if letters::all_reference(text) {
             return Step::Past(next);
         }
         Step::Wrong
@@ -270,7 +167,7 @@ impl Cursor {
         let Step::Past(at) = six else {
             return Names::Not(six.refusal(5, self.place));
         };
-        let size = hex_value(text[4]) * 16 + hex_value(text[5]);
+        let size = letters::hex_value(text[4]) * 16 + letters::hex_value(text[5]);
         let end = 4 + size;
         let reference = at.reference(seal, &mut text[4..end]);
         let Step::Past(next) = reference else {

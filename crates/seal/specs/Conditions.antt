@@ -1,6 +1,6 @@
 -- The tender's conditions of acceptance for reader and writer, as theorems: each after its sentence. What is cited stands in
 --   Legal, publish, signedBytes, Content           crates/grammar/specs (a grammar that knows nothing of reader and writer: crates.txt)
---   reading, answerOf, rowsIn, textIn, then        crates/reader/specs/Calls.antt (the contract of `read`; of `judge`: Judge.antt), contentIn: Answer.antt there
+--   reading, answerOf, rowsIn, textIn, then        crates/reader/specs/Calls.antt (the contract of `read`; of `judge`: crates/verdict/specs/Judge.antt), contentIn: Answer.antt there
 --   writing, contentOf, Lent, Sound                crates/writer/specs/Calls.antt (the contract of `write`), Given.antt and Legal.antt there
 --   told, filled                                   crates/format/specs/Answers.antt
 --   againFrom                                      crates/seal/specs/Again.antt
@@ -20,7 +20,7 @@ use Rattle.grammar.specs.Content.{Content}
 use Rattle.grammar.specs.Publish.{signatureZone, signedBytes, publish}
 use Rattle.grammar.specs.Legal.{Legal}
 use Rattle.grammar.specs.Theorems as grammar
-use Rattle.verdict.specs.Judge.{accepted, refused, judge}
+use Rattle.verdict.specs.Judge.{refused, judge}
 use Rattle.verdict.specs.Judge.Numbers.{from-list}
 use Rattle.verdict.specs.Judge.Complete.{published-accepted as legal-accepted}
 use Rattle.verdict.specs.Judge.Seals.{accepted-only}

@@ -1,6 +1,6 @@
--- The five sizes n stand in the grammar, in the tests of reader and writer and in the signature forms: all four say the same, once over n.
+-- The five sizes n stand in the grammar, in the test that reader and writer share and in the signature forms: all three say the same, once over n.
 -- Assumes nothing.
-use mathlib.Core.Path.{_≡_, refl, ap₂, sym, _∙_}
+use mathlib.Core.Path.{_≡_, ap₂, sym, _∙_}
 use Prim.Native.Nat.{ℕ, _*_}
 use mathlib.Core.Bool.{true}
 use native.Mathlib.Omega.{arith}
@@ -10,9 +10,9 @@ use Rattle.format.specs.Choice.Laws.{by-test}
 use Rattle.format.specs.Table.{either}
 use Rattle.grammar.specs.Legal.{SignatureSize}
 use Rattle.ecdsa.specs.Signature.{isSize}
-use Rattle.verdict.specs.Judge.{isSignature as isSignatureRead}
-use Rattle.writer.specs.Calls.{isSignature}
-use Rattle.writer.specs.Legal.Rows.{size-of, size-passes}
+use Rattle.verdict.specs.Judge.{isSignature}
+use Rattle.verdict.specs.Judge.Complete.{size-passes}
+use Rattle.verdict.specs.Judge.Sound.{size-of}
 
 doubled : (n k : ℕ) → eqb n k ≡ eqb (2 * n) (2 * k)
 doubled n k =
@@ -24,10 +24,6 @@ doubled n k =
 pub size-doubled : (n : ℕ) → isSize n ≡ isSignature (2 * n)
 unfolding isSize
 size-doubled n = ap₂ either (doubled n 28) (ap₂ either (doubled n 32) (ap₂ either (doubled n 48) (ap₂ either (doubled n 64) (doubled n 66))))
-
--- reader and writer ask the same
-pub same-test : (n : ℕ) → isSignatureRead n ≡ isSignature n
-same-test n = refl
 
 -- and it is the grammar's rule
 pub size-legal : (n : ℕ) → isSignature n ≡ true → SignatureSize n

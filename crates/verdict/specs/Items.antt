@@ -5,13 +5,13 @@ pub mod Fields
 pub mod Sound
 pub mod FieldsSound
 pub mod Pins
-use mathlib.Core.Bool.{Bool, true}
-use Prim.Native.Nat.{ℕ, _+_, _-_, _*_}
-use mathlib.Core.List.{List, [], _∷_, map}
+use mathlib.Core.Bool.{Bool}
+use Prim.Native.Nat.{ℕ, _+_, _*_}
+use mathlib.Core.List.{List, [], map}
 use lib.Dec.{ltb, eqb}
 use lib.ListN.{length, take, drop, getD}
 use Rattle.format.specs.Choice.{pick}
-use Rattle.format.specs.Table.{both, either}
+use Rattle.format.specs.Table.{both}
 use Rattle.format.specs.Numbers.{val}
 use Rattle.c40.specs.Text.{width}
 use Rattle.c40.specs.Decode.{Decoded, text, wrong, decode}
@@ -21,6 +21,7 @@ use Rattle.der.specs.Length.{readLength}
 use Rattle.der.specs.declared.Length.{Length}
 use Rattle.der.specs.declared.Length.the-variants.{Is, Cut, Malformed}
 use Rattle.grammar.specs.Content.{Version, three, four}
+use Rattle.letters.specs.Characters.{isReference, isCountry, isSigner, hexValue, all, shown}
 
 pub data Item (A : Type 0) : Type 0 where
   is : A → ℕ → Item A
@@ -53,35 +54,6 @@ versionIn at x = pick (eqb x 0x02) (is three (at + 1)) (pick (eqb x 0x03) (is fo
 abbrev pub version : ℕ → List ℕ → Item Version
 version at s = byte at s (versionIn at)
 
--- characters
-abbrev pub isLetter : ℕ → Bool
-isLetter = within 65 90
-
-abbrev pub isDigit : ℕ → Bool
-isDigit = within 48 57
-
--- which characters a reference may have
-abbrev pub isReference : ℕ → Bool
-isReference c = either (isLetter c) (isDigit c)
-
-abbrev pub all : (ℕ → Bool) → List ℕ → Bool
-all test [] = true
-all test (c ∷ t) = both (test c) (all test t)
-
--- a country, spaces as they are carried: a letter first, letters or spaces, and no letter after a space
-abbrev pub isCountry : List ℕ → Bool
-isCountry t =
-    both (isLetter (getD t 0 0))
-    (either (both (isLetter (getD t 1 0)) (either (isLetter (getD t 2 0)) (eqb (getD t 2 0) 32))) (both (eqb (getD t 1 0) 32) (eqb (getD t 2 0) 32)))
-
--- two letters, then two letters or digits
-abbrev pub isSigner : List ℕ → Bool
-isSigner t = both (all isLetter (take 2 t)) (all isReference (drop 2 t))
-
--- what a hexadecimal digit, in upper case, stands for; 16 for any other character
-abbrev pub hexValue : ℕ → ℕ
-hexValue c = pick (isDigit c) (c - 48) (pick (within 65 70 c) (c - 55) 16)
-
 -- text of exactly k characters, or none
 abbrev pub exactly : ℕ → Decoded → List ℕ
 exactly k (text t) = pick (eqb (length t) k) t []
@@ -94,12 +66,8 @@ fieldIn k good at t = pick (both (ltb 0 (length t)) (good t)) (is t (at + width 
 abbrev pub field : ℕ → (List ℕ → Bool) → ℕ → List ℕ → Item (List ℕ)
 field k good at s = whole (width k) at s (λ bytes. fieldIn k good at (exactly k (decode 0 bytes)))
 
--- fillers are given as `<`
-abbrev pub shown : ℕ → ℕ
-shown c = pick (eqb c 32) 60 c
-
 abbrev pub country : ℕ → List ℕ → Item (List ℕ)
-country at s = next (field 3 isCountry at s) (λ t at. is (map shown t) at)
+country at s = next (field 3 (isCountry 32) at s) (λ t at. is (map shown t) at)
 
 -- signer and reference
 pub record Names : Type 0 where

@@ -5,30 +5,22 @@ use mathlib.Core.Bool.{Bool, true, false}
 use Prim.Native.Nat.{ℕ, _+_, _%_}
 use mathlib.Core.List.{List, [], _∷_}
 use lib.Dec.{ltb, leb, eqb}
-use lib.ListN.{length, take, drop, getD}
+use lib.ListN.{length, take, drop}
 use Rattle.format.specs.Choice.{pick}
 use Rattle.format.specs.Table.{both, either}
 use Rattle.format.specs.Answers.{Outcome, Answer, done, refused}
 use Rattle.dates.specs.Days.{within, isDay}
 use Rattle.grammar.specs.Publish.{publish}
-use Rattle.verdict.specs.Items.{isLetter, isReference, all, isSigner}
+use Rattle.letters.specs.Characters.{isReference, all, isSigner, isCountry}
+use Rattle.verdict.specs.Judge.{Row, used, isSignature}
 use Rattle.items.specs.declared.Header.{Header}
-use Rattle.writer.specs.Given.{Row, rowsOf, Given, contentOf}
+use Rattle.writer.specs.Given.{rowsOf, Given, contentOf}
 use Rattle.writer.specs.declared.Writing.{Writing}
 use Rattle.writer.specs.declared.Writing.the-variants as write
 
 -- 20: version not 3 or 4
 abbrev pub isVersion : ℕ → Bool
 isVersion n = either (eqb n 3) (eqb n 4)
-
--- a country with fillers as `<`: a letter first, letters or fillers, and no letter after a filler
-abbrev pub isFiller : ℕ → Bool
-isFiller c = eqb c 60
-
-abbrev pub isCountry : List ℕ → Bool
-isCountry t =
-    both (isLetter (getD t 0 0))
-    (either (both (isLetter (getD t 1 0)) (either (isLetter (getD t 2 0)) (isFiller (getD t 2 0)))) (both (isFiller (getD t 1 0)) (isFiller (getD t 2 0))))
 
 -- the text is signer then reference: 9 bytes in version 3, 5 to 259 in version 4
 abbrev pub isTextSize : ℕ → ℕ → Bool
@@ -37,7 +29,7 @@ isTextSize version n = pick (eqb version 3) (eqb n 9) (within 5 259 n)
 -- 21: country, signer or reference; the header's L is the reference's length
 abbrev pub areNames : Header → List ℕ → Bool
 areNames h text =
-    both (isCountry (h .country))
+    both (isCountry 60 (h .country))
     (both (both (isTextSize (h .version) (length text)) (eqb (h .length + 4) (length text)))
     (both (isSigner (take 4 text)) (all isReference (drop 4 text))))
 
@@ -48,11 +40,6 @@ areDays h = both (isDay (h .issued)) (isDay (h .signed))
 -- 23: definition reference or category
 abbrev pub areLast : Header → Bool
 areLast h = both (within 1 254 (h .definition)) (within 1 254 (h .category))
-
--- whether a row before has this tag
-abbrev pub used : ℕ → List Row → Bool
-used tag [] = false
-used tag (r ∷ rows) = either (eqb tag (r .tag)) (used tag rows)
 
 -- 24: table not in threes, tag over 254 or used twice, or a value outside the values buffer, of so many bytes
 abbrev pub isRow : ℕ → List Row → Row → Bool
@@ -73,14 +60,11 @@ areShort (r ∷ rows) = both (leb (r .size) 255) (areShort rows)
 abbrev pub areValues : ℕ → List ℕ → Bool
 areValues version table = pick (eqb version 3) (areShort (rowsOf table)) true
 
--- 26: signature length
-abbrev pub isSignature : ℕ → Bool
-isSignature n = either (eqb n 56) (either (eqb n 64) (either (eqb n 96) (either (eqb n 128) (eqb n 132))))
-
 -- 27: seal would pass 4,096; 28: no room for the whole seal
 abbrev pub inRoom : ℕ → List ℕ → Outcome
 inRoom room seal = pick (ltb 4096 (length seal)) (refused 27 0) (pick (ltb room (length seal)) (refused 28 0) (done seal))
 
+-- in order; 26: signature length
 unfoldable pub writing : Given → ℕ → Outcome
 writing g room =
     let h = g .header in

@@ -3,17 +3,13 @@
 use Prim.Native.Nat.{ℕ}
 use mathlib.Core.List.{List, [], _∷_, map}
 use lib.ListN.{take, drop, getD}
-use Rattle.grammar.specs.Content.{Feature, Content, Header as Headed}
+use Rattle.grammar.specs.Content.{Content, Header as Headed}
+use Rattle.verdict.specs.Judge.{Row}
+use Rattle.verdict.specs.Report.{featureOf}
 use Rattle.items.specs.Cases.{versionOf}
 use Rattle.items.specs.declared.Header.{Header}
 
--- a feature's tag, and the place and length of its value
-pub record Row : Type 0 where
-  pub tag : ℕ
-  pub place : ℕ
-  pub size : ℕ
-
--- the rows of a table, three numbers each; what is over is no row
+-- the rows of a table, as the reader gives them: three numbers each; what is over is no row
 unfoldable pub rowsOf : List ℕ → List Row
 rowsOf [] = []
 rowsOf (tag ∷ []) = []
@@ -26,9 +22,6 @@ pub record Given : Type 0 where
   pub table : List ℕ
   pub values : List ℕ
   pub signature : List ℕ
-
-abbrev pub featureOf : List ℕ → Row → Feature
-featureOf values r = record { tag = r .tag; value = take (r .size) (drop (r .place) values) }
 
 -- the country's three characters; it is an array of three, but a struct's array does not tell its length, so they are taken one by one
 abbrev pub threeOf : List ℕ → List ℕ

@@ -15,14 +15,15 @@ use Rattle.format.specs.Bytes.{Bytes, All}
 use Rattle.dates.specs.Days.{within, isDay}
 use Rattle.grammar.specs.Publish.{publish}
 use Rattle.grammar.specs.Legal.{Legal}
-use Rattle.verdict.specs.Items.Laws.{within-true}
-use Rattle.verdict.specs.Items.Sound.{within-both}
-use Rattle.verdict.specs.Items.FieldsSound.{both-true}
+use Rattle.dates.specs.Days.Laws.{within-true, within-both}
+use Rattle.format.specs.Table.Laws.{both-true, both-are}
 use Rattle.writer.specs.Given.{rowsOf, Given, contentOf}
 use Rattle.writer.specs.Calls.{areRows, writing}
 use Rattle.writer.specs.Legal.Order.{done-passes, passes-done}
-use Rattle.writer.specs.Legal.Names.{both-are, version-is, version-passes, names-legal, names-pass}
-use Rattle.writer.specs.Legal.Rows.{Inside, rows-legal, legal-rows, size-of, size-passes}
+use Rattle.writer.specs.Legal.Names.{version-is, version-passes, names-legal, names-pass}
+use Rattle.verdict.specs.Judge.Complete.{size-passes}
+use Rattle.verdict.specs.Judge.Sound.{size-of}
+use Rattle.writer.specs.Legal.Rows.{Inside, rows-legal, legal-rows}
 
 -- what the types of a call give
 pub record Lent (g : Given) : Type 0 where

@@ -22,8 +22,10 @@ use Rattle.dates.specs.Days.Laws.{number-below}
 use Rattle.dates.specs.declared.Date.{Date}
 use Rattle.grammar.specs.Content.{Version}
 use Rattle.grammar.specs.Publish.{hexDigit, names, lengthOf, feature, messageZone}
+use Rattle.verdict.specs.Report.{featureOf}
+use Rattle.verdict.specs.Judge.{Row}
 use Rattle.items.specs.Cases.{versionOf}
-use Rattle.writer.specs.Given.{Row, rowsOf, featureOf}
+use Rattle.writer.specs.Given.{rowsOf}
 use Rattle.writer.specs.Rows.{rowAt, rows-end, rows-here}
 use Rattle.writer.specs.Steps.{Room, Measured, Fits, Fitting, spelled}
 use Rattle.writer.specs.Steps.Laws.{version-three, version-four}

@@ -12,8 +12,9 @@ use Rattle.format.specs.Choice.{pick}
 use Rattle.format.specs.Choice.Laws.{by-test}
 use Rattle.format.specs.Table.{both, either}
 use Rattle.format.specs.Places.{at-place}
-use Rattle.writer.specs.Given.{Row, rowsOf}
-use Rattle.writer.specs.Calls.{used, isRow, areRows, isTable, areShort, areValues}
+use Rattle.verdict.specs.Judge.{Row, used}
+use Rattle.writer.specs.Given.{rowsOf}
+use Rattle.writer.specs.Calls.{isRow, areRows, isTable, areShort, areValues}
 
 -- the row at a place
 abbrev pub rowAt : List ℕ → ℕ → Row

@@ -10,11 +10,12 @@ use Rattle.format.specs.Bytes.{All}
 use Rattle.c40.specs.Text.{publish as c40}
 use Rattle.dates.specs.Days.{publish as date}
 use Rattle.grammar.specs.Publish.{versionByte, carried, hexDigits, names, publish}
-use Rattle.verdict.specs.Items.{isReference, all, isSigner}
+use Rattle.letters.specs.Characters.{isReference, all, isSigner}
+use Rattle.verdict.specs.Judge.{Row, isSignature}
 use Rattle.items.specs.Cases.{versionOf}
 use Rattle.items.specs.declared.Header.{Header}
-use Rattle.writer.specs.Given.{Row, Given, threeOf, contentOf}
-use Rattle.writer.specs.Calls.{isVersion, isTextSize, areNames, areDays, areLast, isTable, areValues, isSignature}
+use Rattle.writer.specs.Given.{Given, threeOf, contentOf}
+use Rattle.writer.specs.Calls.{isVersion, isTextSize, areNames, areDays, areLast, isTable, areValues}
 
 -- a buffer has room for these bytes from a place on
 abbrev pub Room : List ℕ → ℕ → List ℕ → Type 0

@@ -13,34 +13,38 @@ use lib.Seq.{length-take-le}
 use Rattle.format.specs.Bytes.{All}
 use Rattle.format.specs.Choice.{pick}
 use Rattle.format.specs.Choice.Laws.{by-test}
-use Rattle.format.specs.Table.{both, either}
+use Rattle.format.specs.Table.{both}
 use Rattle.format.specs.Buffer.{over}
 use Rattle.format.specs.Buffer.Laws.{length-over, over-over, over-two, Held, held-more}
 use Rattle.c40.specs.Text.{publish as c40}
 use Rattle.c40.specs.Text.Laws.{length-publish}
 use Rattle.dates.specs.Days.{isDay, publish as date}
-use Rattle.dates.specs.Days.Laws.{length-publish as length-date}
+use Rattle.dates.specs.Days.Laws.{length-publish as length-date, within-both}
 use Rattle.der.specs.Length.{form}
 use Rattle.grammar.specs.Content.{Version, four}
 use Rattle.grammar.specs.Publish.{versionByte, carried, names, lengthOf, feature, headerZone, messageZone, signatureZone, signedBytes, publish}
-use Rattle.verdict.specs.Items.{isSigner}
-use Rattle.verdict.specs.Items.Sound.{within-both}
+use Rattle.format.specs.Table.Laws.{both-true}
+use Rattle.letters.specs.Characters.{isSigner, isCountry}
+use Rattle.verdict.specs.Report.{featureOf}
+use Rattle.verdict.specs.Judge.{Row, used, isSignature}
+use Rattle.verdict.specs.Judge.Complete.{size-small}
+use Rattle.verdict.specs.Judge.Sound.{size-of}
 use Rattle.items.specs.Cases.{versionOf}
 use Rattle.items.specs.declared.Header.{Header}
-use Rattle.writer.specs.Given.{Row, rowsOf, featureOf, threeOf, Given, contentOf}
-use Rattle.writer.specs.Calls.{isVersion, isCountry, isTextSize, used, isRow, areRows, isTable, areShort, isSignature}
+use Rattle.writer.specs.Given.{rowsOf, threeOf, Given, contentOf}
+use Rattle.writer.specs.Calls.{isVersion, isTextSize, isRow, areRows, isTable, areShort}
 use Rattle.writer.specs.Steps.{Room, Fitting, Named, Headed, Dated, front, rest, Passed, spelled}
-use Rattle.writer.specs.Steps.Laws.{both-true, either-true as either-is, size-three, size-four, version-three, version-four, version-is}
+use Rattle.writer.specs.Steps.Laws.{size-three, size-four, version-three, version-four, version-is}
 use Rattle.writer.specs.Sizes.{rowsSize, namesSize, sealSize}
 use Rattle.writer.specs.Put.{zone-none, zone-cons, names-three, names-four, spelled-long}
 
 -- what the judged names say
-pub headed-country : (h : Header) (t : List ℕ) → Headed h t → isCountry (h .country) ≡ true
-headed-country h t d = both-true (isCountry (h .country)) _ (d .names) .0
+pub headed-country : (h : Header) (t : List ℕ) → Headed h t → isCountry 60 (h .country) ≡ true
+headed-country h t d = both-true (isCountry 60 (h .country)) _ (d .names) .0
 
 pub headed-named : (h : Header) (t : List ℕ) → Headed h t → Named (h .version) t
 headed-named h t d =
-    let a = both-true (isCountry (h .country)) _ (d .names) in
+    let a = both-true (isCountry 60 (h .country)) _ (d .names) in
     let b = both-true (both (isTextSize (h .version) (length t)) (eqb (h .length + 4) (length t))) _ (a .1) in
     let s = both-true (isTextSize (h .version) (length t)) _ (b .0) in
     let n = both-true (isSigner (take 4 t)) _ (b .1) in
@@ -182,11 +186,7 @@ passed-fit g p =
 
 -- a signature's length
 pub signature-most : (n : ℕ) → isSignature n ≡ true → n ≤ 132
-signature-most n e =
-    either-is (eqb n 56) (either (eqb n 64) (either (eqb n 96) (either (eqb n 128) (eqb n 132)))) e (λ a. omega (arith, eqb-true n 56 a)) (λ e2.
-    either-is (eqb n 64) (either (eqb n 96) (either (eqb n 128) (eqb n 132))) e2 (λ a. omega (arith, eqb-true n 64 a)) (λ e3.
-    either-is (eqb n 96) (either (eqb n 128) (eqb n 132)) e3 (λ a. omega (arith, eqb-true n 96 a)) (λ e4.
-    either-is (eqb n 128) (eqb n 132) e4 (λ a. omega (arith, eqb-true n 128 a)) (λ a. omega (arith, eqb-true n 132 a)))))
+signature-most n e = size-small n (size-of n e)
 
 -- both dates and the last two bytes
 pub dated-days : (h : Header) → Dated h → (isDay (h .issued) ≡ true) × (isDay (h .signed) ≡ true)

@@ -1,6 +1,7 @@
 // The judging of header, text and signature (document 01, numbers 20 to 23 and 26).
 ghost use mathlib.Core.Path.{_≡_};
 ghost use mathlib.Core.List.{[], _∷_};
+ghost use Rattle.verdict.specs.Judge.{isSignature};
 ghost use Rattle.writer.specs.Calls as call;
 use items::Header;
 
@@ -12,25 +13,6 @@ pub(crate) fn is_version(version: usize) -> bool
         return true;
     }
     version == 4
-}
-
-// A country, with fillers as `<`: a letter first, and no letter after a filler.
-pub(crate) fn is_country(a: u8, b: u8, c: u8) -> bool
-    ensures { λ r. ⌜ r ≡ call.isCountry (a ∷ b ∷ c ∷ []) ⌝ }
-{
-    if !items::is_letter(a) {
-        return false;
-    }
-    if items::is_letter(b) {
-        if items::is_letter(c) {
-            return true;
-        }
-        return c == b'<';
-    }
-    if b != b'<' {
-        return false;
-    }
-    c == b'<'
 }
 
 // Whether text of so many bytes has the size that signer and reference have.
@@ -51,7 +33,7 @@ pub(crate) fn are_names(header: Header, text: &[u8]) -> bool
     ensures { λ r. ⌜ r ≡ call.areNames header (now (text .entry)) ⌝ }
 {
     let country = header.country;
-    if !is_country(country[0], country[1], country[2]) {
+    if !letters::is_country(country[0], country[1], country[2], b'<') {
         return false;
     }
     let size = text.len();
@@ -61,10 +43,10 @@ pub(crate) fn are_names(header: Header, text: &[u8]) -> bool
     if header.length != size - 4 {
         return false;
     }
-    if !items::is_signer(text[0], text[1], text[2], text[3]) {
+    if !letters::is_signer(text[0], text[1], text[2], text[3]) {
         return false;
     }
-    items::all_reference(&text[4..])
+    letters::all_reference(&text[4..])
 }
 
 // Both dates are days.
@@ -97,7 +79,7 @@ pub(crate) fn are_last(header: Header) -> bool
 
 // Whether this is the length of a raw signature: 2n for n of 28, 32, 48, 64 or 66.
 pub(crate) fn is_signature(size: usize) -> bool
-    ensures { λ r. ⌜ r ≡ call.isSignature size ⌝ }
+    ensures { λ r. ⌜ r ≡ isSignature size ⌝ }
 {
     match size {
         56 => true,

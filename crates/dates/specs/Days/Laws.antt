@@ -1,10 +1,10 @@
 -- Laws of dates: the bounds of a day, there and back between a day and its number, and that a date's three bytes are cut off in one way only.
 -- Assumes nothing.
 use mathlib.Core.Path.{_≡_, refl, sym}
-use mathlib.Core.Bool.{Bool, true, false}
+use mathlib.Core.Bool.{true, false}
 use Prim.Native.Nat.{ℕ, _+_, _*_, _/_, _%_, _^_, _<_, _≤_}
 use native.Mathlib.Omega.{arith}
-use borrow.Author.Tests.{le-leb, leb-true}
+use borrow.Author.Tests.{lt-leb, le-leb, leb-true}
 use mathlib.Core.List.{[], _∷_}
 use lib.Dec.{leb}
 use lib.ListN.{length}
@@ -16,15 +16,26 @@ use Rattle.format.specs.Cut.{Cut}
 use Rattle.format.specs.Cut.Laws.{cut-be, cut-through}
 use Rattle.dates.specs.Days.{within, isDay, Day, numberOf, dateOf, publish}
 use Rattle.dates.specs.declared.Date.{Date}
+use Rattle.format.specs.Table.Laws.{both-true}
 
-both-true : (a b : Bool) → both a b ≡ true → (a ≡ true) × (b ≡ true)
-both-true true b e = (refl, e)
-both-true false b e = let z : _≡_ {A = ℕ} 0 1 = cc in absurd (omega arith)
-
-within-true : (low high n : ℕ) → within low high n ≡ true → (low ≤ n) × (n ≤ high)
-within-true low high n e =
+-- a range, by its tests
+pub within-both : (low high n : ℕ) → within low high n ≡ true → (low ≤ n) × (n ≤ high)
+within-both low high n e =
     let t = both-true (leb low n) (leb n high) e in
     (leb-true low n (t .0), leb-true n high (t .1))
+
+pub within-true : (low high n : ℕ) → low ≤ n → n ≤ high → within low high n ≡ true
+within-true low high n h g = rw (le-leb low n h, le-leb n high g) refl
+
+pub within-below : (low high n : ℕ) → n < low → within low high n ≡ false
+within-below low high n h = rw (lt-leb low n h) refl
+
+pub within-above : (low high n : ℕ) → low ≤ n → high < n → within low high n ≡ false
+within-above low high n h g = rw (le-leb low n h, lt-leb n high g) refl
+
+-- the range's last test
+pub within-last : (low high n : ℕ) → low ≤ n → leb n high ≡ within low high n
+within-last low high n h = rw (le-leb low n h) refl
 
 -- what the test of a day says of its fields, as numbers
 pub record Bounds (d : Date) : Type 0 where
@@ -38,9 +49,9 @@ day-bounds d h =
     let m = both-true (within 1 12 (d .month)) (both (within 1 31 (d .day)) (within 1 9999 (d .year))) h in
     let r = both-true (within 1 31 (d .day)) (within 1 9999 (d .year)) (m .1) in
     record {
-      month = within-true 1 12 (d .month) (m .0);
-      day = within-true 1 31 (d .day) (r .0);
-      year = within-true 1 9999 (d .year) (r .1);
+      month = within-both 1 12 (d .month) (m .0);
+      day = within-both 1 31 (d .day) (r .0);
+      year = within-both 1 9999 (d .year) (r .1);
     }
 
 -- a field outside its bounds is no day

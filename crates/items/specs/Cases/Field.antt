@@ -13,10 +13,10 @@ use Rattle.format.specs.Choice.Laws.{by-test}
 use Rattle.format.specs.Table.{both}
 use Rattle.c40.specs.Text.{width}
 use Rattle.c40.specs.Decode.{decode}
+use Rattle.format.specs.Table.Laws.{both-true}
 use Rattle.verdict.specs.Items.{Item, is, not, next, whole, exactly, fieldIn, field}
 use Rattle.verdict.specs.Items.Laws.{whole-read}
 use Rattle.verdict.specs.Items.Sound.{same-value, passed, taken-size}
-use Rattle.verdict.specs.Items.FieldsSound.{both-true}
 use Rattle.items.specs.Cases.Laws.{whole-is, whole-none, past-whole}
 use Rattle.items.specs.Cases.{wholeOf, stepOf, past, anyText}
 use Rattle.items.specs.declared.cursor.Cursor.{Cursor}

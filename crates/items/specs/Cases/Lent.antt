@@ -1,19 +1,19 @@
 -- What country and names leave in the memory that is lent for them: what was read, or what was there.
 -- Assumes nothing.
-use mathlib.Core.Path.{_≡_, refl, ap, ap₂, sym, subst, _∙_}
+use mathlib.Core.Path.{_≡_, refl, ap, ap₂, sym, _∙_}
 use Prim.Native.Nat.{ℕ, _+_, _≤_}
 use native.Mathlib.Omega.{arith}
 use borrow.Author.Tests.{le-ltb}
-use mathlib.Core.List.{List, [], _∷_, _++_, append-assoc, append-nil}
+use mathlib.Core.List.{List, _++_, append-assoc, append-nil}
 use lib.Dec.{ltb}
-use lib.ListN.{length, take, drop, getD, set, length-append, length-take, length-drop, drop-of-length-le}
+use lib.ListN.{length, take, drop, length-take, length-drop, drop-of-length-le}
 use lib.Seq.{take-add, take-at, drop-at, length-take-le}
 use Rattle.format.specs.Choice.{pick}
 use Rattle.format.specs.Buffer.{over}
 use Rattle.octets.specs.Copy.{copied}
 use Rattle.verdict.specs.Items.{Item, is, not, Names}
 use Rattle.verdict.specs.Items.Laws.{unread}
-use Rattle.items.specs.Cases.{stepOf, namesOf, through, Measured, measured, valueOr, textOver}
+use Rattle.items.specs.Cases.{stepOf, through, Measured, measured, valueOr, textOver}
 use Rattle.items.specs.Cases.Field.{Unread}
 use Rattle.items.specs.declared.cursor.Refusal.{Refusal}
 use Rattle.items.specs.declared.cursor.Step.{Step}

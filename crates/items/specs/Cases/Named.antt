@@ -14,10 +14,11 @@ use Rattle.format.specs.Choice.Laws.{by-test}
 use Rattle.format.specs.Table.{both}
 use Rattle.dates.specs.Days.{within}
 use Rattle.grammar.specs.Content.{three, four}
-use Rattle.verdict.specs.Items.{Item, is, not, next, isLetter, isDigit, isReference, all, isSigner, isCountry, hexValue, field, shown, country, lengthIn, isSix, nine, named, after, names, Names}
-use Rattle.verdict.specs.Items.Sound.{within-both}
+use Rattle.dates.specs.Days.Laws.{within-both}
+use Rattle.format.specs.Table.Laws.{both-true}
+use Rattle.letters.specs.Characters.{isLetter, isDigit, isReference, all, isSigner, isCountry, hexValue, shown}
+use Rattle.verdict.specs.Items.{Item, is, not, next, field, country, lengthIn, isSix, nine, named, after, names, Names}
 use Rattle.verdict.specs.Items.Fields.{letter-shown}
-use Rattle.verdict.specs.Items.FieldsSound.{both-true}
 use Rattle.items.specs.Cases.{stepOf, whyOf, versionOf, through, measured}
 use Rattle.items.specs.Cases.Field.{Unread, field-good}
 use Rattle.items.specs.declared.cursor.Refusal.{Refusal}
@@ -117,10 +118,10 @@ module _ {A B : Type 0} (at : ℕ) (r : Step) (u : Unread r) (i : Item A) (rest 
       go step.Wrong u e = ap (λ j. next j rest) e
 
 -- the country, with fillers shown: the first character is a letter, and no filler
-letter-in : (a b c : ℕ) → isCountry (a ∷ b ∷ c ∷ []) ≡ true → shown a ≡ a
+letter-in : (a b c : ℕ) → isCountry 32 (a ∷ b ∷ c ∷ []) ≡ true → shown a ≡ a
 letter-in a b c e = letter-shown a (within-both 65 90 a (both-true (isLetter a) _ e .0))
 
-shown-three : (out : List ℕ) (x y : ℕ) → length out ≡ 3 → isCountry out ≡ true → x ≡ shown (getD out 1 0) → y ≡ shown (getD (set out 1 x) 2 0) → set (set out 1 x) 2 y ≡ map shown out
+shown-three : (out : List ℕ) (x y : ℕ) → length out ≡ 3 → isCountry 32 out ≡ true → x ≡ shown (getD out 1 0) → y ≡ shown (getD (set out 1 x) 2 0) → set (set out 1 x) 2 y ≡ map shown out
 shown-three [] x y l p e f = absurd (omega arith)
 shown-three (a ∷ []) x y l p e f = absurd (omega arith)
 shown-three (a ∷ b ∷ []) x y l p e f = absurd (omega arith)
@@ -128,10 +129,10 @@ shown-three (a ∷ b ∷ c ∷ []) x y l p e f =
     ap (λ z. z ∷ x ∷ y ∷ []) (sym (letter-in a b c p)) ∙ ap (λ z. shown a ∷ z ∷ y ∷ []) e ∙ ap (λ z. shown a ∷ shown b ∷ z ∷ []) f
 shown-three (a ∷ b ∷ c ∷ d ∷ t) x y l p e f = absurd (omega arith)
 
-pub country-is : (at n : ℕ) (s out : List ℕ) (x y : ℕ) → length out ≡ 3 → isCountry out ≡ true → is out n ≡ field 3 isCountry at s → x ≡ shown (getD out 1 0) → y ≡ shown (getD (set out 1 x) 2 0) → is (set (set out 1 x) 2 y) n ≡ country at s
+pub country-is : (at n : ℕ) (s out : List ℕ) (x y : ℕ) → length out ≡ 3 → isCountry 32 out ≡ true → is out n ≡ field 3 (isCountry 32) at s → x ≡ shown (getD out 1 0) → y ≡ shown (getD (set out 1 x) 2 0) → is (set (set out 1 x) 2 y) n ≡ country at s
 country-is at n s out x y l p read e f = ap (λ t. is t n) (shown-three out x y l p e f) ∙ ap (λ i. next i (λ t at. is (map shown t) at)) read
 
-pub country-wrong : (at : ℕ) (s : List ℕ) → not 5 at ≡ field 3 isCountry at s → not 5 at ≡ country at s
+pub country-wrong : (at : ℕ) (s : List ℕ) → not 5 at ≡ field 3 (isCountry 32) at s → not 5 at ≡ country at s
 country-wrong at s e = ap (λ i. next i (λ t at. is (map shown t) at)) e
 
 -- the version of a number

@@ -16,9 +16,9 @@ use Rattle.items.specs.Cases.Laws.{version-back}
 use Rattle.verdict.specs.Judge.{Row, Report, accepted}
 use Rattle.verdict.specs.Judge.Complete.{reportOf}
 use Rattle.verdict.specs.Judge.Features.{rowsOf as rowsFrom, feature-parts}
-use Rattle.verdict.specs.Report.{part, featureOf as featureIn, contentOf as contentRead}
+use Rattle.verdict.specs.Report.{part, featureOf, contentOf as contentRead}
 use Rattle.reader.specs.Calls.{answerOf, table, text, then}
-use Rattle.writer.specs.Given.{rowsOf, featureOf, contentOf}
+use Rattle.writer.specs.Given.{rowsOf, contentOf}
 use Rattle.writer.specs.Legal.{Sound}
 use Rattle.writer.specs.Legal.Names.{three-of}
 use Rattle.writer.specs.Legal.Rows.{Inside}
@@ -38,10 +38,10 @@ again-held s r rows names long =
     λ i. record { header = answerOf (accepted r) .header; text = t i; table = u i; values = s; signature = part (r .signature-place) (r .signature-size) s }
 
 -- the rows of the table are those read
-features-again : (s : List ℕ) (rows : List Row) → map (featureOf s) (rowsOf (table rows)) ≡ map (featureIn s) rows
+features-again : (s : List ℕ) (rows : List Row) → map (featureOf s) (rowsOf (table rows)) ≡ map (featureOf s) rows
 unfolding rowsOf table
 features-again s [] = refl
-features-again s (r ∷ rows) = let ih = features-again s rows in ap (λ u. featureIn s r ∷ u) ih
+features-again s (r ∷ rows) = let ih = features-again s rows in ap (λ u. featureOf s r ∷ u) ih
 
 pub content-again : (s : List ℕ) (r : Report) → length (r .header .signer) ≡ 4 → length (r .header .country) ≡ 3 → contentOf (again s r) ≡ contentRead s r
 unfolding contentOf contentRead

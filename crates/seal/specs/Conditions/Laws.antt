@@ -20,14 +20,14 @@ use Rattle.verdict.specs.Judge.{Report, Verdict, accepted, refused, judge}
 use Rattle.verdict.specs.Judge.Numbers.{FromList, from-list}
 use Rattle.verdict.specs.Judge.Complete.{reportOf}
 use Rattle.verdict.specs.Judge.Seals.{accepted-only}
-use Rattle.verdict.specs.Report.{contentOf as contentRead}
+use Rattle.verdict.specs.Report.{contentOf as contentRead, featureOf}
 use Rattle.verdict.specs.Report.Laws.{reported}
 use Rattle.reader.specs.Calls.{answerOf, table, text, given, reading, rowsIn, textIn, then}
 use Rattle.reader.specs.Answer.{contentIn}
 use Rattle.reader.specs.Answer.Laws.{held}
 use Rattle.reader.specs.Theorems.{accepted-when}
 use Rattle.writer.specs.Legal.Names.{three-of}
-use Rattle.writer.specs.Given.{rowsOf, Given, featureOf, contentOf}
+use Rattle.writer.specs.Given.{rowsOf, Given, contentOf}
 use Rattle.writer.specs.Calls.{writing}
 use Rattle.writer.specs.Legal.{Sound, Written, legal-written}
 use Rattle.seal.specs.Again.{again}

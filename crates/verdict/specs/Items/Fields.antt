@@ -22,25 +22,13 @@ use Rattle.dates.specs.Days.{within}
 use Rattle.grammar.specs.Content.{Version, three, four}
 use Rattle.grammar.specs.Publish.{carried, hexDigit, hexDigits}
 use Rattle.grammar.specs.Publish as form
-use Rattle.grammar.specs.Legal.{Letter, LetterOrDigit, Filler, Country, Signer, ReferenceCharacter}
+use Rattle.grammar.specs.Legal.{Letter, Filler, Country, Signer, ReferenceCharacter}
 use Rattle.grammar.specs.Parts.{country-text, signer-text, reference-text, Names as LegalNames, six, six-text, four-form}
-use Rattle.verdict.specs.Items.{is, next, isLetter, isDigit, isReference, all, isCountry, isSigner, hexValue, field, shown, country, nine, lengthIn, isSix, named, after, names}
-use Rattle.verdict.specs.Items.Laws.{within-true, within-below, within-above, field-there}
-
--- letters and digits pass their tests
-pub letter : (c : ℕ) → Letter c → isLetter c ≡ true
-letter c l = within-true 65 90 c (l .0) (l .1)
-
-pub reference-passes : (c : ℕ) → LetterOrDigit c → isReference c ≡ true
-reference-passes c e =
-    ⊎-elim
-    (λ l. ap (λ b. either b (isDigit c)) (letter c l))
-    (λ d. ap (λ b. either b (isDigit c)) (within-below 65 90 c (omega (arith, d .1))) ∙ within-true 48 57 c (d .0) (d .1))
-    e
-
-pub all-pass : (P : ℕ → Type 0) (test : ℕ → Bool) → ((c : ℕ) → P c → test c ≡ true) → (t : List ℕ) → All P t → all test t ≡ true
-all-pass P test f [] a = refl
-all-pass P test f (c ∷ t) a = ap (λ b. both b (all test t)) (f c (a .0)) ∙ all-pass P test f t (a .1)
+use Rattle.dates.specs.Days.Laws.{within-true, within-above}
+use Rattle.letters.specs.Characters.Grammar.{letter, reference-passes, all-pass, signer-passes}
+use Rattle.letters.specs.Characters.{isLetter, isReference, all, isCountry, isSigner, hexValue, shown}
+use Rattle.verdict.specs.Items.{is, next, field, country, nine, lengthIn, isSix, named, after, names}
+use Rattle.verdict.specs.Items.Laws.{field-there}
 
 -- a letter is carried as it is and a filler as a space, and back
 pub letter-carried : (c : ℕ) → Letter c → carried c ≡ c
@@ -61,7 +49,7 @@ all-shown (c ∷ t) a = ap (λ x. x ∷ map shown (map carried t)) (shown-carrie
 abbrev third-in : ℕ → Bool
 third-in c = either (isLetter c) (eqb c 32)
 
-country-three : (a b c : ℕ) → Letter a → Letter b ⊎ Filler b → Letter c ⊎ Filler c → (Filler b → Filler c) → isCountry (carried a ∷ carried b ∷ carried c ∷ []) ≡ true
+country-three : (a b c : ℕ) → Letter a → Letter b ⊎ Filler b → Letter c ⊎ Filler c → (Filler b → Filler c) → isCountry 32 (carried a ∷ carried b ∷ carried c ∷ []) ≡ true
 country-three a b c la eb ec f =
     ap (λ x. both x (rest (carried b) (carried c))) (ap isLetter (letter-carried a la) ∙ letter a la)
     ∙ ⊎-elim
@@ -76,7 +64,7 @@ country-three a b c la eb ec f =
     third : Letter c ⊎ Filler c → third-in (carried c) ≡ true
     third e = ⊎-elim (λ l. ap third-in (letter-carried c l) ∙ ap (λ x. either x (eqb c 32)) (letter c l)) (λ g. subst (λ x. third-in (carried x) ≡ true) (sym g) refl) e
 
-country-passes : (t : List ℕ) → Country t → isCountry (map carried t) ≡ true
+country-passes : (t : List ℕ) → Country t → isCountry 32 (map carried t) ≡ true
 country-passes [] l = let e = l .size in absurd (omega arith)
 country-passes (a ∷ []) l = let e = l .size in absurd (omega arith)
 country-passes (a ∷ b ∷ []) l = let e = l .size in absurd (omega arith)
@@ -85,17 +73,8 @@ country-passes (a ∷ b ∷ c ∷ d ∷ t) l = let e = l .size in absurd (omega 
 
 pub country-there : (p t rest : List ℕ) → Country t → country (length p) (p ++ (c40 (map carried t) ++ rest)) ≡ is t (length p + 2)
 country-there p t rest l =
-    ap (λ i. next i (λ t at. is (map shown t) at)) (field-there 3 isCountry p (map carried t) rest (country-text t l) (omega arith) (country-passes t l))
+    ap (λ i. next i (λ t at. is (map shown t) at)) (field-there 3 (isCountry 32) p (map carried t) rest (country-text t l) (omega arith) (country-passes t l))
     ∙ ap (λ u. is u (length p + 2)) (all-shown t (l .letters))
-
--- a signer passes its test
-signer-passes : (t : List ℕ) → Signer t → isSigner t ≡ true
-signer-passes [] l = let e = l .size in absurd (omega arith)
-signer-passes (a ∷ []) l = let e = l .size in absurd (omega arith)
-signer-passes (a ∷ b ∷ []) l = let e = l .size in absurd (omega arith)
-signer-passes (a ∷ b ∷ c ∷ []) l = let e = l .size in absurd (omega arith)
-signer-passes (a ∷ b ∷ c ∷ d ∷ []) l = rw (letter a (l .first), letter b (l .second), reference-passes c (l .third), reference-passes d (l .fourth)) refl
-signer-passes (a ∷ b ∷ c ∷ d ∷ e ∷ t) l = let f = l .size in absurd (omega arith)
 
 -- the two digits of a length give it
 digit-back : (n : ℕ) → n < 16 → hexValue (hexDigit n) ≡ n

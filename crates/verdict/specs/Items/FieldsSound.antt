@@ -2,7 +2,7 @@
 -- Assumes nothing.
 use mathlib.Core.Path.{_≡_, refl, ap, sym, subst, _∙_}
 use mathlib.Core.Logic.{_⊎_, inl, inr, ⊎-elim}
-use mathlib.Core.Bool.{Bool, true, false}
+use mathlib.Core.Bool.{Bool, true}
 use Prim.Native.Nat.{ℕ, _+_, _-_, _*_, _/_, _%_, _≤_, _<_}
 use native.Mathlib.Omega.{arith}
 use borrow.Author.Tests.{lt-ltb, le-ltb, eqb-true, ltb-true}
@@ -13,7 +13,7 @@ use lib.Seq.{length-take-le}
 use Rattle.format.specs.Choice.{pick}
 use Rattle.format.specs.Choice.Laws.{by-test}
 use Rattle.format.specs.Table.{both, either}
-use Rattle.format.specs.Bytes.{Bytes, All}
+use Rattle.format.specs.Bytes.{Bytes}
 use Rattle.format.specs.Bytes.Laws.{bytes-drop, bytes-take}
 use Rattle.c40.specs.Text.{TextOf, width, publish as c40}
 use Rattle.c40.specs.Decode.{Decoded, text, wrong, decode}
@@ -22,21 +22,17 @@ use Rattle.dates.specs.Days.{within}
 use Rattle.grammar.specs.Content.{Version, three, four}
 use Rattle.grammar.specs.Publish.{carried, hexDigit, hexDigits}
 use Rattle.grammar.specs.Publish as form
-use Rattle.grammar.specs.Legal.{Letter, LetterOrDigit, Filler, Country, Signer, ReferenceCharacter}
+use Rattle.grammar.specs.Legal.{Letter, Filler, Country, Signer, ReferenceCharacter}
 use Rattle.grammar.specs.Parts.{Names as LegalNames, four-form}
 use Rattle.grammar.specs.Pins.{filled-three}
-use Rattle.verdict.specs.Items.{is, isLetter, isDigit, isReference, all, isCountry, isSigner, hexValue, exactly, fieldIn, field, shown, country, Names, nine, lengthIn, isSix, named, after, names}
+use Rattle.format.specs.Table.Laws.{both-true, either-true}
+use Rattle.dates.specs.Days.Laws.{within-both}
+use Rattle.letters.specs.Characters.Grammar.{reference-of, all-of, signer-of}
+use Rattle.letters.specs.Characters.{isLetter, isDigit, isReference, all, isCountry, isSigner, hexValue, shown}
+use Rattle.verdict.specs.Items.{is, exactly, fieldIn, field, country, Names, nine, lengthIn, isSix, named, after, names}
 use Rattle.verdict.specs.Items.Laws.{whole-read}
 use Rattle.verdict.specs.Items.Fields.{letter-carried, letter-shown}
-use Rattle.verdict.specs.Items.Sound.{Stands, stands-append, steps, stands, taken-size, same-value, same-place, passed, not-true, within-both}
-
-pub both-true : (a b : Bool) → both a b ≡ true → (a ≡ true) × (b ≡ true)
-both-true true b e = (refl, e)
-both-true false b e = absurd (not-true e)
-
-either-true : (a b : Bool) → either a b ≡ true → (a ≡ true) ⊎ (b ≡ true)
-either-true true b e = inl refl
-either-true false b e = inr e
+use Rattle.verdict.specs.Items.Sound.{Stands, stands-append, steps, stands, taken-size, same-value, same-place, passed}
 
 -- text that was found is all that was decoded
 exactly-is : (k : ℕ) (d : Decoded) → 0 < length (exactly k d) → (d ≡ text (exactly k d)) × (length (exactly k d) ≡ k)
@@ -101,7 +97,7 @@ pub record CountryOf (t : List ℕ) : Type 0 where
   pub legal : Country (map shown t)
   pub back : map carried (map shown t) ≡ t
 
-country-legal : (t : List ℕ) → length t ≡ 3 → isCountry t ≡ true → CountryOf t
+country-legal : (t : List ℕ) → length t ≡ 3 → isCountry 32 t ≡ true → CountryOf t
 country-legal [] l e = absurd (omega arith)
 country-legal (a ∷ []) l e = absurd (omega arith)
 country-legal (a ∷ b ∷ []) l e = absurd (omega arith)
@@ -129,33 +125,13 @@ country-legal (a ∷ b ∷ c ∷ []) l e =
 
 pub country-read : (at : ℕ) (s t : List ℕ) (after : ℕ) → Bytes s → country at s ≡ is t after → Country t × Stands (c40 (map carried t)) at after s
 country-read at s t after bytes e =
-    let i = steps (field 3 isCountry at s) (λ t at. is (map shown t) at) t after e in
-    let f = field-read 3 isCountry at s (i .value) (i .at) bytes (i .read) in
+    let i = steps (field 3 (isCountry 32) at s) (λ t at. is (map shown t) at) t after e in
+    let f = field-read 3 (isCountry 32) at s (i .value) (i .at) bytes (i .read) in
     let c = country-legal (i .value) (f .is-text .0) (f .passes) in
     let same = same-value (map shown (i .value)) t (i .at) after (i .goes-on) in
     let place = same-place (map shown (i .value)) t (i .at) after (i .goes-on) in
     let form-is : c40 (i .value) ≡ c40 (map carried t) = ap c40 (sym (c .back) ∙ ap (map carried) same) in
     (subst Country same (c .legal), subst (λ u. Stands u at after s) form-is (subst (λ k. Stands (c40 (i .value)) at k s) place (f .there)))
-
--- signer and reference: what passes the tests is legal
-reference-of : (c : ℕ) → isReference c ≡ true → LetterOrDigit c
-reference-of c e = ⊎-elim (λ f. inl (within-both 65 90 c f)) (λ f. inr (within-both 48 57 c f)) (either-true (isLetter c) (isDigit c) e)
-
-all-of : (P : ℕ → Type 0) (test : ℕ → Bool) → ((c : ℕ) → test c ≡ true → P c) → (t : List ℕ) → all test t ≡ true → All P t
-all-of P test f [] e = tt
-all-of P test f (c ∷ t) e = let p = both-true (test c) (all test t) e in (f c (p .0), all-of P test f t (p .1))
-
-signer-of : (t : List ℕ) → length t ≡ 4 → isSigner t ≡ true → Signer t
-signer-of [] l e = absurd (omega arith)
-signer-of (a ∷ []) l e = absurd (omega arith)
-signer-of (a ∷ b ∷ []) l e = absurd (omega arith)
-signer-of (a ∷ b ∷ c ∷ []) l e = absurd (omega arith)
-signer-of (a ∷ b ∷ c ∷ d ∷ x ∷ t) l e = absurd (omega arith)
-signer-of (a ∷ b ∷ c ∷ d ∷ []) l e =
-    let p = both-true (all isLetter (a ∷ b ∷ [])) (all isReference (c ∷ d ∷ [])) e in
-    let f = all-of Letter isLetter (λ c. within-both 65 90 c) (a ∷ b ∷ []) (p .0) in
-    let g = all-of LetterOrDigit isReference reference-of (c ∷ d ∷ []) (p .1) in
-    record { size = refl; first = f .0; second = f .1 .0; third = g .0; fourth = g .1 .0 }
 
 -- version 3: nine characters
 pub names-three-read : (at : ℕ) (s : List ℕ) (n : Names) (after : ℕ) → Bytes s → names three at s ≡ is n after → LegalNames three (n .signer, n .reference) × Stands (c40 (n .signer ++ n .reference)) at after s

@@ -5,7 +5,7 @@ use mathlib.Core.Path.{_≡_, refl, ap, sym, subst, _∙_}
 use mathlib.Core.Bool.{Bool, true, false}
 use Prim.Native.Nat.{ℕ, _+_, _≤_, _<_}
 use native.Mathlib.Omega.{arith}
-use borrow.Author.Tests.{le-leb, lt-leb, le-ltb, lt-ltb, eq-eqb, ltb-false}
+use borrow.Author.Tests.{le-ltb, lt-ltb, eq-eqb, ltb-false}
 use mathlib.Core.List.{List, [], _∷_, _++_}
 use lib.Dec.{ltb}
 use lib.ListN.{length, take, drop, getD, length-append}
@@ -19,8 +19,8 @@ use Rattle.c40.specs.Text.Laws.{length-publish as length-c40}
 use Rattle.c40.specs.Decode.{decode}
 use Rattle.c40.specs.Exact.{published-decodes}
 use Rattle.dates.specs.declared.Date.{Date}
-use Rattle.dates.specs.Days.{within, Day, dateOf, publish}
-use Rattle.dates.specs.Days.Laws.{length-publish, val-publish, number-date}
+use Rattle.dates.specs.Days.{Day, dateOf, publish}
+use Rattle.dates.specs.Days.Laws.{length-publish, val-publish, number-date, within-true}
 use Rattle.der.specs.Length.{Sized, form}
 use Rattle.der.specs.Length.Exact.{form-reads}
 use Rattle.grammar.specs.Content.{Version, three, four}
@@ -63,15 +63,6 @@ mark-there p t = byte-there p 0xDC t (markIn (length p))
 pub version-there : (p : List ℕ) (v : Version) (t : List ℕ) → version (length p) (p ++ (versionByte v ∷ t)) ≡ is v (length p + 1)
 version-there p three t = byte-there p 0x02 t (versionIn (length p))
 version-there p four t = byte-there p 0x03 t (versionIn (length p))
-
-pub within-true : (low high n : ℕ) → low ≤ n → n ≤ high → within low high n ≡ true
-within-true low high n h g = rw (le-leb low n h, le-leb n high g) refl
-
-pub within-below : (low high n : ℕ) → n < low → within low high n ≡ false
-within-below low high n h = rw (lt-leb low n h) refl
-
-pub within-above : (low high n : ℕ) → low ≤ n → high < n → within low high n ≡ false
-within-above low high n h g = rw (le-leb low n h, lt-leb n high g) refl
 
 pub last-there : (p : List ℕ) (x : ℕ) (t : List ℕ) → LastByte x → last (length p) (p ++ (x ∷ t)) ≡ is x (length p + 1)
 last-there p x t l = byte-there p x t (lastIn (length p)) ∙ ap (λ b. pick b (is x (length p + 1)) (not 7 (length p))) (within-true 1 254 x (l .0) (l .1))

@@ -4,9 +4,9 @@ use mathlib.Core.Path.{_≡_, refl, ap, sym, subst, _∙_}
 use mathlib.Core.Bool.{Bool, true, false}
 use Prim.Native.Nat.{ℕ, _+_, _≤_, _<_}
 use native.Mathlib.Omega.{arith}
-use borrow.Author.Tests.{leb-true, eqb-true}
+use borrow.Author.Tests.{eqb-true}
 use mathlib.Core.List.{List, [], _∷_, _++_, append-assoc}
-use lib.Dec.{leb, eqb}
+use lib.Dec.{eqb}
 use lib.ListN.{length, take, drop, getD, take-append-drop, length-drop, length-append}
 use lib.Seq.{length-take-le, drop-drop, take-all}
 use Rattle.format.specs.Choice.{pick}
@@ -15,10 +15,9 @@ use Rattle.format.specs.Bytes.{Bytes}
 use Rattle.format.specs.Bytes.Laws.{bytes-drop, bytes-take}
 use Rattle.format.specs.Numbers.{val}
 use Rattle.format.specs.Answers.{given}
-use Rattle.format.specs.Table.{both}
 use Rattle.dates.specs.declared.Date.{Date}
 use Rattle.dates.specs.Days.{within, isDay, Day, dateOf, publish}
-use Rattle.dates.specs.Days.Laws.{length-publish}
+use Rattle.dates.specs.Days.Laws.{length-publish, within-both}
 use Rattle.dates.specs.Exact.{from-day, taken-published}
 use Rattle.der.specs.Length.{Sized, form, readLength}
 use Rattle.der.specs.Length.Exact.{read-is-form}
@@ -37,9 +36,6 @@ valueIn a (not number place) = a
 abbrev placeIn : {A : Type 0} → Item A → ℕ
 placeIn (is a at) = at
 placeIn (not number place) = 0
-
-pub not-true : false ≡ true → ⊥
-not-true e = subst (λ b. pick b ⊥ Unit) e tt
 
 -- what stands at a place: these bytes, and then the rest
 pub record Stands (form : List ℕ) (at after : ℕ) (s : List ℕ) : Type 0 where
@@ -122,12 +118,6 @@ version-read at s v after e =
     let b = byte-read at s (versionIn at) v after e in
     let p = version-in at (b .x) v after (b .read) in
     record { form-there = b .there ∙ ap (λ x. x ∷ drop (at + 1) s) (p .0) ∙ ap (λ k. versionByte v ∷ drop k s) (p .1); size = sym (p .1) }
-
-pub within-both : (low high n : ℕ) → within low high n ≡ true → (low ≤ n) × (n ≤ high)
-within-both low high n e =
-    by-test (leb low n)
-    (λ t. (leb-true low n t, leb-true n high (sym (ap (λ b. both b (leb n high)) t) ∙ e)))
-    (λ t. absurd (not-true (sym (ap (λ b. both b (leb n high)) t) ∙ e)))
 
 pub last-read : (at : ℕ) (s : List ℕ) (x : ℕ) (after : ℕ) → last at s ≡ is x after → LastByte x × Stands (x ∷ []) at after s
 last-read at s x after e =

@@ -78,14 +78,14 @@ header-there h t l =
     rw (i0, i1, i2, i3, i4, i5, i6, i7) (ap (is h) end)
 
 -- the five sizes pass the test
-size-passes : (n : ℕ) → SignatureSize n → isSignature n ≡ true
+pub size-passes : (n : ℕ) → SignatureSize n → isSignature n ≡ true
 size-passes n n28 = refl
 size-passes n n32 = refl
 size-passes n n48 = refl
 size-passes n n64 = refl
 size-passes n n66 = refl
 
-size-small : (n : ℕ) → SignatureSize n → n ≤ 132
+pub size-small : (n : ℕ) → SignatureSize n → n ≤ 132
 size-small n n28 = omega arith
 size-small n n32 = omega arith
 size-small n n48 = omega arith

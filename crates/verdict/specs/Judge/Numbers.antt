@@ -16,7 +16,8 @@ use Rattle.der.specs.Length.{readLength}
 use Rattle.der.specs.declared.Length.{Length}
 use Rattle.der.specs.declared.Length.the-variants as length
 use Rattle.grammar.specs.Content.{Version, three, four}
-use Rattle.verdict.specs.Items.{Item, is, not, next, whole, byte, mark, version, country, names, date, last, derLength, featureLength, derOf, field, exactly, fieldIn, nine, isSix, isReference, isCountry, all, lengthIn, named, after, shown, dateIn, lastIn, plainIn, markIn, versionIn}
+use Rattle.letters.specs.Characters.{isReference, isCountry, all, shown}
+use Rattle.verdict.specs.Items.{Item, is, not, next, whole, byte, mark, version, country, names, date, last, derLength, featureLength, derOf, field, exactly, fieldIn, nine, isSix, lengthIn, named, after, dateIn, lastIn, plainIn, markIn, versionIn}
 use Rattle.verdict.specs.Judge.{Row, Report, Verdict, accepted, refused, header, used, tagIn, tag, valueIn, row, features, isSignature, rawIn, sizeIn, signature, verdict, reading, judge}
 
 abbrev Listed : {A : Type 0} → Item A → Type 0
@@ -51,7 +52,7 @@ listed-field k good at s =
     (λ bytes. let t = exactly k (decode 0 bytes) in listed-pick (both (ltb 0 (length t)) (good t)) (is t (at + width k)) (not 5 at) tt (omega arith, omega arith))
 
 listed-country : (at : ℕ) (s : List ℕ) → Listed (country at s)
-listed-country at s = listed-next (field 3 isCountry at s) (λ t at. is (map shown t) at) (listed-field 3 isCountry at s) (λ t at. tt)
+listed-country at s = listed-next (field 3 (isCountry 32) at s) (λ t at. is (map shown t) at) (listed-field 3 (isCountry 32) at s) (λ t at. tt)
 
 listed-names : (v : Version) (at : ℕ) (s : List ℕ) → Listed (names v at s)
 listed-names three at s = listed-next (field 9 nine at s) (λ t at. is (record { signer = take 4 t; reference = drop 4 t }) at) (listed-field 9 nine at s) (λ t at. tt)

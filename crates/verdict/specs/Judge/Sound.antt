@@ -19,8 +19,9 @@ use Rattle.grammar.specs.Content.{Version, Header, Feature, Content}
 use Rattle.grammar.specs.Publish.{lengthOf, headerZone, messageZone, signatureZone, signedBytes, publish}
 use Rattle.grammar.specs.Legal.{LegalHeader, Unused, ValueSize, LegalFeatures, SignatureSize, n28, n32, n48, n64, n66, Legal}
 use Rattle.grammar.specs.Zones.{header-parts}
+use Rattle.format.specs.Table.Laws.{not-true}
 use Rattle.verdict.specs.Items.{Item, is, not, next, whole, mark, version, country, names, date, last, derLength, featureLength}
-use Rattle.verdict.specs.Items.Sound.{Stands, stands-append, steps, stands, taken-size, same-value, same-place, passed, mark-read, version-read, last-read, date-read, der-read, feature-length-read, byte-read, not-true}
+use Rattle.verdict.specs.Items.Sound.{Stands, stands-append, steps, stands, taken-size, same-value, same-place, passed, mark-read, version-read, last-read, date-read, der-read, feature-length-read, byte-read}
 use Rattle.verdict.specs.Items.Laws.{unread, whole-read}
 use Rattle.verdict.specs.Items.FieldsSound.{country-read, names-read}
 use Rattle.verdict.specs.Judge.{Row, Report, Verdict, accepted, refused, header, used, tagIn, tag, valueIn, row, features, isSignature, rawIn, sizeIn, signature, verdict, reading, judge}
@@ -181,7 +182,7 @@ either-true : (a b : Bool) → either a b ≡ true → (a ≡ true) ⊎ (b ≡ t
 either-true true b e = inl refl
 either-true false b e = inr e
 
-size-of : (n : ℕ) → isSignature n ≡ true → SignatureSize n
+pub size-of : (n : ℕ) → isSignature n ≡ true → SignatureSize n
 size-of n e =
     let at : (k : ℕ) → SignatureSize k → eqb n k ≡ true → SignatureSize n = λ k z f. subst SignatureSize (sym (eqb-true n k f)) z in
     ⊎-elim (at 56 n28)

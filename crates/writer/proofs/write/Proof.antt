@@ -10,8 +10,9 @@ use denote.Ref.{now}
 use lib.ListN.{length}
 use Rattle.format.specs.Answers.Laws.{refuses, gives}
 use Rattle.grammar.specs.Publish.{publish}
+use Rattle.verdict.specs.Judge.{isSignature}
 use Rattle.writer.specs.Given.{Given, given, contentOf}
-use Rattle.writer.specs.Calls.{isVersion, areNames, areDays, areLast, isTable, areValues, isSignature}
+use Rattle.writer.specs.Calls.{isVersion, areNames, areDays, areLast, isTable, areValues}
 use Rattle.writer.specs.Calls.Laws.{writing-version, writing-names, writing-days, writing-last, writing-rows, writing-values, writing-signature, writing-long, writing-no-room, writing-done}
 use Rattle.writer.specs.Steps.{Headed}
 use Rattle.writer.specs.Steps.Laws.{size-any}

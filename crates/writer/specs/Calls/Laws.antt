@@ -1,52 +1,31 @@
 -- Laws of what the writer answers: each test by the tests that lead there, and one law for each answer.
 -- Assumes nothing.
-use mathlib.Core.Path.{_≡_, refl, ap, sym, _∙_}
+use mathlib.Core.Path.{_≡_, ap, sym, _∙_}
 use mathlib.Core.Bool.{Bool, true, false}
 use Prim.Native.Nat.{ℕ, _+_, _<_, _≤_}
-use native.Mathlib.Omega.{arith}
 use borrow.Author.Tests.{lt-ltb, le-ltb, eq-eqb, ne-eqb}
-use mathlib.Core.List.{List, [], _∷_}
+use mathlib.Core.List.{List}
 use lib.Dec.{ltb, eqb}
 use lib.ListN.{length, take, drop}
 use Rattle.format.specs.Choice.{pick}
 use Rattle.format.specs.Table.{both}
 use Rattle.format.specs.Answers.{Outcome, done, refused}
 use Rattle.grammar.specs.Publish.{publish}
-use Rattle.verdict.specs.Items.{isLetter, isReference, all, isSigner}
+use Rattle.letters.specs.Characters.{isReference, all, isSigner, isCountry}
+use Rattle.verdict.specs.Judge.{isSignature}
 use Rattle.items.specs.declared.Header.{Header}
-use Rattle.verdict.specs.Items.Sound.{within-both}
-use Rattle.items.specs.Cases.Text.{either-false-right}
 use Rattle.writer.specs.Given.{Given, contentOf}
-use Rattle.writer.specs.Calls.{isVersion, isCountry, isTextSize, areNames, areDays, areLast, isTable, areValues, isSignature, inRoom, writing}
-
--- a country, character by character
-module _ (a b c : ℕ) where
-  pub country-first : isLetter a ≡ false → false ≡ isCountry (a ∷ b ∷ c ∷ [])
-  country-first e = rw e refl
-
-  module _ (first : isLetter a ≡ true) where
-    pub country-letters : isLetter b ≡ true → isLetter c ≡ true → true ≡ isCountry (a ∷ b ∷ c ∷ [])
-    country-letters f g = rw (first, f, g) refl
-
-    -- a letter is no filler, so of the two ways to go on one is left
-    pub country-two : isLetter b ≡ true → isLetter c ≡ false → eqb c 60 ≡ isCountry (a ∷ b ∷ c ∷ [])
-    country-two f g = rw (first, f, g, ne-eqb b 60 (λ e. omega (arith, within-both 65 90 b f .0))) (sym (either-false-right (eqb c 60)))
-
-    pub country-other : isLetter b ≡ false → (b ≡ 60 → ⊥) → false ≡ isCountry (a ∷ b ∷ c ∷ [])
-    country-other f h = rw (first, f, ne-eqb b 60 h) refl
-
-    pub country-one : isLetter b ≡ false → b ≡ 60 → eqb c 60 ≡ isCountry (a ∷ b ∷ c ∷ [])
-    country-one f h = rw (first, f, eq-eqb b 60 h) refl
+use Rattle.writer.specs.Calls.{isVersion, isTextSize, areNames, areDays, areLast, isTable, areValues, inRoom, writing}
 
 -- country, sizes, signer and reference, test by test
 module _ (h : Header) (text : List ℕ) where
   abbrev rest : Bool
   rest = both (both (isTextSize (h .version) (length text)) (eqb (h .length + 4) (length text))) (both (isSigner (take 4 text)) (all isReference (drop 4 text)))
 
-  pub names-country : isCountry (h .country) ≡ false → false ≡ areNames h text
+  pub names-country : isCountry 60 (h .country) ≡ false → false ≡ areNames h text
   names-country e = sym (ap (λ b. both b rest) e)
 
-  module _ (country : isCountry (h .country) ≡ true) where
+  module _ (country : isCountry 60 (h .country) ≡ true) where
     past-country : areNames h text ≡ rest
     past-country = ap (λ b. both b rest) country
 

@@ -1,6 +1,6 @@
 -- The tests of 20 and 21 against the grammar: version, country, signer and reference, both ways.
 -- Assumes nothing.
-use mathlib.Core.Path.{_≡_, refl, ap, sym, subst, _∙_}
+use mathlib.Core.Path.{_≡_, refl, sym, subst}
 use mathlib.Core.Logic.{_⊎_, inl, inr, ⊎-elim}
 use mathlib.Core.Bool.{Bool, true, false}
 use Prim.Native.Nat.{ℕ, _+_, _-_, _≤_}
@@ -15,31 +15,16 @@ use Rattle.format.specs.Table.{both, either}
 use Rattle.format.specs.Bytes.{All}
 use Rattle.dates.specs.Days.{within}
 use Rattle.grammar.specs.Content.{three, four}
-use Rattle.grammar.specs.Legal.{Letter, LetterOrDigit, Filler, Country, Signer, ReferenceCharacter, ReferenceSize}
+use Rattle.grammar.specs.Legal.{Letter, Filler, Country, Signer, ReferenceCharacter, ReferenceSize}
 use Rattle.grammar.specs.Pins.{filled-three}
-use Rattle.verdict.specs.Items.{isLetter, isDigit, isReference, all, isSigner}
-use Rattle.verdict.specs.Items.Laws.{within-true}
-use Rattle.verdict.specs.Items.Fields.{letter, reference-passes, all-pass}
-use Rattle.verdict.specs.Items.Sound.{within-both}
-use Rattle.verdict.specs.Items.FieldsSound.{both-true}
+use Rattle.dates.specs.Days.Laws.{within-true, within-both}
+use Rattle.format.specs.Table.Laws.{both-true, both-are, either-true, either-left, either-right}
+use Rattle.letters.specs.Characters.Grammar.{letter, reference-passes, all-pass, reference-of, all-of, signer-of}
+use Rattle.letters.specs.Characters.{isLetter, isReference, all, isSigner, isCountry}
 use Rattle.items.specs.Cases.{versionOf}
 use Rattle.items.specs.declared.Header.{Header}
 use Rattle.writer.specs.Given.{threeOf}
-use Rattle.writer.specs.Calls.{isVersion, isFiller, isCountry, isTextSize, areNames}
-
-pub both-are : (a b : Bool) → a ≡ true → b ≡ true → both a b ≡ true
-both-are a b e f = ap (λ x. both x b) e ∙ f
-
-pub either-true : (a b : Bool) → either a b ≡ true → (a ≡ true) ⊎ (b ≡ true)
-either-true true b e = inl refl
-either-true false b e = inr e
-
-either-left : (a b : Bool) → a ≡ true → either a b ≡ true
-either-left a b e = ap (λ x. either x b) e
-
-either-right : (a b : Bool) → b ≡ true → either a b ≡ true
-either-right true b e = refl
-either-right false b e = e
+use Rattle.writer.specs.Calls.{isVersion, isTextSize, areNames}
 
 -- version 3 or 4
 pub version-is : (n : ℕ) → isVersion n ≡ true → (n ≡ 3) ⊎ (n ≡ 4)
@@ -49,8 +34,8 @@ pub version-passes : (n : ℕ) → (n ≡ 3) ⊎ (n ≡ 4) → isVersion n ≡ t
 version-passes n e = ⊎-elim (λ f. either-left (eqb n 3) (eqb n 4) (eq-eqb n 3 f)) (λ f. either-right (eqb n 3) (eqb n 4) (eq-eqb n 4 f)) e
 
 -- a country of three characters
-third-is : (c : ℕ) → either (isLetter c) (isFiller c) ≡ true → Letter c ⊎ Filler c
-third-is c e = ⊎-elim (λ f. inl (within-both 65 90 c f)) (λ f. inr (eqb-true c 60 f)) (either-true (isLetter c) (isFiller c) e)
+third-is : (c : ℕ) → either (isLetter c) (eqb c 60) ≡ true → Letter c ⊎ Filler c
+third-is c e = ⊎-elim (λ f. inl (within-both 65 90 c f)) (λ f. inr (eqb-true c 60 f)) (either-true (isLetter c) (eqb c 60) e)
 
 letter-no-filler : (c : ℕ) → Letter c → Filler c → ⊥
 letter-no-filler c l f = omega (arith, l .0)
@@ -63,60 +48,40 @@ country-of a b c la eb ec f = record {
   filled = filled-three a b c (λ g. absurd (letter-no-filler a la g)) f;
 }
 
-pub country-legal : (t : List ℕ) → length t ≡ 3 → isCountry t ≡ true → Country t
+pub country-legal : (t : List ℕ) → length t ≡ 3 → isCountry 60 t ≡ true → Country t
 country-legal [] l e = absurd (omega arith)
 country-legal (a ∷ []) l e = absurd (omega arith)
 country-legal (a ∷ b ∷ []) l e = absurd (omega arith)
 country-legal (a ∷ b ∷ c ∷ d ∷ t) l e = absurd (omega arith)
 country-legal (a ∷ b ∷ c ∷ []) l e =
-    let p = both-true (isLetter a) (either (both (isLetter b) (either (isLetter c) (isFiller c))) (both (isFiller b) (isFiller c))) e in
+    let p = both-true (isLetter a) (either (both (isLetter b) (either (isLetter c) (eqb c 60))) (both (eqb b 60) (eqb c 60))) e in
     let la = within-both 65 90 a (p .0) in
     ⊎-elim
     (λ f.
-    let q = both-true (isLetter b) (either (isLetter c) (isFiller c)) f in
+    let q = both-true (isLetter b) (either (isLetter c) (eqb c 60)) f in
     let lb = within-both 65 90 b (q .0) in
     country-of a b c la (inl lb) (third-is c (q .1)) (λ g. absurd (letter-no-filler b lb g)))
     (λ f.
-    let q = both-true (isFiller b) (isFiller c) f in
+    let q = both-true (eqb b 60) (eqb c 60) f in
     let fc = eqb-true c 60 (q .1) in
     country-of a b c la (inr (eqb-true b 60 (q .0))) (inr fc) (λ g. fc))
-    (either-true (both (isLetter b) (either (isLetter c) (isFiller c))) (both (isFiller b) (isFiller c)) (p .1))
+    (either-true (both (isLetter b) (either (isLetter c) (eqb c 60))) (both (eqb b 60) (eqb c 60)) (p .1))
 
-pub country-passes : (t : List ℕ) → Country t → isCountry t ≡ true
+pub country-passes : (t : List ℕ) → Country t → isCountry 60 t ≡ true
 country-passes [] l = let e = l .size in absurd (omega arith)
 country-passes (a ∷ []) l = let e = l .size in absurd (omega arith)
 country-passes (a ∷ b ∷ []) l = let e = l .size in absurd (omega arith)
 country-passes (a ∷ b ∷ c ∷ d ∷ t) l = let e = l .size in absurd (omega arith)
 country-passes (a ∷ b ∷ c ∷ []) l =
-    let two = both (isLetter b) (either (isLetter c) (isFiller c)) in
-    let none = both (isFiller b) (isFiller c) in
-    let third : either (isLetter c) (isFiller c) ≡ true =
-    ⊎-elim (λ x. either-left (isLetter c) (isFiller c) (letter c x)) (λ f. either-right (isLetter c) (isFiller c) (eq-eqb c 60 f)) (l .letters .1 .1 .0) in
+    let two = both (isLetter b) (either (isLetter c) (eqb c 60)) in
+    let none = both (eqb b 60) (eqb c 60) in
+    let third : either (isLetter c) (eqb c 60) ≡ true =
+    ⊎-elim (λ x. either-left (isLetter c) (eqb c 60) (letter c x)) (λ f. either-right (isLetter c) (eqb c 60) (eq-eqb c 60 f)) (l .letters .1 .1 .0) in
     both-are (isLetter a) (either two none) (letter a (l .first))
     (⊎-elim
-    (λ x. either-left two none (both-are (isLetter b) (either (isLetter c) (isFiller c)) (letter b x) third))
-    (λ f. either-right two none (both-are (isFiller b) (isFiller c) (eq-eqb b 60 f) (eq-eqb c 60 (l .filled 1 (omega arith) f))))
+    (λ x. either-left two none (both-are (isLetter b) (either (isLetter c) (eqb c 60)) (letter b x) third))
+    (λ f. either-right two none (both-are (eqb b 60) (eqb c 60) (eq-eqb b 60 f) (eq-eqb c 60 (l .filled 1 (omega arith) f))))
     (l .letters .1 .0))
-
--- signer and reference
-reference-of : (c : ℕ) → isReference c ≡ true → LetterOrDigit c
-reference-of c e = ⊎-elim (λ f. inl (within-both 65 90 c f)) (λ f. inr (within-both 48 57 c f)) (either-true (isLetter c) (isDigit c) e)
-
-all-of : (P : ℕ → Type 0) (test : ℕ → Bool) → ((c : ℕ) → test c ≡ true → P c) → (t : List ℕ) → all test t ≡ true → All P t
-all-of P test f [] e = tt
-all-of P test f (c ∷ t) e = let p = both-true (test c) (all test t) e in (f c (p .0), all-of P test f t (p .1))
-
-signer-of : (t : List ℕ) → length t ≡ 4 → isSigner t ≡ true → Signer t
-signer-of [] l e = absurd (omega arith)
-signer-of (a ∷ []) l e = absurd (omega arith)
-signer-of (a ∷ b ∷ []) l e = absurd (omega arith)
-signer-of (a ∷ b ∷ c ∷ []) l e = absurd (omega arith)
-signer-of (a ∷ b ∷ c ∷ d ∷ x ∷ t) l e = absurd (omega arith)
-signer-of (a ∷ b ∷ c ∷ d ∷ []) l e =
-    let p = both-true (all isLetter (a ∷ b ∷ [])) (all isReference (c ∷ d ∷ [])) e in
-    let f = all-of Letter isLetter (λ c. within-both 65 90 c) (a ∷ b ∷ []) (p .0) in
-    let g = all-of LetterOrDigit isReference reference-of (c ∷ d ∷ []) (p .1) in
-    record { size = refl; first = f .0; second = f .1 .0; third = g .0; fourth = g .1 .0 }
 
 signer-passes : (t : List ℕ) → Signer t → isSigner t ≡ true
 signer-passes [] l = let e = l .size in absurd (omega arith)
@@ -148,7 +113,7 @@ pub names-legal : (h : Header) (text : List ℕ) → areNames h text ≡ true �
 names-legal h text e =
     let sized = both (isTextSize (h .version) (length text)) (eqb (h .length + 4) (length text)) in
     let spelt = both (isSigner (take 4 text)) (all isReference (drop 4 text)) in
-    let p = both-true (isCountry (h .country)) (both sized spelt) e in
+    let p = both-true (isCountry 60 (h .country)) (both sized spelt) e in
     let q = both-true sized spelt (p .1) in
     let r = both-true (isTextSize (h .version) (length text)) (eqb (h .length + 4) (length text)) (q .0) in
     let s = both-true (isSigner (take 4 text)) (all isReference (drop 4 text)) (q .1) in
@@ -166,7 +131,7 @@ names-pass h text l =
     let sized = both (isTextSize (h .version) (length text)) (eqb (h .length + 4) (length text)) in
     let spelt = both (isSigner (take 4 text)) (all isReference (drop 4 text)) in
     let long : 4 ≤ length text = omega (arith, l .measured) in
-    both-are (isCountry (h .country)) (both sized spelt) (country-passes (threeOf (h .country)) (l .country))
+    both-are (isCountry 60 (h .country)) (both sized spelt) (country-passes (threeOf (h .country)) (l .country))
     (both-are sized spelt
     (both-are (isTextSize (h .version) (length text)) (eqb (h .length + 4) (length text))
     (text-passes (eqb (h .version) 3) (length text) long (subst (ReferenceSize (versionOf (h .version))) (length-drop 4 text) (l .size)))

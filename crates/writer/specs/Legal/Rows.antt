@@ -1,10 +1,9 @@
 -- The tests of 24, 25 and 26 against the grammar: rows, sizes of values and the signature, both ways.
 -- Assumes nothing.
 use mathlib.Core.Path.{_≡_, refl, ap, sym, subst, _∙_}
-use mathlib.Core.Logic.{⊎-elim}
 use mathlib.Core.Bool.{Bool, true, false}
 use Prim.Native.Nat.{ℕ, _+_, _≤_}
-use borrow.Author.Tests.{leb-true, le-leb, eqb-true, ne-eqb, eqb-false}
+use borrow.Author.Tests.{leb-true, le-leb, ne-eqb, eqb-false}
 use mathlib.Core.List.{List, [], _∷_, map}
 use lib.Dec.{leb, eqb}
 use lib.ListN.{length, drop}
@@ -14,12 +13,12 @@ use Rattle.format.specs.Table.{both, either}
 use Rattle.format.specs.Bytes.{Bytes, All}
 use Rattle.format.specs.Bytes.Laws.{bytes-take, bytes-drop}
 use Rattle.grammar.specs.Content.{three, four}
-use Rattle.grammar.specs.Legal.{ValueSize, Unused, LegalFeatures, SignatureSize, n28, n32, n48, n64, n66}
-use Rattle.verdict.specs.Items.Sound.{not-true, taken-size}
-use Rattle.verdict.specs.Items.FieldsSound.{both-true}
-use Rattle.writer.specs.Given.{Row, featureOf}
-use Rattle.writer.specs.Calls.{used, isRow, areRows, areShort, isSignature}
-use Rattle.writer.specs.Legal.Names.{both-are, either-true}
+use Rattle.grammar.specs.Legal.{ValueSize, Unused, LegalFeatures}
+use Rattle.format.specs.Table.Laws.{not-true, both-true, both-are}
+use Rattle.verdict.specs.Report.{featureOf}
+use Rattle.verdict.specs.Judge.{Row, used}
+use Rattle.verdict.specs.Items.Sound.{taken-size}
+use Rattle.writer.specs.Calls.{isRow, areRows, areShort}
 
 -- a value inside the values buffer, of so many bytes
 abbrev pub Inside : ℕ → Row → Type 0
@@ -100,22 +99,3 @@ module _ (values : List ℕ) where
         both-are (isRow n before r) (areRows n (r ∷ before) rows) (row-passes n before r (l .0) (l .1) (i .0)) (ih .0),
         short-cons b r rows (subst (ValueSize (pick b three four)) (value-size r (i .0)) (l .2)) (ih .1),
       )
-
--- the five sizes
-pub size-of : (n : ℕ) → isSignature n ≡ true → SignatureSize n
-size-of n e =
-    ⊎-elim (λ f. subst SignatureSize (sym (eqb-true n 56 f)) n28)
-    (λ f. ⊎-elim (λ f. subst SignatureSize (sym (eqb-true n 64 f)) n32)
-    (λ f. ⊎-elim (λ f. subst SignatureSize (sym (eqb-true n 96 f)) n48)
-    (λ f. ⊎-elim (λ f. subst SignatureSize (sym (eqb-true n 128 f)) n64) (λ f. subst SignatureSize (sym (eqb-true n 132 f)) n66)
-    (either-true (eqb n 128) (eqb n 132) f))
-    (either-true (eqb n 96) (either (eqb n 128) (eqb n 132)) f))
-    (either-true (eqb n 64) (either (eqb n 96) (either (eqb n 128) (eqb n 132))) f))
-    (either-true (eqb n 56) (either (eqb n 64) (either (eqb n 96) (either (eqb n 128) (eqb n 132)))) e)
-
-pub size-passes : (n : ℕ) → SignatureSize n → isSignature n ≡ true
-size-passes n n28 = refl
-size-passes n n32 = refl
-size-passes n n48 = refl
-size-passes n n64 = refl
-size-passes n n66 = refl

@@ -21,19 +21,16 @@ use Rattle.der.specs.Length.{form}
 use Rattle.der.specs.Length.Exact.{form-short, form-long}
 use Rattle.grammar.specs.Content.{three, four}
 use Rattle.grammar.specs.Publish.{carried, hexDigit, hexDigits, lengthOf}
-use Rattle.verdict.specs.Items.{isLetter, isDigit, isReference, isSigner, all}
-use Rattle.verdict.specs.Items.Sound.{within-both}
+use Rattle.dates.specs.Days.Laws.{within-both}
+use Rattle.format.specs.Table.Laws.{both-true}
+use Rattle.letters.specs.Characters.{isLetter, isDigit, isReference, isSigner, all, isCountry}
 use Rattle.items.specs.Cases.{versionOf}
-use Rattle.writer.specs.Calls.{isFiller, isCountry, isTextSize, isVersion}
+use Rattle.writer.specs.Calls.{isTextSize, isVersion}
 use Rattle.writer.specs.Steps.{Named, spelled}
 
-pub both-true : (a b : Bool) → both a b ≡ true → (a ≡ true) × (b ≡ true)
-both-true true b e = (refl, e)
-both-true false b e = let z : _≡_ {A = ℕ} 0 1 = cc in absurd (omega arith)
-
-pub either-true : {C : Type 0} (a b : Bool) → either a b ≡ true → (a ≡ true → C) → (b ≡ true → C) → C
-either-true true b e f g = f refl
-either-true false b e f g = g e
+pub either-is : {C : Type 0} (a b : Bool) → either a b ≡ true → (a ≡ true → C) → (b ≡ true → C) → C
+either-is true b e f g = f refl
+either-is false b e f g = g e
 
 -- characters of the chart
 letter-text : (c : ℕ) → isLetter c ≡ true → InChart c
@@ -45,7 +42,7 @@ digit-text c e =
     (λ l. letter-text c l)
     (λ l. let w = within-both 48 57 c (sym (ap (λ b. either b (isDigit c)) l) ∙ e) in digit-in c (w .0) (w .1))
 
-filler-text : (c : ℕ) → isFiller c ≡ true → InChart (carried c)
+filler-text : (c : ℕ) → eqb c 60 ≡ true → InChart (carried c)
 filler-text c e = rw e space-in
 
 carried-letter : (c : ℕ) → isLetter c ≡ true → InChart (carried c)
@@ -58,16 +55,16 @@ all-text test f [] e = tt
 all-text test f (c ∷ t) e = let b = both-true (test c) (all test t) e in (f c (b .0), all-text test f t (b .1))
 
 -- the country's characters, as they are carried
-pub country-text : (a b c : ℕ) → isCountry (a ∷ b ∷ c ∷ []) ≡ true → Text (carried a ∷ carried b ∷ carried c ∷ [])
+pub country-text : (a b c : ℕ) → isCountry 60 (a ∷ b ∷ c ∷ []) ≡ true → Text (carried a ∷ carried b ∷ carried c ∷ [])
 country-text a b c e =
     let first = both-true (isLetter a) _ e in (
       carried-letter a (first .0),
-      either-true _ _ (first .1)
+      either-is _ _ (first .1)
           (λ two. let t = both-true (isLetter b) _ two in (
             carried-letter b (t .0),
-            (either-true _ _ (t .1) (λ l. carried-letter c l) (λ l. filler-text c l), tt),
+            (either-is _ _ (t .1) (λ l. carried-letter c l) (λ l. filler-text c l), tt),
           ))
-          (λ two. let t = both-true (isFiller b) _ two in (filler-text b (t .0), (filler-text c (t .1), tt))),
+          (λ two. let t = both-true (eqb b 60) _ two in (filler-text b (t .0), (filler-text c (t .1), tt))),
     )
 
 -- signer and reference are text

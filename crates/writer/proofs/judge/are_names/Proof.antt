@@ -8,9 +8,9 @@ use mathlib.Core.Bool.{true}
 use Prim.Native.Nat.{_+_, _≤_}
 use denote.Ref.{now}
 use lib.ListN.{length, take}
-use Rattle.verdict.specs.Items.{isSigner, isReference, all}
+use Rattle.letters.specs.Characters.{isSigner, isReference, all, isCountry}
 use Rattle.items.specs.Cases.Named.{first-four, rest-of}
-use Rattle.writer.specs.Calls.{isCountry, isTextSize}
+use Rattle.writer.specs.Calls.{isTextSize}
 use Rattle.writer.specs.Calls.Laws.{names-country, names-size, names-length, names-signer, names-reference}
 use Rattle.writer.specs.Steps.Laws.{size-any}
 use Rattle.writer.proofs.judge.are_names.Statement.{statement}
@@ -21,7 +21,7 @@ abbrev start : tie.Else1 → tie.Start
 start c = c .before .before .before .before
 
 -- what the tests passed say
-country : (c : tie.Else1) → isCountry (start c .args .header .country) ≡ true
+country : (c : tie.Else1) → isCountry 60 (start c .args .header .country) ≡ true
 country c = sym (c .before .is-country .ensures) ∙ not-false _ (c .if1 .left)
 
 size : (c : tie.Else2) → isTextSize (start (c .before .before) .args .header .version) (length (now (start (c .before .before) .args .text))) ≡ true

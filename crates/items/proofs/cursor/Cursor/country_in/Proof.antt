@@ -7,7 +7,8 @@ use mathlib.Core.Path.{_≡_, ap, sym, _∙_}
 use mathlib.Core.List.{map}
 use mathlib.Core.Bool.{true}
 use lib.ListN.{length}
-use Rattle.verdict.specs.Items.{is, isCountry, shown, field}
+use Rattle.letters.specs.Characters.{isCountry, shown}
+use Rattle.verdict.specs.Items.{is, field}
 use Rattle.items.specs.Cases.{stepOf, anyText}
 use Rattle.items.specs.Cases.Field.{field-not, field-passes, field-fails}
 use Rattle.items.specs.Cases.Named.{answer-on, country-is, country-wrong}
@@ -34,8 +35,8 @@ returns c =
     let args = on .before .before .before .args in
     let out = on .field .last .1 .1 .0 in
     let u = unread (on .field .result) (c .match .keys2) in
-    answer-on (args .self .place) (on .field .result) u (field 3 isCountry (args .self .place) (args .seal .now)) (λ t at. is (map shown t) at) out out
-    (field-not 3 isCountry (args .self .place) (args .seal .now) (on .field .result) out (read-field on) u out)
+    answer-on (args .self .place) (on .field .result) u (field 3 (isCountry 32) (args .self .place) (args .seal .now)) (λ t at. is (map shown t) at) out out
+    (field-not 3 (isCountry 32) (args .self .place) (args .seal .now) (on .field .result) out (read-field on) u out)
 
 element-copy-out-is-country : tie.Need-element-copy-out-is-country
 element-copy-out-is-country c = search needs
@@ -56,7 +57,7 @@ returns-2 c =
     let out = on .field .last .1 .1 .0 in
     let read = c .before .before .before .before .before .before .read in
     country-wrong (args .self .place) (args .seal .now)
-    (field-fails 3 isCountry (args .self .place) (args .seal .now) (on .field .result) out (read-field on) (read .given .0 .0) (read .given .1)
+    (field-fails 3 (isCountry 32) (args .self .place) (args .seal .now) (on .field .result) out (read-field on) (read .given .0 .0) (read .given .1)
     (sym (c .before .is-country .ensures) ∙ not-true _ (c .if1 .taken)))
 
 element-copy-out-shown : tie.Need-element-copy-out-shown
@@ -84,10 +85,10 @@ returns-3 c =
     let args = on .before .before .before .args in
     let out = on .field .last .1 .1 .0 in
     let read = test .before .before .before .before .before .before .read in
-    let passes : isCountry out ≡ true = sym (test .before .is-country .ensures) ∙ not-false _ (test .if1 .left) in
+    let passes : isCountry 32 out ≡ true = sym (test .before .is-country .ensures) ∙ not-false _ (test .if1 .left) in
     let size : length out ≡ 3 = omega arith in
     country-is (args .self .place) (read .given .0 .0 .place) (args .seal .now) out (c .before .before .shown .result) (c .shown2 .result) size passes
-    (field-passes 3 isCountry (args .self .place) (args .seal .now) (on .field .result) out (read-field on) (read .given .0 .0) (read .given .1) passes)
+    (field-passes 3 (isCountry 32) (args .self .place) (args .seal .now) (on .field .result) out (read-field on) (read .given .0 .0) (read .given .1) passes)
     (c .before .before .shown .ensures) (c .shown2 .ensures)
 
 pub country-in-spec : {M : Type 1} → statement M

@@ -7,7 +7,8 @@ use mathlib.Core.List.{_++_}
 use Prim.Native.Nat.{_+_, _*_, _-_, _≤_}
 use lib.ListN.{length, take, drop, getD, length-append, length-drop}
 use lib.Seq.{length-take-le}
-use Rattle.verdict.specs.Items.{names, hexValue}
+use Rattle.letters.specs.Characters.{hexValue}
+use Rattle.verdict.specs.Items.{names}
 use Rattle.items.specs.Cases.{stepOf, through, measured}
 use Rattle.items.specs.Cases.Named.{version-three, version-four, names-three, names-three-not, names-six-not, Six, six-there, hex-most, part-long, names-four, names-four-not}
 use Rattle.items.proofs.Unread.{unread}

@@ -6,7 +6,7 @@ use native.Mathlib.Omega.{arith}
 use mathlib.Core.Path.{_≡_, ap, sym, _∙_}
 use Prim.Native.Nat.{_≤_}
 use lib.ListN.{length, take}
-use Rattle.verdict.specs.Items.{isSigner, isReference, all}
+use Rattle.letters.specs.Characters.{isSigner, isReference, all}
 use Rattle.verdict.specs.Items as read
 use Rattle.items.specs.Cases.{stepOf, anyText}
 use Rattle.items.specs.Cases.Field.{field-not, field-passes, field-fails}

@@ -3,7 +3,7 @@
 use borrow.Author.Needs.{needs}
 use mathlib.Core.Path.{sym, _∙_}
 use lib.ListN.{length}
-use Rattle.verdict.specs.Items.{isReference, all}
+use Rattle.letters.specs.Characters.{isReference, all}
 use Rattle.items.specs.Cases.Field.{field-not, field-passes, field-fails}
 use Rattle.items.proofs.Unread.{unread}
 use Rattle.items.proofs.cursor.Cursor.reference.Statement.{statement}

@@ -7,7 +7,8 @@ use mathlib.Core.Path.{_≡_, ap, sym, _∙_}
 use mathlib.Core.Bool.{true}
 use Prim.Native.Nat.{_≤_, _<_}
 use lib.ListN.{length, take, getD}
-use Rattle.verdict.specs.Items.{isSigner, isSix, hexValue}
+use Rattle.letters.specs.Characters.{isSigner, hexValue}
+use Rattle.verdict.specs.Items.{isSix}
 use Rattle.verdict.specs.Items as read
 use Rattle.items.specs.Cases.{stepOf, anyText}
 use Rattle.items.specs.Cases.Field.{field-not, field-passes, field-fails}

@@ -1,0 +1,45 @@
+-- The characters of country, signer and reference (document 01, Layout), as tests.
+-- Assumes nothing.
+pub mod Laws
+pub mod Grammar
+pub mod Pins
+use mathlib.Core.Bool.{Bool, true}
+use Prim.Native.Nat.{ℕ, _-_}
+use mathlib.Core.List.{List, [], _∷_}
+use lib.Dec.{eqb}
+use lib.ListN.{take, drop, getD}
+use Rattle.format.specs.Choice.{pick}
+use Rattle.format.specs.Table.{both, either}
+use Rattle.dates.specs.Days.{within}
+
+abbrev pub isLetter : ℕ → Bool
+isLetter = within 65 90
+
+abbrev pub isDigit : ℕ → Bool
+isDigit = within 48 57
+
+-- which characters a reference may have
+abbrev pub isReference : ℕ → Bool
+isReference c = either (isLetter c) (isDigit c)
+
+abbrev pub all : (ℕ → Bool) → List ℕ → Bool
+all test [] = true
+all test (c ∷ t) = both (test c) (all test t)
+
+-- a country, fillers as this character: a letter first, letters or fillers, and no letter after a filler
+abbrev pub isCountry : ℕ → List ℕ → Bool
+isCountry filler t =
+    both (isLetter (getD t 0 0))
+    (either (both (isLetter (getD t 1 0)) (either (isLetter (getD t 2 0)) (eqb (getD t 2 0) filler))) (both (eqb (getD t 1 0) filler) (eqb (getD t 2 0) filler)))
+
+-- two letters, then two letters or digits
+abbrev pub isSigner : List ℕ → Bool
+isSigner t = both (all isLetter (take 2 t)) (all isReference (drop 2 t))
+
+-- what a hexadecimal digit, in upper case, stands for; 16 for any other character
+abbrev pub hexValue : ℕ → ℕ
+hexValue c = pick (isDigit c) (c - 48) (pick (within 65 70 c) (c - 55) 16)
+
+-- fillers are given as `<`
+abbrev pub shown : ℕ → ℕ
+shown c = pick (eqb c 32) 60 c

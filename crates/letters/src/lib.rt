@@ -1,0 +1,110 @@
+// The characters of country, signer and reference (document 01, Layout): tests that reader and writer share.
+ghost use mathlib.Core.Path.{_≡_};
+ghost use mathlib.Core.List.{[], _∷_};
+ghost use Rattle.letters.specs.Characters as character;
+use octets::wide;
+
+// A letter, in upper case.
+pub fn is_letter(c: u8) -> bool
+    ensures { λ r. ⌜ r ≡ character.isLetter c ⌝ }
+{
+    if c < b'A' {
+        return false;
+    }
+    c <= b'Z'
+}
+
+// A digit.
+pub fn is_digit(c: u8) -> bool
+    ensures { λ r. ⌜ r ≡ character.isDigit c ⌝ }
+{
+    if c < b'0' {
+        return false;
+    }
+    c <= b'9'
+}
+
+// Which characters a reference may have.
+pub fn is_reference(c: u8) -> bool
+    ensures { λ r. ⌜ r ≡ character.isReference c ⌝ }
+{
+    if is_letter(c) {
+        return true;
+    }
+    is_digit(c)
+}
+
+// Whether all of a text may stand in a reference.
+pub fn all_reference(text: &[u8]) -> bool
+    ensures { λ r. ⌜ r ≡ character.all character.isReference (now (text .entry)) ⌝ }
+{
+    let mut i: usize = 0;
+    while i < text.len() {
+        if !is_reference(text[i]) {
+            return false;
+        }
+        i += 1;
+    }
+    true
+}
+
+// Two letters, then two letters or digits.
+pub fn is_signer(a: u8, b: u8, c: u8, d: u8) -> bool
+    ensures { λ r. ⌜ r ≡ character.isSigner (a ∷ b ∷ c ∷ d ∷ []) ⌝ }
+{
+    if !is_letter(a) {
+        return false;
+    }
+    if !is_letter(b) {
+        return false;
+    }
+    if !is_reference(c) {
+        return false;
+    }
+    is_reference(d)
+}
+
+// A country, fillers as `filler`: a letter first, and no letter after a filler.
+pub fn is_country(a: u8, b: u8, c: u8, filler: u8) -> bool
+    ensures { λ r. ⌜ r ≡ character.isCountry filler (a ∷ b ∷ c ∷ []) ⌝ }
+{
+    if !is_letter(a) {
+        return false;
+    }
+    if is_letter(b) {
+        if is_letter(c) {
+            return true;
+        }
+        return c == filler;
+    }
+    if b != filler {
+        return false;
+    }
+    c == filler
+}
+
+// A filler is given as `<`.
+pub fn shown(c: u8) -> u8
+    ensures { λ r. ⌜ r ≡ character.shown c ⌝ }
+{
+    if c == b' ' {
+        return b'<';
+    }
+    c
+}
+
+// What an upper-case hexadecimal digit stands for; 16 for any other character.
+pub fn hex_value(c: u8) -> usize
+    ensures { λ r. ⌜ r ≡ character.hexValue c ⌝ }
+{
+    if is_digit(c) {
+        return wide(c - b'0');
+    }
+    if c < b'A' {
+        return 16;
+    }
+    if b'F' < c {
+        return 16;
+    }
+    wide(c - 55)
+}
