@@ -9,7 +9,7 @@ use Rattle.verdict.specs.Judge.{Report, accepted}
 use Rattle.verdict.specs.Report.{part}
 use Rattle.reader.specs.Calls.{answerOf, table, text}
 use Rattle.reader.specs.declared.Reading.{Reading}
-use Rattle.writer.specs.Given.{Given, given}
+use Rattle.given.specs.Given.{Given, given}
 
 -- from the seal, the answer, and the lent table and text after the reading
 abbrev pub againFrom : List ℕ → Reading → List ℕ → List ℕ → Given

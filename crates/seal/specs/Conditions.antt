@@ -29,7 +29,7 @@ use Rattle.reader.specs.Calls.Given.{given-accepted}
 use Rattle.reader.specs.Answer.{contentIn}
 use Rattle.reader.specs.Theorems as reader
 use Rattle.reader.specs.declared.Reading.{Reading}
-use Rattle.writer.specs.Given.{Given, contentOf}
+use Rattle.given.specs.Given.{Given, contentOf}
 use Rattle.writer.specs.Calls.{writing}
 use Rattle.writer.specs.Legal.{Lent, Sound, written-legal, legal-written}
 use Rattle.writer.specs.Theorems as writer

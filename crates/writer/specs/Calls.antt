@@ -1,64 +1,18 @@
 -- What the writer answers, for every input (document 01, numbers 20 to 28, in order, each with place 0), and what it writes: all is judged before the first byte.
 -- Assumes nothing.
 pub mod Laws
-use mathlib.Core.Bool.{Bool, true, false}
-use Prim.Native.Nat.{ℕ, _+_, _%_}
-use mathlib.Core.List.{List, [], _∷_}
-use lib.Dec.{ltb, leb, eqb}
-use lib.ListN.{length, take, drop}
+use Prim.Native.Nat.{ℕ}
+use mathlib.Core.List.{List}
+use lib.Dec.{ltb}
+use lib.ListN.{length}
 use Rattle.format.specs.Choice.{pick}
-use Rattle.format.specs.Table.{both, either}
 use Rattle.format.specs.Answers.{Outcome, Answer, done, refused}
-use Rattle.dates.specs.Days.{within, isDay}
 use Rattle.grammar.specs.Publish.{publish}
-use Rattle.letters.specs.Characters.{isReference, all, isSigner, isCountry}
-use Rattle.verdict.specs.Judge.{Row, used, isSignature}
-use Rattle.items.specs.declared.Header.{Header}
-use Rattle.writer.specs.Given.{rowsOf, Given, contentOf}
+use Rattle.verdict.specs.Judge.{isSignature}
+use Rattle.given.specs.Tests.{isVersion, areNames, areDays, areLast, isTable, areValues}
+use Rattle.given.specs.Given.{Given, contentOf}
 use Rattle.writer.specs.declared.Writing.{Writing}
 use Rattle.writer.specs.declared.Writing.the-variants as write
-
--- 20: version not 3 or 4
-abbrev pub isVersion : ℕ → Bool
-isVersion n = either (eqb n 3) (eqb n 4)
-
--- the text is signer then reference: 9 bytes in version 3, 5 to 259 in version 4
-abbrev pub isTextSize : ℕ → ℕ → Bool
-isTextSize version n = pick (eqb version 3) (eqb n 9) (within 5 259 n)
-
--- 21: country, signer or reference; the header's L is the reference's length
-abbrev pub areNames : Header → List ℕ → Bool
-areNames h text =
-    both (isCountry 60 (h .country))
-    (both (both (isTextSize (h .version) (length text)) (eqb (h .length + 4) (length text)))
-    (both (isSigner (take 4 text)) (all isReference (drop 4 text))))
-
--- 22: either date wrong
-abbrev pub areDays : Header → Bool
-areDays h = both (isDay (h .issued)) (isDay (h .signed))
-
--- 23: definition reference or category
-abbrev pub areLast : Header → Bool
-areLast h = both (within 1 254 (h .definition)) (within 1 254 (h .category))
-
--- 24: table not in threes, tag over 254 or used twice, or a value outside the values buffer, of so many bytes
-abbrev pub isRow : ℕ → List Row → Row → Bool
-isRow n before r = both (leb (r .tag) 254) (both (pick (used (r .tag) before) false true) (leb (r .place + r .size) n))
-
-unfoldable pub areRows : ℕ → List Row → List Row → Bool
-areRows n before [] = true
-areRows n before (r ∷ rows) = both (isRow n before r) (areRows n (r ∷ before) rows)
-
-abbrev pub isTable : ℕ → List ℕ → Bool
-isTable n table = both (eqb (length table % 3) 0) (areRows n [] (rowsOf table))
-
--- 25: value over 255 bytes in version 3
-unfoldable pub areShort : List Row → Bool
-areShort [] = true
-areShort (r ∷ rows) = both (leb (r .size) 255) (areShort rows)
-
-abbrev pub areValues : ℕ → List ℕ → Bool
-areValues version table = pick (eqb version 3) (areShort (rowsOf table)) true
 
 -- 27: seal would pass 4,096; 28: no room for the whole seal
 abbrev pub inRoom : ℕ → List ℕ → Outcome

@@ -17,8 +17,9 @@ use Rattle.grammar.specs.Publish.{publish}
 use Rattle.grammar.specs.Legal.{Legal}
 use Rattle.dates.specs.Days.Laws.{within-true, within-both}
 use Rattle.format.specs.Table.Laws.{both-true, both-are}
-use Rattle.writer.specs.Given.{rowsOf, Given, contentOf}
-use Rattle.writer.specs.Calls.{areRows, writing}
+use Rattle.given.specs.Tests.{areRows}
+use Rattle.given.specs.Given.{rowsOf, Given, contentOf}
+use Rattle.writer.specs.Calls.{writing}
 use Rattle.writer.specs.Legal.Order.{done-passes, passes-done}
 use Rattle.writer.specs.Legal.Names.{version-is, version-passes, names-legal, names-pass}
 use Rattle.verdict.specs.Judge.Complete.{size-passes}

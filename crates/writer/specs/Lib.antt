@@ -1,8 +1,6 @@
-pub mod Given
 pub mod Calls
 pub mod Steps
 pub mod Sizes
-pub mod Rows
 pub mod Put
 pub mod Whole
 pub mod Pins

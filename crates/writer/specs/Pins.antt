@@ -13,8 +13,9 @@ use Rattle.der.specs.Length.{form}
 use Rattle.grammar.specs.Publish.{headerZone, messageZone, signatureZone, signedBytes, publish}
 use Rattle.grammar.specs.Examples.{uto, utab, ref-00001, spring, seal-a}
 use Rattle.items.specs.declared.Header.{Header}
-use Rattle.writer.specs.Given.{Given, given, rowsOf, contentOf}
-use Rattle.writer.specs.Calls.{areRows, areShort, writing}
+use Rattle.given.specs.Tests.{areRows, areShort}
+use Rattle.given.specs.Given.{Given, given, rowsOf, contentOf}
+use Rattle.writer.specs.Calls.{writing}
 
 abbrev header-a : Header
 header-a = record { version = 3; country = uto; length = 5; issued = spring; signed = spring; definition = 1; category = 2 }

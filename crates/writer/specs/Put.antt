@@ -25,8 +25,8 @@ use Rattle.grammar.specs.Publish.{hexDigit, names, lengthOf, feature, messageZo
 use Rattle.verdict.specs.Report.{featureOf}
 use Rattle.verdict.specs.Judge.{Row}
 use Rattle.items.specs.Cases.{versionOf}
-use Rattle.writer.specs.Given.{rowsOf}
-use Rattle.writer.specs.Rows.{rowAt, rows-end, rows-here}
+use Rattle.given.specs.Given.{rowsOf}
+use Rattle.given.specs.Rows.{rowAt, rows-end, rows-here}
 use Rattle.writer.specs.Steps.{Room, Measured, Fits, Fitting, spelled}
 use Rattle.writer.specs.Steps.Laws.{version-three, version-four}
 

@@ -14,8 +14,8 @@ use Rattle.letters.specs.Characters.{isReference, all, isSigner}
 use Rattle.verdict.specs.Judge.{Row, isSignature}
 use Rattle.items.specs.Cases.{versionOf}
 use Rattle.items.specs.declared.Header.{Header}
-use Rattle.writer.specs.Given.{Given, threeOf, contentOf}
-use Rattle.writer.specs.Calls.{isVersion, isTextSize, areNames, areDays, areLast, isTable, areValues}
+use Rattle.given.specs.Tests.{isVersion, isTextSize, areNames, areDays, areLast, isTable, areValues}
+use Rattle.given.specs.Given.{Given, threeOf, contentOf}
 
 -- a buffer has room for these bytes from a place on
 abbrev pub Room : List ℕ → ℕ → List ℕ → Type 0

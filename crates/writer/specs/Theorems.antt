@@ -15,8 +15,9 @@ use Rattle.format.specs.Choice.Laws.{by-test}
 use Rattle.format.specs.Answers.{Outcome, done, refused, told, filled}
 use Rattle.grammar.specs.Publish.{publish}
 use Rattle.verdict.specs.Judge.{isSignature}
-use Rattle.writer.specs.Given.{Given, contentOf}
-use Rattle.writer.specs.Calls.{isVersion, areNames, areDays, areLast, isTable, areValues, inRoom, writing}
+use Rattle.given.specs.Tests.{isVersion, areNames, areDays, areLast, isTable, areValues}
+use Rattle.given.specs.Given.{Given, contentOf}
+use Rattle.writer.specs.Calls.{inRoom, writing}
 
 -- done, or one of 20 to 28 with place 0 and nothing written
 abbrev pub FromList : Outcome → Type 0

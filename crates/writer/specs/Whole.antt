@@ -31,10 +31,11 @@ use Rattle.verdict.specs.Judge.Complete.{size-small}
 use Rattle.verdict.specs.Judge.Sound.{size-of}
 use Rattle.items.specs.Cases.{versionOf}
 use Rattle.items.specs.declared.Header.{Header}
-use Rattle.writer.specs.Given.{rowsOf, threeOf, Given, contentOf}
-use Rattle.writer.specs.Calls.{isVersion, isTextSize, isRow, areRows, isTable, areShort}
+use Rattle.given.specs.Tests.Laws.{size-three, size-four}
+use Rattle.given.specs.Tests.{isVersion, isTextSize, isRow, areRows, isTable, areShort}
+use Rattle.given.specs.Given.{rowsOf, threeOf, Given, contentOf}
 use Rattle.writer.specs.Steps.{Room, Fitting, Named, Headed, Dated, front, rest, Passed, spelled}
-use Rattle.writer.specs.Steps.Laws.{size-three, size-four, version-three, version-four, version-is}
+use Rattle.writer.specs.Steps.Laws.{version-three, version-four, version-is}
 use Rattle.writer.specs.Sizes.{rowsSize, namesSize, sealSize}
 use Rattle.writer.specs.Put.{zone-none, zone-cons, names-three, names-four, spelled-long}
 

@@ -15,8 +15,9 @@ use Rattle.der.specs.Length.{form}
 use Rattle.grammar.specs.Publish.{headerZone, messageZone, signatureZone, signedBytes, publish}
 use Rattle.grammar.specs.Examples.{uto, utab, ref-00001, d-fillers, spring, first-day, last-day, content-a, seal-a, content-b, signed-b}
 use Rattle.items.specs.declared.Header.{Header}
-use Rattle.writer.specs.Given.{rowsOf, Given, contentOf, given}
-use Rattle.writer.specs.Calls.{areRows, areShort, writing}
+use Rattle.given.specs.Tests.{areRows, areShort}
+use Rattle.given.specs.Given.{rowsOf, Given, contentOf, given}
+use Rattle.writer.specs.Calls.{writing}
 
 -- Seal A as it is given: header, text, one row over four bytes, signature
 abbrev headed : ℕ → List ℕ → ℕ → Date → ℕ → Header

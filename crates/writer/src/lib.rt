@@ -2,13 +2,11 @@
 ghost use mathlib.Core.Path.{_≡_};
 ghost use lib.ListN.{length};
 ghost use Rattle.format.specs.Answers.{told, filled};
-ghost use Rattle.writer.specs.Given.{given};
+ghost use Rattle.given.specs.Given.{given};
 ghost use Rattle.writer.specs.Calls.{writing, writingOf};
 
-mod judge;
 mod names;
 mod put;
-mod rows;
 mod size;
 
 use items::Header;
@@ -50,25 +48,25 @@ pub fn write(
     ensures answer { λ r. ⌜ writingOf r ≡ told (writing (given header (now (text .entry)) (now (rows .entry)) (now (values .entry)) (now (signature .entry))) (length (now (out .entry)))) ⌝ }
     ensures buffer { λ r. ⌜ now (out .exit) ≡ filled (writing (given header (now (text .entry)) (now (rows .entry)) (now (values .entry)) (now (signature .entry))) (length (now (out .entry)))) (now (out .entry)) ⌝ }
 {
-    if !judge::is_version(header.version) {
+    if !given::is_version(header.version) {
         return Writing::Version;
     }
-    if !judge::are_names(header, text) {
+    if !given::are_names(header, text) {
         return Writing::Names;
     }
-    if !judge::are_days(header) {
+    if !given::are_days(header) {
         return Writing::Dates;
     }
-    if !judge::are_last(header) {
+    if !given::are_last(header) {
         return Writing::Last;
     }
-    if !rows::are_rows(rows, values.len()) {
+    if !given::are_rows(rows, values.len()) {
         return Writing::Rows;
     }
-    if !rows::are_values(header.version, rows) {
+    if !given::are_values(header.version, rows) {
         return Writing::Values;
     }
-    if !judge::is_signature(signature.len()) {
+    if !given::is_signature(signature.len()) {
         return Writing::Signature;
     }
     let size = size::seal_size(header.version, text.len(), rows, signature.len());

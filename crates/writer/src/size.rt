@@ -4,7 +4,7 @@ ghost use Prim.Native.Nat.{min, _+_, _≤_};
 ghost use lib.ListN.{length};
 ghost use Rattle.grammar.specs.Publish.{lengthOf};
 ghost use Rattle.items.specs.Cases.{versionOf};
-ghost use Rattle.writer.specs.Given.{rowsOf};
+ghost use Rattle.given.specs.Given.{rowsOf};
 ghost use Rattle.writer.specs.Sizes.{rowsSize, namesSize, sealSize};
 
 // How many bytes a length takes.

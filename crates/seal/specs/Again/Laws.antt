@@ -18,7 +18,7 @@ use Rattle.verdict.specs.Judge.Complete.{reportOf}
 use Rattle.verdict.specs.Judge.Features.{rowsOf as rowsFrom, feature-parts}
 use Rattle.verdict.specs.Report.{part, featureOf, contentOf as contentRead}
 use Rattle.reader.specs.Calls.{answerOf, table, text, then}
-use Rattle.writer.specs.Given.{rowsOf, contentOf}
+use Rattle.given.specs.Given.{rowsOf, contentOf}
 use Rattle.writer.specs.Legal.{Sound}
 use Rattle.writer.specs.Legal.Names.{three-of}
 use Rattle.writer.specs.Legal.Rows.{Inside}

@@ -27,7 +27,7 @@ use Rattle.reader.specs.Answer.{contentIn}
 use Rattle.reader.specs.Answer.Laws.{held}
 use Rattle.reader.specs.Theorems.{accepted-when}
 use Rattle.writer.specs.Legal.Names.{three-of}
-use Rattle.writer.specs.Given.{rowsOf, Given, contentOf}
+use Rattle.given.specs.Given.{rowsOf, Given, contentOf}
 use Rattle.writer.specs.Calls.{writing}
 use Rattle.writer.specs.Legal.{Sound, Written, legal-written}
 use Rattle.seal.specs.Again.{again}

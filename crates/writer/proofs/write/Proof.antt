@@ -11,11 +11,11 @@ use lib.ListN.{length}
 use Rattle.format.specs.Answers.Laws.{refuses, gives}
 use Rattle.grammar.specs.Publish.{publish}
 use Rattle.verdict.specs.Judge.{isSignature}
-use Rattle.writer.specs.Given.{Given, given, contentOf}
-use Rattle.writer.specs.Calls.{isVersion, areNames, areDays, areLast, isTable, areValues}
+use Rattle.given.specs.Tests.Laws.{size-any}
+use Rattle.given.specs.Tests.{isVersion, areNames, areDays, areLast, isTable, areValues}
+use Rattle.given.specs.Given.{Given, given, contentOf}
 use Rattle.writer.specs.Calls.Laws.{writing-version, writing-names, writing-days, writing-last, writing-rows, writing-values, writing-signature, writing-long, writing-no-room, writing-done}
 use Rattle.writer.specs.Steps.{Headed}
-use Rattle.writer.specs.Steps.Laws.{size-any}
 use Rattle.writer.specs.Whole.{headed-named, signature-most, seal-size}
 use Rattle.writer.proofs.write.Statement.{statement}
 use Rattle.writer.proofs.write.Tie as tie

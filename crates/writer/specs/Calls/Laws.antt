@@ -1,53 +1,18 @@
 -- Laws of what the writer answers: each test by the tests that lead there, and one law for each answer.
 -- Assumes nothing.
-use mathlib.Core.Path.{_≡_, ap, sym, _∙_}
-use mathlib.Core.Bool.{Bool, true, false}
-use Prim.Native.Nat.{ℕ, _+_, _<_, _≤_}
-use borrow.Author.Tests.{lt-ltb, le-ltb, eq-eqb, ne-eqb}
-use mathlib.Core.List.{List}
-use lib.Dec.{ltb, eqb}
-use lib.ListN.{length, take, drop}
+use mathlib.Core.Path.{_≡_, ap, _∙_}
+use mathlib.Core.Bool.{true, false}
+use Prim.Native.Nat.{ℕ, _<_, _≤_}
+use borrow.Author.Tests.{lt-ltb, le-ltb}
+use lib.Dec.{ltb}
+use lib.ListN.{length}
 use Rattle.format.specs.Choice.{pick}
-use Rattle.format.specs.Table.{both}
 use Rattle.format.specs.Answers.{Outcome, done, refused}
 use Rattle.grammar.specs.Publish.{publish}
-use Rattle.letters.specs.Characters.{isReference, all, isSigner, isCountry}
 use Rattle.verdict.specs.Judge.{isSignature}
-use Rattle.items.specs.declared.Header.{Header}
-use Rattle.writer.specs.Given.{Given, contentOf}
-use Rattle.writer.specs.Calls.{isVersion, isTextSize, areNames, areDays, areLast, isTable, areValues, inRoom, writing}
-
--- country, sizes, signer and reference, test by test
-module _ (h : Header) (text : List ℕ) where
-  abbrev rest : Bool
-  rest = both (both (isTextSize (h .version) (length text)) (eqb (h .length + 4) (length text))) (both (isSigner (take 4 text)) (all isReference (drop 4 text)))
-
-  pub names-country : isCountry 60 (h .country) ≡ false → false ≡ areNames h text
-  names-country e = sym (ap (λ b. both b rest) e)
-
-  module _ (country : isCountry 60 (h .country) ≡ true) where
-    past-country : areNames h text ≡ rest
-    past-country = ap (λ b. both b rest) country
-
-    pub names-size : isTextSize (h .version) (length text) ≡ false → false ≡ areNames h text
-    names-size e = sym (past-country ∙ ap (λ b. both (both b (eqb (h .length + 4) (length text))) (both (isSigner (take 4 text)) (all isReference (drop 4 text)))) e)
-
-    module _ (size : isTextSize (h .version) (length text) ≡ true) where
-      past-size : areNames h text ≡ both (eqb (h .length + 4) (length text)) (both (isSigner (take 4 text)) (all isReference (drop 4 text)))
-      past-size = past-country ∙ ap (λ b. both (both b (eqb (h .length + 4) (length text))) (both (isSigner (take 4 text)) (all isReference (drop 4 text)))) size
-
-      pub names-length : (h .length + 4 ≡ length text → ⊥) → false ≡ areNames h text
-      names-length e = sym (past-size ∙ ap (λ b. both b (both (isSigner (take 4 text)) (all isReference (drop 4 text)))) (ne-eqb (h .length + 4) (length text) e))
-
-      module _ (long : h .length + 4 ≡ length text) where
-        past-length : areNames h text ≡ both (isSigner (take 4 text)) (all isReference (drop 4 text))
-        past-length = past-size ∙ ap (λ b. both b (both (isSigner (take 4 text)) (all isReference (drop 4 text)))) (eq-eqb (h .length + 4) (length text) long)
-
-        pub names-signer : isSigner (take 4 text) ≡ false → false ≡ areNames h text
-        names-signer e = sym (past-length ∙ ap (λ b. both b (all isReference (drop 4 text))) e)
-
-        pub names-reference : isSigner (take 4 text) ≡ true → all isReference (drop 4 text) ≡ areNames h text
-        names-reference e = sym (past-length ∙ ap (λ b. both b (all isReference (drop 4 text))) e)
+use Rattle.given.specs.Tests.{isVersion, areNames, areDays, areLast, isTable, areValues}
+use Rattle.given.specs.Given.{Given, contentOf}
+use Rattle.writer.specs.Calls.{inRoom, writing}
 
 -- what is answered from each test on
 abbrev from26 : Given → ℕ → Outcome

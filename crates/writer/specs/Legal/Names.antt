@@ -23,8 +23,8 @@ use Rattle.letters.specs.Characters.Grammar.{letter, reference-passes, all-pass
 use Rattle.letters.specs.Characters.{isLetter, isReference, all, isSigner, isCountry}
 use Rattle.items.specs.Cases.{versionOf}
 use Rattle.items.specs.declared.Header.{Header}
-use Rattle.writer.specs.Given.{threeOf}
-use Rattle.writer.specs.Calls.{isVersion, isTextSize, areNames}
+use Rattle.given.specs.Tests.{isVersion, isTextSize, areNames}
+use Rattle.given.specs.Given.{threeOf}
 
 -- version 3 or 4
 pub version-is : (n : ℕ) → isVersion n ≡ true → (n ≡ 3) ⊎ (n ≡ 4)

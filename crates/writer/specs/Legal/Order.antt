@@ -12,8 +12,9 @@ use Rattle.format.specs.Choice.{pick}
 use Rattle.format.specs.Answers.{Outcome, done, refused}
 use Rattle.grammar.specs.Publish.{publish}
 use Rattle.verdict.specs.Judge.{isSignature}
-use Rattle.writer.specs.Given.{Given, contentOf}
-use Rattle.writer.specs.Calls.{isVersion, areNames, areDays, areLast, isTable, areValues, inRoom, writing}
+use Rattle.given.specs.Tests.{isVersion, areNames, areDays, areLast, isTable, areValues}
+use Rattle.given.specs.Given.{Given, contentOf}
+use Rattle.writer.specs.Calls.{inRoom, writing}
 
 -- a test that is passed, and one that a refusal follows
 peel : (b : Bool) (x : Outcome) (n : ℕ) (s : List ℕ) → 0 < n → pick b x (refused n 0) ≡ done s → (b ≡ true) × (x ≡ done s)

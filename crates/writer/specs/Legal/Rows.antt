@@ -18,7 +18,7 @@ use Rattle.format.specs.Table.Laws.{not-true, both-true, both-are}
 use Rattle.verdict.specs.Report.{featureOf}
 use Rattle.verdict.specs.Judge.{Row, used}
 use Rattle.verdict.specs.Items.Sound.{taken-size}
-use Rattle.writer.specs.Calls.{isRow, areRows, areShort}
+use Rattle.given.specs.Tests.{isRow, areRows, areShort}
 
 -- a value inside the values buffer, of so many bytes
 abbrev pub Inside : ℕ → Row → Type 0

@@ -12,8 +12,8 @@ use Rattle.grammar.specs.Publish.{lengthOf}
 use Rattle.verdict.specs.Judge.{Row}
 use Rattle.items.specs.Cases.{versionOf}
 use Rattle.grammar.specs.Content.{Version}
-use Rattle.writer.specs.Given.{rowsOf}
-use Rattle.writer.specs.Rows.{rowAt, rows-end, rows-here}
+use Rattle.given.specs.Given.{rowsOf}
+use Rattle.given.specs.Rows.{rowAt, rows-end, rows-here}
 use Rattle.writer.specs.Sizes.{rowsSize, namesSize}
 use Rattle.writer.specs.Steps.Laws.{version-three, version-four, length-plain, length-short, length-one, length-two}
 

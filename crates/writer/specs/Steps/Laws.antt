@@ -4,14 +4,14 @@ use mathlib.Core.Path.{_≡_, refl, ap, sym, subst, _∙_}
 use mathlib.Core.Bool.{Bool, true, false}
 use Prim.Native.Nat.{ℕ, _+_, _/_, _%_, _<_, _≤_}
 use native.Mathlib.Omega.{arith}
-use borrow.Author.Tests.{eq-eqb, ne-eqb, ltb-true, ltb-false, eqb-true, eqb-false}
+use borrow.Author.Tests.{eq-eqb, ne-eqb, ltb-true, ltb-false, eqb-true}
 use mathlib.Core.List.{List, [], _∷_, _++_}
-use lib.Dec.{ltb, leb, eqb}
+use lib.Dec.{ltb, eqb}
 use lib.ListN.{length, take, drop, take-append-drop}
 use Rattle.format.specs.Bytes.Laws.{all-append}
 use Rattle.format.specs.Choice.{pick}
 use Rattle.format.specs.Choice.Laws.{by-test}
-use Rattle.format.specs.Table.{both, either}
+use Rattle.format.specs.Table.{either}
 use Rattle.format.specs.Numbers.{be}
 use Rattle.format.specs.Numbers.Laws.{be-two}
 use Rattle.c40.specs.Chart.{InChart}
@@ -25,7 +25,7 @@ use Rattle.dates.specs.Days.Laws.{within-both}
 use Rattle.format.specs.Table.Laws.{both-true}
 use Rattle.letters.specs.Characters.{isLetter, isDigit, isReference, isSigner, all, isCountry}
 use Rattle.items.specs.Cases.{versionOf}
-use Rattle.writer.specs.Calls.{isTextSize, isVersion}
+use Rattle.given.specs.Tests.{isVersion}
 use Rattle.writer.specs.Steps.{Named, spelled}
 
 pub either-is : {C : Type 0} (a b : Bool) → either a b ≡ true → (a ≡ true → C) → (b ≡ true → C) → C
@@ -88,19 +88,6 @@ spelled-text v t n h =
     let k = length (drop 4 t) in
     let hex : Text (hexDigits k) = (hex-digit-in (k / 16) (omega arith), (hex-digit-in (k % 16) (omega arith), tt)) in
     all-append InChart (take 4 t ++ hexDigits k) (drop 4 t) (all-append InChart (take 4 t) (hexDigits k) (signer-text (take 4 t) (n .signer)) hex) (all-text isReference digit-text (drop 4 t) (n .reference))
-
--- the size of a text
-pub size-three : (v n : ℕ) → v ≡ 3 → isTextSize v n ≡ true → n ≡ 9
-size-three v n e s = eqb-true n 9 (sym (ap (λ b. pick b (eqb n 9) (both (leb 5 n) (leb n 259))) (eq-eqb v 3 e)) ∙ s)
-
-pub size-four : (v n : ℕ) → (v ≡ 3 → ⊥) → isTextSize v n ≡ true → (5 ≤ n) × (n ≤ 259)
-size-four v n e s = within-both 5 259 n (sym (ap (λ b. pick b (eqb n 9) (both (leb 5 n) (leb n 259))) (ne-eqb v 3 e)) ∙ s)
-
-pub size-any : (v n : ℕ) → isTextSize v n ≡ true → (5 ≤ n) × (n ≤ 259)
-size-any v n s =
-    by-test (eqb v 3)
-    (λ e. let nine = size-three v n (eqb-true v 3 e) s in (omega arith, omega arith))
-    (λ e. size-four v n (eqb-false v 3 e) s)
 
 -- the version of a number
 pub version-three : (v : ℕ) → v ≡ 3 → versionOf v ≡ three

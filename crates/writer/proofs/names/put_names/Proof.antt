@@ -9,8 +9,9 @@ use lib.ListN.{length, take, length-take, length-drop}
 use lib.Seq.{length-take-le}
 use Rattle.format.specs.Buffer.{over}
 use Rattle.c40.specs.Text.{Text, publish as c40}
+use Rattle.given.specs.Tests.Laws.{size-three, size-four}
 use Rattle.writer.specs.Steps.{Room, spelled}
-use Rattle.writer.specs.Steps.Laws.{named-text, spelled-text, size-three, size-four}
+use Rattle.writer.specs.Steps.Laws.{named-text, spelled-text}
 use Rattle.writer.specs.Put.{names-three, names-four, spelled-front, spelled-long}
 use Rattle.writer.proofs.names.put_names.Statement.{statement}
 use Rattle.writer.proofs.names.put_names.Tie as tie

@@ -11,7 +11,7 @@ use Rattle.format.specs.Buffer.{over}
 use Rattle.format.specs.Buffer.Laws.{length-over}
 use Rattle.c40.specs.Text.{Text}
 use Rattle.grammar.specs.Publish.{carried}
-use Rattle.writer.specs.Given.{threeOf}
+use Rattle.given.specs.Given.{threeOf}
 use Rattle.writer.specs.Steps.{front}
 use Rattle.writer.specs.Steps.Laws.{country-text}
 use Rattle.writer.specs.Whole.{headed-country, headed-named, version-bounds, front-room, names-room, put-front}

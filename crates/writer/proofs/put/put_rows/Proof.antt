@@ -6,7 +6,7 @@ use Prim.Native.Nat.{ℕ, _+_, _-_}
 use denote.Ref.{now}
 use mathlib.Core.List.{List}
 use lib.ListN.{length, getD, take, drop}
-use Rattle.writer.specs.Rows.{rowAt}
+use Rattle.given.specs.Rows.{rowAt}
 use Rattle.writer.specs.Steps.{Fits}
 use Rattle.writer.specs.Put.{Putting, putting-start, putting-length, putting-end, putting-fits, putting-asks, putting-more}
 use Rattle.writer.proofs.put.put_rows.Statement.{statement}

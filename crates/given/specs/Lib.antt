@@ -1,0 +1,4 @@
+pub mod Given
+pub mod Tests
+pub mod Rows
+pub mod Pins

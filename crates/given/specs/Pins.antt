@@ -1,0 +1,38 @@
+-- Computed examples: the content that is given, its features in the order of their rows, and the tests at their bounds.
+-- Assumes nothing.
+use mathlib.Core.Path.{_≡_, refl}
+use mathlib.Core.Bool.{true, false}
+use Prim.Native.Nat.{ℕ}
+use mathlib.Core.List.{List, [], _∷_, _++_}
+use Rattle.grammar.specs.Content.{three}
+use Rattle.grammar.specs.Examples.{uto, utab, ref-00001, d-fillers, spring, first-day}
+use Rattle.items.specs.declared.Header.{Header}
+use Rattle.given.specs.Given.{rowsOf, contentOf, given}
+use Rattle.given.specs.Tests.{isVersion, isTextSize, areNames, areRows, isTable, areShort, areValues}
+
+abbrev header : ℕ → List ℕ → ℕ → Header
+header version country l = record { version = version; country = country; length = l; issued = spring; signed = first-day; definition = 1; category = 254 }
+
+-- tag 254 before tag 0, as the rows have them
+in-order : contentOf (given (header 3 d-fillers 5) (utab ++ ref-00001) (254 ∷ 1 ∷ 2 ∷ 0 ∷ 0 ∷ 1 ∷ []) (7 ∷ 8 ∷ 9 ∷ []) (0xAA ∷ [])) ≡ record { header = record { version = three; country = d-fillers; signer = utab; reference = ref-00001; issued = spring; signed = first-day; definition = 1; category = 254 }; features = record { tag = 254; value = 8 ∷ 9 ∷ [] } ∷ record { tag = 0; value = 7 ∷ [] } ∷ []; signature = 0xAA ∷ [] }
+unfolding contentOf rowsOf
+in-order = refl
+
+versions : (isVersion 2 ≡ false) × (isVersion 3 ≡ true) × (isVersion 4 ≡ true) × (isVersion 5 ≡ false)
+versions = (refl, refl, refl, refl)
+
+sizes : (isTextSize 3 8 ≡ false) × (isTextSize 3 9 ≡ true) × (isTextSize 3 10 ≡ false) × (isTextSize 4 4 ≡ false) × (isTextSize 4 5 ≡ true) × (isTextSize 4 259 ≡ true) × (isTextSize 4 260 ≡ false)
+sizes = (refl, refl, refl, refl, refl, refl, refl)
+
+-- L that is not the reference's length, and a space in the country
+named : (areNames (header 3 uto 5) (utab ++ ref-00001) ≡ true) × (areNames (header 4 uto 5) (utab ++ ref-00001) ≡ true) × (areNames (header 4 uto 4) (utab ++ ref-00001) ≡ false) × (areNames (header 4 uto 6) (utab ++ ref-00001) ≡ false) × (areNames (header 3 (68 ∷ 32 ∷ 32 ∷ []) 5) (utab ++ ref-00001) ≡ false)
+named = (refl, refl, refl, refl, refl)
+
+-- over four bytes of values: whole, empty at the end, empty past it, one past it; not in threes; tag 254 and not 255; a tag used twice
+tables : (isTable 4 (10 ∷ 0 ∷ 4 ∷ []) ≡ true) × (isTable 4 (10 ∷ 4 ∷ 0 ∷ []) ≡ true) × (isTable 4 (10 ∷ 5 ∷ 0 ∷ []) ≡ false) × (isTable 4 (10 ∷ 1 ∷ 4 ∷ []) ≡ false) × (isTable 4 (10 ∷ 0 ∷ []) ≡ false) × (isTable 4 (254 ∷ 0 ∷ 4 ∷ []) ≡ true) × (isTable 4 (255 ∷ 0 ∷ 4 ∷ []) ≡ false) × (isTable 4 (10 ∷ 0 ∷ 1 ∷ 11 ∷ 0 ∷ 1 ∷ 10 ∷ 2 ∷ 1 ∷ []) ≡ false) × (isTable 4 [] ≡ true)
+unfolding areRows rowsOf
+tables = (refl, refl, refl, refl, refl, refl, refl, refl, refl)
+
+values : (areValues 3 (10 ∷ 0 ∷ 255 ∷ []) ≡ true) × (areValues 3 (10 ∷ 0 ∷ 256 ∷ []) ≡ false) × (areValues 4 (10 ∷ 0 ∷ 256 ∷ []) ≡ true)
+unfolding areShort rowsOf
+values = (refl, refl, refl)

@@ -1,0 +1,97 @@
+// What the writer is given, judged (document 01, numbers 20 to 26): header, text and signature here, rows in rows.rt.
+ghost use mathlib.Core.Path.{_≡_};
+ghost use mathlib.Core.List.{[], _∷_};
+ghost use Rattle.verdict.specs.Judge.{isSignature};
+ghost use Rattle.given.specs.Tests as test;
+
+mod rows;
+
+use items::Header;
+pub use rows::are_rows;
+pub use rows::are_values;
+
+// Version 3 or 4.
+pub fn is_version(version: usize) -> bool
+    ensures { λ r. ⌜ r ≡ test.isVersion version ⌝ }
+{
+    if version == 3 {
+        return true;
+    }
+    version == 4
+}
+
+// Whether text of so many bytes has the size that signer and reference have.
+pub fn is_text_size(version: usize, size: usize) -> bool
+    ensures { λ r. ⌜ r ≡ test.isTextSize version size ⌝ }
+{
+    if version == 3 {
+        return size == 9;
+    }
+    if size < 5 {
+        return false;
+    }
+    size <= 259
+}
+
+// Country, signer and reference; the header's L is the reference's length.
+pub fn are_names(header: Header, text: &[u8]) -> bool
+    ensures { λ r. ⌜ r ≡ test.areNames header (now (text .entry)) ⌝ }
+{
+    let country = header.country;
+    if !letters::is_country(country[0], country[1], country[2], b'<') {
+        return false;
+    }
+    let size = text.len();
+    if !is_text_size(header.version, size) {
+        return false;
+    }
+    if header.length != size - 4 {
+        return false;
+    }
+    if !letters::is_signer(text[0], text[1], text[2], text[3]) {
+        return false;
+    }
+    letters::all_reference(&text[4..])
+}
+
+// Both dates are days.
+pub fn are_days(header: Header) -> bool
+    ensures { λ r. ⌜ r ≡ test.areDays header ⌝ }
+{
+    let issued = header.issued;
+    let signed = header.signed;
+    if !issued.is_day() {
+        return false;
+    }
+    signed.is_day()
+}
+
+// Definition reference and category are 1 to 254.
+pub fn are_last(header: Header) -> bool
+    ensures { λ r. ⌜ r ≡ test.areLast header ⌝ }
+{
+    if header.definition < 1 {
+        return false;
+    }
+    if 254 < header.definition {
+        return false;
+    }
+    if header.category < 1 {
+        return false;
+    }
+    header.category <= 254
+}
+
+// Whether this is the length of a raw signature: 2n for n of 28, 32, 48, 64 or 66.
+pub fn is_signature(size: usize) -> bool
+    ensures { λ r. ⌜ r ≡ isSignature size ⌝ }
+{
+    match size {
+        56 => true,
+        64 => true,
+        96 => true,
+        128 => true,
+        132 => true,
+        _ => false,
+    }
+}

@@ -1,0 +1,57 @@
+// The judging of the rows (document 01, numbers 24 and 25): three numbers each, a tag and the place and length of its value.
+ghost use mathlib.Core.Path.{_≡_};
+ghost use Rattle.given.specs.Tests.{isTable, areValues};
+
+// Rows of three, no tag over 254 or used twice, and every value inside a buffer of so many bytes. A tag that repeats an earlier row's ends the judging, so at
+// most 256 rows are looked at.
+pub fn are_rows(rows: &[usize], size: usize) -> bool
+    ensures { λ r. ⌜ r ≡ isTable size (now (rows .entry)) ⌝ }
+{
+    let n = rows.len();
+    if n % 3 != 0 {
+        return false;
+    }
+    let mut at: usize = 0;
+    let good = 'rows: loop {
+        if n <= at + 2 {
+            break 'rows true;
+        }
+        let tag = rows[at];
+        if 254 < tag {
+            break 'rows false;
+        }
+        let mut i: usize = 0;
+        while i < at {
+            if rows[i] == tag {
+                break 'rows false;
+            }
+            i += 3;
+        }
+        if size < rows[at + 1] {
+            break 'rows false;
+        }
+        if size - rows[at + 1] < rows[at + 2] {
+            break 'rows false;
+        }
+        at += 3;
+    };
+    good
+}
+
+// In version 3 no value is over 255 bytes.
+pub fn are_values(version: usize, rows: &[usize]) -> bool
+    ensures { λ r. ⌜ r ≡ areValues version (now (rows .entry)) ⌝ }
+{
+    if version != 3 {
+        return true;
+    }
+    let n = rows.len();
+    let mut at: usize = 0;
+    while at + 2 < n {
+        if 255 < rows[at + 2] {
+            return false;
+        }
+        at += 3;
+    }
+    true
+}
