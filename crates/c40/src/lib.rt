@@ -1,7 +1,10 @@
 // The C40 text codec (document 01, C40; Doc 9303-13, 2.6): text in pairs of bytes, and back.
 ghost use mathlib.Core.Path.{_≡_};
+ghost use Prim.Native.Nat.{_≤_};
 ghost use lib.ListN.{length};
 ghost use Rattle.format.specs.Answers.{told, filled};
+ghost use Rattle.c40.specs.Chart.{valueOf};
+ghost use Rattle.c40.specs.Text.{packedOf};
 ghost use Rattle.c40.specs.Calls.{reading, writing, readingOf, writingOf};
 
 mod chart;
@@ -82,4 +85,11 @@ pub fn write(text: &[u8], out: &mut [u8]) -> Writing
     }
     encode::put(text, out);
     Writing::Done(size)
+}
+
+// The number of a full pair: 1600a + 40b + c + 1 of the values of three characters. It judges none of them: that is for `write`, or for a caller who has done so.
+pub fn number_of(a: u8, b: u8, c: u8) -> usize
+    ensures { λ r. ⌜ (r ≡ packedOf (valueOf a) (valueOf b) (valueOf c)) × (r ≤ 64000) ⌝ }
+{
+    encode::packed(a, b, chart::value_of(c))
 }

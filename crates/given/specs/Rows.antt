@@ -7,7 +7,8 @@ use native.Mathlib.Omega.{arith}
 use borrow.Author.Tests.{lt-leb, le-leb, eq-eqb, ne-eqb, eqb-true, eqb-false}
 use mathlib.Core.List.{List, [], _∷_}
 use lib.Dec.{leb, eqb}
-use lib.ListN.{length, getD, drop, length-drop}
+use lib.ListN.{length, getD, drop, set, replicate, length-drop, length-set, length-replicate, getD-replicate}
+use lib.Seq.{getD-set-same, getD-set-other}
 use Rattle.format.specs.Choice.{pick}
 use Rattle.format.specs.Choice.Laws.{by-test}
 use Rattle.format.specs.Table.{both, either}
@@ -54,24 +55,6 @@ earlier-more : (t : List ℕ) (k : ℕ) → earlier t (suc k) ≡ rowAt t (3 * k
 unfolding earlier
 earlier-more t k = refl
 
--- a tag that stands in an earlier row is used, and one that stands in none is not
-pub used-at : (t : List ℕ) (x k i : ℕ) → i < k → getD t (3 * i) 0 ≡ x → used x (earlier t k) ≡ true
-unfolding earlier
-used-at t x zero i h e = absurd (omega arith)
-used-at t x (suc k) i h e =
-    by-test (eqb i k)
-    (λ s. let same = eqb-true i k s in ap (λ b. either b (used x (earlier t k))) (eq-eqb x (getD t (3 * k) 0) (sym e ∙ ap (λ j. getD t (3 * j) 0) same)))
-    (λ s.
-    let ih = used-at t x k i (omega (arith, eqb-false i k s)) e in
-    by-test (eqb x (getD t (3 * k) 0)) (λ b. ap (λ z. either z (used x (earlier t k))) b) (λ b. ap (λ z. either z (used x (earlier t k))) b ∙ ih))
-
-pub used-none : (t : List ℕ) (x k : ℕ) → ((i : ℕ) → i < k → getD t (3 * i) 0 ≡ x → ⊥) → used x (earlier t k) ≡ false
-unfolding earlier
-used-none t x zero none = refl
-used-none t x (suc k) none =
-    let ih = used-none t x k (λ i h e. none i (omega arith) e) in
-    ap (λ b. either b (used x (earlier t k))) (ne-eqb x (getD t (3 * k) 0) (λ e. none k (omega arith) (sym e))) ∙ ih
-
 -- a row, by its tests
 module _ (n : ℕ) (before : List Row) (r : Row) where
   row-tag : 254 < r .tag → isRow n before r ≡ false
@@ -96,22 +79,63 @@ are-cons : (n : ℕ) (before : List Row) (r : Row) (rows : List Row) → areRows
 unfolding areRows
 are-cons n before r rows = refl
 
--- how far the judging of the rows has come
-pub record Judged (n : ℕ) (t : List ℕ) (at : ℕ) : Type 0 where
+-- the mark of a tag: 1 where it is used, 0 where it is not
+abbrev markOf : Bool → ℕ
+markOf true = 1
+markOf false = 0
+
+mark-used : (b : Bool) → markOf b ≡ 1 → b ≡ true
+mark-used true e = refl
+mark-used false e = absurd (omega arith)
+
+mark-new : (b : Bool) → (markOf b ≡ 1 → ⊥) → b ≡ false
+mark-new true e = absurd (e refl)
+mark-new false e = refl
+
+-- the marks are those of the first k rows
+abbrev Marks : List ℕ → ℕ → List ℕ → Type 0
+Marks t k marks = (x : ℕ) → x < 255 → getD marks x 0 ≡ markOf (used x (earlier t k))
+
+marks-start : (t : List ℕ) → Marks t 0 (replicate 255 0)
+unfolding earlier
+marks-start t x h = let z : ℕ = 0 in getD-replicate 255 x z z h
+
+module _ (t : List ℕ) (k : ℕ) (marks : List ℕ) (m : Marks t k marks) (long : length marks ≡ 255) where
+  used-more : (x : ℕ) (b : Bool) → eqb x (getD t (3 * k) 0) ≡ b → either b (used x (earlier t k)) ≡ used x (earlier t (suc k))
+  used-more x b e = ap (λ z. either z (used x (earlier t k))) (sym e) ∙ ap (used x) (sym (earlier-more t k))
+
+  marks-more : (tag : ℕ) → tag ≡ getD t (3 * k) 0 → tag ≤ 254 → Marks t (suc k) (set marks tag 1)
+  marks-more tag e small x h =
+      by-test (eqb x tag)
+      (λ s.
+      let same = eqb-true x tag s in
+      ap (λ z. getD (set marks tag 1) z 0) same
+      ∙ getD-set-same marks tag 1 0 (omega arith)
+      ∙ ap markOf (used-more x true (eq-eqb x (getD t (3 * k) 0) (same ∙ e))))
+      (λ s.
+      let other = eqb-false x tag s in
+      getD-set-other marks tag x 1 0 other
+      ∙ m x h
+      ∙ ap markOf (used-more x false (ne-eqb x (getD t (3 * k) 0) (λ f. other (f ∙ sym e)))))
+
+-- how far the judging of the rows has come, and the marks of their tags
+pub record Judged (n : ℕ) (t : List ℕ) (at : ℕ) (marks : List ℕ) : Type 0 where
   pub count : ℕ
   pub reached : at ≡ 3 * count
   pub inside : at ≤ length t
   pub threes : length t % 3 ≡ 0
   pub same : areRows n [] (rowsOf t) ≡ areRows n (earlier t count) (rowsOf (drop at t))
+  pub long : length marks ≡ 255
+  pub each : (x : ℕ) → x < 255 → getD marks x 0 ≡ markOf (used x (earlier t count))
 
 pub table-not : (n : ℕ) (t : List ℕ) → (length t % 3 ≡ 0 → ⊥) → false ≡ isTable n t
 table-not n t h = rw (ne-eqb (length t % 3) 0 h) refl
 
-pub judged-start : (n : ℕ) (t : List ℕ) → length t % 3 ≡ 0 → Judged n t 0
+pub judged-start : (n : ℕ) (t : List ℕ) → length t % 3 ≡ 0 → Judged n t 0 (replicate 255 0)
 unfolding earlier
-judged-start n t h = record { count = 0; reached = refl; inside = omega arith; threes = h; same = refl }
+judged-start n t h = let z : ℕ = 0 in record { count = 0; reached = refl; inside = omega arith; threes = h; same = refl; long = length-replicate 255 z; each = marks-start t }
 
-module _ (n : ℕ) (t : List ℕ) (at : ℕ) (j : Judged n t at) where
+module _ (n : ℕ) (t : List ℕ) (at : ℕ) (marks : List ℕ) (j : Judged n t at marks) where
   table-is : (b : Bool) → areRows n [] (rowsOf t) ≡ b → b ≡ isTable n t
   table-is b e = sym (ap (λ z. both z (areRows n [] (rowsOf t))) (eq-eqb (length t % 3) 0 (j .threes)) ∙ e)
 
@@ -129,18 +153,20 @@ module _ (n : ℕ) (t : List ℕ) (at : ℕ) (j : Judged n t at) where
     judged-tag h = stops (row-tag n (earlier t (j .count)) (rowAt t at) h)
 
     module _ (small : getD t at 0 ≤ 254) where
-      pub judged-used : (i k : ℕ) → i ≡ 3 * k → i < at → getD t i 0 ≡ getD t at 0 → false ≡ isTable n t
-      judged-used i k e h same =
-          stops (row-used n (earlier t (j .count)) (rowAt t at) small (used-at t (getD t at 0) (j .count) k (omega (arith, j .reached)) (ap (λ z. getD t z 0) (sym e) ∙ same)))
+      mark : getD marks (getD t at 0) 0 ≡ markOf (used (getD t at 0) (earlier t (j .count)))
+      mark = j .each (getD t at 0) (omega arith)
 
-      module _ (none : (k : ℕ) → 3 * k < at → getD t (3 * k) 0 ≡ getD t at 0 → ⊥) where
+      pub judged-used : getD marks (getD t at 0) 0 ≡ 1 → false ≡ isTable n t
+      judged-used e = stops (row-used n (earlier t (j .count)) (rowAt t at) small (mark-used (used (getD t at 0) (earlier t (j .count))) (sym mark ∙ e)))
+
+      module _ (unmarked : getD marks (getD t at 0) 0 ≡ 1 → ⊥) where
         new : used (getD t at 0) (earlier t (j .count)) ≡ false
-        new = used-none t (getD t at 0) (j .count) (λ i h e. none i (omega (arith, j .reached)) e)
+        new = mark-new (used (getD t at 0) (earlier t (j .count))) (λ e. unmarked (mark ∙ e))
 
         pub judged-outside : n < getD t (at + 1) 0 + getD t (at + 2) 0 → false ≡ isTable n t
         judged-outside h = stops (row-outside n (earlier t (j .count)) (rowAt t at) small new h)
 
-        pub judged-more : getD t (at + 1) 0 + getD t (at + 2) 0 ≤ n → Judged n t (at + 3)
+        pub judged-more : getD t (at + 1) 0 + getD t (at + 2) 0 ≤ n → Judged n t (at + 3) (set marks (getD t at 0) 1)
         judged-more h = record {
           count = suc (j .count);
           reached = omega (arith, j .reached);
@@ -150,26 +176,9 @@ module _ (n : ℕ) (t : List ℕ) (at : ℕ) (j : Judged n t at) where
               on ∙ ap (λ b. both b (areRows n (rowAt t at ∷ earlier t (j .count)) (rowsOf (drop (at + 3) t)))) (row-good n (earlier t (j .count)) (rowAt t at) small new h)
               ∙ ap (λ k. areRows n (rowAt t k ∷ earlier t (j .count)) (rowsOf (drop (at + 3) t))) (j .reached)
               ∙ ap (λ l. areRows n l (rowsOf (drop (at + 3) t))) (sym (earlier-more t (j .count)));
+          long = length-set marks (getD t at 0) 1 ∙ j .long;
+          each = marks-more t (j .count) marks (j .each) (j .long) (getD t at 0) (ap (λ k. getD t k 0) (j .reached)) small;
         }
-
--- how far the look at the earlier rows has come
-pub record Looked (t : List ℕ) (tag at i : ℕ) : Type 0 where
-  pub count : ℕ
-  pub reached : i ≡ 3 * count
-  pub none : (k : ℕ) → k < count → getD t (3 * k) 0 ≡ tag → ⊥
-
-pub looked-start : (t : List ℕ) (tag at : ℕ) → Looked t tag at 0
-looked-start t tag at = record { count = 0; reached = refl; none = λ k h e. omega arith }
-
-pub looked-more : (t : List ℕ) (tag at i : ℕ) → Looked t tag at i → (getD t i 0 ≡ tag → ⊥) → Looked t tag at (i + 3)
-looked-more t tag at i l other = record {
-  count = suc (l .count);
-  reached = omega (arith, l .reached);
-  none = λ k h e. by-test (eqb k (l .count)) (λ s. other (ap (λ z. getD t z 0) (l .reached ∙ ap (λ z. 3 * z) (sym (eqb-true k (l .count) s))) ∙ e)) (λ s. l .none k (omega (arith, eqb-false k (l .count) s)) e);
-}
-
-pub looked-all : (t : List ℕ) (tag at i : ℕ) → Looked t tag at i → at ≤ i → (k : ℕ) → 3 * k < at → getD t (3 * k) 0 ≡ tag → ⊥
-looked-all t tag at i l h k g e = l .none k (omega (arith, l .reached)) e
 
 -- values of version 3
 short-none : areShort [] ≡ true

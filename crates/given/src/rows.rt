@@ -2,8 +2,8 @@
 ghost use mathlib.Core.Path.{_≡_};
 ghost use Rattle.given.specs.Tests.{isTable, areValues};
 
-// Rows of three, no tag over 254 or used twice, and every value inside a buffer of so many bytes. A tag that repeats an earlier row's ends the judging, so at
-// most 256 rows are looked at.
+// Rows of three, no tag over 254 or used twice, and every value inside a buffer of so many bytes. The tags so far are marked, so that one walk over the rows
+// judges them.
 pub fn are_rows(rows: &[usize], size: usize) -> bool
     ensures { λ r. ⌜ r ≡ isTable size (now (rows .entry)) ⌝ }
 {
@@ -11,31 +11,26 @@ pub fn are_rows(rows: &[usize], size: usize) -> bool
     if n % 3 != 0 {
         return false;
     }
+    let mut marks = [0u8; 255];
     let mut at: usize = 0;
-    let good = 'rows: loop {
-        if n <= at + 2 {
-            break 'rows true;
-        }
+    while at + 2 < n {
         let tag = rows[at];
         if 254 < tag {
-            break 'rows false;
+            return false;
         }
-        let mut i: usize = 0;
-        while i < at {
-            if rows[i] == tag {
-                break 'rows false;
-            }
-            i += 3;
+        if marks[tag] == 1 {
+            return false;
         }
+        marks[tag] = 1;
         if size < rows[at + 1] {
-            break 'rows false;
+            return false;
         }
         if size - rows[at + 1] < rows[at + 2] {
-            break 'rows false;
+            return false;
         }
         at += 3;
-    };
-    good
+    }
+    true
 }
 
 // In version 3 no value is over 255 bytes.

@@ -5,16 +5,17 @@ use Prim.Native.Nat.{ℕ, _+_, _-_, _/_, _%_, _<_, _≤_}
 use native.Mathlib.Omega.{arith}
 use mathlib.Core.List.{List, [], _∷_, _++_, map, append-assoc, append-nil}
 use lib.ListN.{length, getD, take, drop, set, length-append, length-drop, length-set, take-append-drop, drop-of-length-le}
-use lib.Seq.{take-all, take-at, drop-drop, length-take-le}
+use lib.Seq.{take-all, drop-drop, length-take-le}
 use Rattle.format.specs.Bytes.{All}
+use Rattle.format.specs.Bytes.Laws.{all-back}
 use Rattle.format.specs.Numbers.{be}
+use Rattle.format.specs.Numbers.Laws.{be-two}
 use Rattle.format.specs.Buffer.{over}
-use Rattle.format.specs.Buffer.Laws.{over-none, over-start, length-over, over-over, set-over, over-two, over-three, held-start, held-more}
+use Rattle.format.specs.Buffer.Laws.{over-none, length-over, over-over, set-over, over-two, over-three}
 use Rattle.format.specs.Answers.{filled}
-use Rattle.octets.specs.Copy.{copied, reached}
-use Rattle.octets.specs.Copy.Laws.{copied-all, reached-all}
-use Rattle.c40.specs.Text.{Text, publish as c40}
-use Rattle.c40.specs.Text.Laws.{length-publish}
+use Rattle.c40.specs.Chart.{InChart, valueOf}
+use Rattle.c40.specs.Text.{Text, packedOf, triple, publish as c40}
+use Rattle.c40.specs.Text.Laws.{length-publish, publish-three, publish-none, left-three, left-none}
 use Rattle.c40.specs.Calls.{writing}
 use Rattle.c40.specs.Calls.Laws.{writing-done, text-known}
 use Rattle.dates.specs.Days.{Day, numberOf, publish as date}
@@ -27,8 +28,9 @@ use Rattle.verdict.specs.Judge.{Row}
 use Rattle.items.specs.Cases.{versionOf}
 use Rattle.given.specs.Given.{rowsOf}
 use Rattle.given.specs.Rows.{rowAt, rows-end, rows-here}
-use Rattle.writer.specs.Steps.{Room, Measured, Fits, Fitting, spelled}
-use Rattle.writer.specs.Steps.Laws.{version-three, version-four}
+use Rattle.writer.specs.Steps.{Room, Named, Measured, Fits, Fitting, spelled, sixOf}
+use Rattle.given.specs.Tests.Laws.{size-four}
+use Rattle.writer.specs.Steps.Laws.{version-three, version-four, spelled-six, six-text, reference-text}
 
 -- what a part of a buffer holds, from a place on, put back
 part-over : (out : List ℕ) (at : ℕ) (bytes after : List ℕ) → Room out at bytes → after ≡ bytes ++ drop (length bytes) (take (length out - at) (drop at out)) → take at out ++ (after ++ drop (length out - at) (drop at out)) ≡ over out at bytes
@@ -78,47 +80,35 @@ module _ (v : Version) (tag : ℕ) (value out : List ℕ) (at : ℕ) (room : Roo
   pub feature-room : Room (set out at tag) (at + 1) (lengthOf v (length value))
   feature-room = omega (arith, feature-long v tag value, length-set out at tag)
 
-  pub put-feature : (out1 : List ℕ) (next : ℕ) (out2 : List ℕ) (end : ℕ) → next ≡ at + 1 + length (lengthOf v (length value)) → out1 ≡ over (set out at tag) (at + 1) (lengthOf v (length value)) → end ≡ reached value (length out1) next → out2 ≡ copied value out1 next → (end ≡ at + length (feature v (record { tag = tag; value = value }))) × (out2 ≡ over out at (feature v (record { tag = tag; value = value })))
-  put-feature out1 next out2 end e1 o1 e2 o2 =
-      let form = lengthOf v (length value) in
-      let long = feature-long v tag value in
-      let one : out1 ≡ over out at (tag ∷ form) =
-      o1 ∙ ap (λ o. over o (at + 1) form) (set-over out at tag (omega arith)) ∙ over-over out at (tag ∷ []) form (omega arith) in
-      let same : length out1 ≡ length out = ap length one ∙ length-over out at (tag ∷ form) (omega arith) in
-      let sum : next ≡ at + length (tag ∷ form) = omega arith in
-      let fits : next + length value ≤ length out1 = omega arith in
-      let reach = reached-all value out1 next fits in
-      let copy = copied-all value out1 next fits in (
-        omega arith,
-        o2 ∙ sym copy ∙ ap (λ o. over o next value) one ∙ ap (λ k. over (over out at (tag ∷ form)) k value) sum ∙ over-over out at (tag ∷ form) value (omega arith),
-      )
+  module _ (out1 : List ℕ) (next : ℕ) (reach : next ≡ at + 1 + length (lengthOf v (length value))) (first : out1 ≡ over (set out at tag) (at + 1) (lengthOf v (length value))) where
+    tag-form : out1 ≡ over out at (tag ∷ lengthOf v (length value))
+    tag-form =
+        let form = lengthOf v (length value) in
+        first ∙ ap (λ o. over o (at + 1) form) (set-over out at tag (omega (arith, feature-long v tag value)))
+        ∙ over-over out at (tag ∷ []) form (omega (arith, feature-long v tag value))
+
+    -- there is room for the value
+    pub value-room : Room out1 next value
+    value-room =
+        let long = feature-long v tag value in
+        let same : length out1 ≡ length out = ap length tag-form ∙ length-over out at (tag ∷ lengthOf v (length value)) (omega arith) in
+        omega arith
+
+    pub put-feature : (end : ℕ) (out2 : List ℕ) → end ≡ next + length value → out2 ≡ over out1 next value → (end ≡ at + length (feature v (record { tag = tag; value = value }))) × (out2 ≡ over out at (feature v (record { tag = tag; value = value })))
+    put-feature end out2 e2 o2 =
+        let form = lengthOf v (length value) in
+        let long = feature-long v tag value in
+        let sum : next ≡ at + length (tag ∷ form) = omega arith in (
+          omega arith,
+          o2 ∙ ap (λ o. over o next value) tag-form ∙ ap (λ k. over (over out at (tag ∷ form)) k value) sum ∙ over-over out at (tag ∷ form) value (omega arith),
+        )
 
 -- the characters of version 4's names
-pub put-spelled : (text chars out1 out2 : List ℕ) (a b : ℕ) → 5 ≤ length text → length text ≤ 259 → length chars ≡ 261 → out1 ≡ copied (take 4 text) chars 0 → a ≡ hexDigit ((length text - 4) / 16) → b ≡ hexDigit ((length text - 4) % 16) → out2 ≡ copied (take (length text - 4) (drop 4 text)) (set (set out1 4 a) 5 b) 6 → out2 ≡ over chars 0 (spelled text)
-put-spelled text chars out1 out2 a b low high size e1 ea eb e2 =
-    let four : length (take 4 text) ≡ 4 = length-take-le 4 text (omega arith) in
-    let rest : take (length text - 4) (drop 4 text) ≡ drop 4 text = take-all (length text - 4) (drop 4 text) (omega (arith, length-drop 4 text)) in
-    let left = length-drop 4 text in
-    let first = held-more chars chars 0 [] (held-start chars) (take 4 text) out1 4 (e1 ∙ sym (copied-all (take 4 text) chars 0 (omega arith))) (omega arith) (omega arith) in
-    let same1 : length out1 ≡ 261 = ap length (first .is) ∙ length-over chars 0 (take 4 text) (omega arith) ∙ size in
-    let second = held-more chars out1 4 (take 4 text) first (a ∷ b ∷ []) (set (set out1 4 a) 5 b) 6 (over-two out1 4 a b (omega arith)) refl (omega arith) in
-    let same2 : length (set (set out1 4 a) 5 b) ≡ 261 = length-set (set out1 4 a) 5 b ∙ length-set out1 4 a ∙ same1 in
-    let last : out2 ≡ over (set (set out1 4 a) 5 b) 6 (drop 4 text) =
-    e2 ∙ ap (λ r. copied r (set (set out1 4 a) 5 b) 6) rest ∙ sym (copied-all (drop 4 text) (set (set out1 4 a) 5 b) 6 (omega arith)) in
-    let third = held-more chars (set (set out1 4 a) 5 b) 6 (take 4 text ++ (a ∷ b ∷ [])) second (drop 4 text) out2 (6 + length (drop 4 text)) last refl (omega arith) in
-    let sa : a ≡ hexDigit (length (drop 4 text) / 16) = ea ∙ ap (λ n. hexDigit (n / 16)) (sym left) in
-    let sb : b ≡ hexDigit (length (drop 4 text) % 16) = eb ∙ ap (λ n. hexDigit (n % 16)) (sym left) in
-    third .is ∙ ap (λ x. over chars 0 (take 4 text ++ (x ∷ b ∷ []) ++ drop 4 text)) sa ∙ ap (λ y. over chars 0 (take 4 text ++ (hexDigit (length (drop 4 text) / 16) ∷ y ∷ []) ++ drop 4 text)) sb
-
 pub spelled-long : (text : List ℕ) → 4 ≤ length text → length (spelled text) ≡ length text + 2
 spelled-long text h =
     let four : length (take 4 text) ≡ 4 = length-take-le 4 text h in
     let n = length (drop 4 text) in
     omega (arith, length-append (take 4 text ++ (hexDigit (n / 16) ∷ hexDigit (n % 16) ∷ [])) (drop 4 text), length-append (take 4 text) (hexDigit (n / 16) ∷ hexDigit (n % 16) ∷ []), length-drop 4 text)
-
-pub spelled-front : (text chars after : List ℕ) → 4 ≤ length text → after ≡ over chars 0 (spelled text) → take (length text + 2) after ≡ spelled text
-spelled-front text chars after h e =
-    ap (take (length text + 2)) (e ∙ over-start chars (spelled text)) ∙ take-at (spelled text) (drop (length (spelled text)) chars) (length text + 2) (spelled-long text h)
 
 -- signer and reference, by version
 pub names-three : (v : ℕ) (t : List ℕ) → v ≡ 3 → names (versionOf v) (take 4 t) (drop 4 t) ≡ c40 t
@@ -126,6 +116,116 @@ names-three v t e = ap (λ w. names w (take 4 t) (drop 4 t)) (version-three v e)
 
 pub names-four : (v : ℕ) (t : List ℕ) → (v ≡ 3 → ⊥) → names (versionOf v) (take 4 t) (drop 4 t) ≡ c40 (spelled t)
 names-four v t e = ap (λ w. names w (take 4 t) (drop 4 t)) (version-four v e)
+
+-- the first six characters fill two pairs
+pub names-six : (v : ℕ) (t : List ℕ) → (v ≡ 3 → ⊥) → 4 ≤ length t → names (versionOf v) (take 4 t) (drop 4 t) ≡ c40 (sixOf t) ++ c40 (drop 4 t)
+names-six v t e h =
+    let u = drop 4 t in
+    let x = getD t 0 0 in
+    let a = hexDigit (length u / 16) in
+    let b = hexDigit (length u % 16) in
+    let one = triple (valueOf x) (valueOf (getD t 1 0)) (valueOf (getD t 2 0)) in
+    let two = triple (valueOf (getD t 3 0)) (valueOf a) (valueOf b) in
+    let pairs : (l : List ℕ) → c40 (x ∷ getD t 1 0 ∷ getD t 2 0 ∷ getD t 3 0 ∷ a ∷ b ∷ l) ≡ one ++ (two ++ c40 l) =
+    λ l. publish-three x (getD t 1 0) (getD t 2 0) (getD t 3 0 ∷ a ∷ b ∷ l) ∙ ap (λ r. one ++ r) (publish-three (getD t 3 0) a b l) in
+    let front : c40 (sixOf t) ≡ one ++ two = pairs [] ∙ ap (λ r. one ++ (two ++ r)) publish-none ∙ ap (λ r. one ++ r) (append-nil two) in
+    names-four v t e ∙ ap c40 (spelled-six t h) ∙ pairs u ∙ sym (append-assoc one two (c40 u)) ∙ ap (λ r. r ++ c40 u) (sym front)
+
+-- version 4's names put down: the six characters, then the reference
+module _ (v : ℕ) (t out : List ℕ) (at : ℕ) (codes : List ℕ) (n : Named v t) (other : v ≡ 3 → ⊥) (room : Room out at (names (versionOf v) (take 4 t) (drop 4 t))) (e : codes ≡ sixOf t) where
+  four-size : (5 ≤ length t) × (length t ≤ 259)
+  four-size = size-four v (length t) other (n .size)
+
+  both-parts : names (versionOf v) (take 4 t) (drop 4 t) ≡ c40 codes ++ c40 (drop 4 t)
+  both-parts = names-six v t other (omega (arith, four-size .0)) ∙ ap (λ l. c40 l ++ c40 (drop 4 t)) (sym e)
+
+  both-long : length (names (versionOf v) (take 4 t) (drop 4 t)) ≡ length (c40 codes) + length (c40 (drop 4 t))
+  both-long = ap length both-parts ∙ length-append (c40 codes) (c40 (drop 4 t))
+
+  pub six-asks : Text codes × (length codes ≤ 261) × Room out at (c40 codes)
+  six-asks = (
+    subst Text (sym e) (six-text v t n (omega (arith, four-size .0)) (omega (arith, four-size .1, length-drop 4 t))),
+    omega (arith, ap length e),
+    omega (arith, both-long, room),
+  )
+
+  module _ (next : ℕ) (out1 : List ℕ) (reach : next ≡ at + length (c40 codes)) (first : out1 ≡ over out at (c40 codes)) (left : List ℕ) (is-left : left ≡ drop 4 t) where
+    same-room : length out1 ≡ length out
+    same-room = ap length first ∙ length-over out at (c40 codes) (omega (arith, both-long, room))
+
+    pub reference-asks : Text left × (length left ≤ 261) × Room out1 next (c40 left)
+    reference-asks = (
+      subst Text (sym is-left) (reference-text v t n),
+      omega (arith, ap length is-left, four-size .1, length-drop 4 t),
+      omega (arith, ap (λ l. length (c40 l)) is-left, both-long, room, reach, same-room),
+    )
+
+    pub names-put : (to : ℕ) (after : List ℕ) → to ≡ next + length (c40 left) → after ≡ over out1 next (c40 left) → (to ≡ at + length (names (versionOf v) (take 4 t) (drop 4 t))) × (after ≡ over out at (names (versionOf v) (take 4 t) (drop 4 t)))
+    names-put to after et ea =
+        let l = c40 (drop 4 t) in (
+          omega (arith, et, ap (λ x. length (c40 x)) is-left, both-long, reach),
+          ea ∙ ap (λ x. over out1 next (c40 x)) is-left ∙ ap (λ o. over o next l) first ∙ ap (λ k. over (over out at (c40 codes)) k l) reach ∙ over-over out at (c40 codes) l (omega (arith, both-long, room)) ∙ ap (over out at) (sym both-parts),
+        )
+
+-- how far text is put down: the full pairs before a place
+pub record Texting (text out₀ : List ℕ) (start : ℕ) (out : List ℕ) (at i : ℕ) : Type 0 where
+  pub before : List ℕ
+  pub reached : at ≡ start + length before
+  pub is : out ≡ over out₀ start before
+  pub whole : c40 text ≡ before ++ c40 (drop i text)
+  pub room : Room out₀ start (c40 text)
+  pub inside : i ≤ length text
+
+pub texting-start : (text out : List ℕ) (start : ℕ) → Room out start (c40 text) → Texting text out start out start 0
+texting-start text out start room = record { before = []; reached = omega arith; is = sym (over-none out start); whole = refl; room = room; inside = omega arith }
+
+module _ (text out₀ : List ℕ) (start : ℕ) (out : List ℕ) (at i : ℕ) (p : Texting text out₀ start out at i) where
+  sum : length (c40 text) ≡ length (p .before) + length (c40 (drop i text))
+  sum = ap length (p .whole) ∙ length-append (p .before) (c40 (drop i text))
+
+  pub texting-length : length out ≡ length out₀
+  texting-length = ap length (p .is) ∙ length-over out₀ start (p .before) (omega (arith, sum, p .room))
+
+  -- what is left, put down
+  pub texting-last : (left : List ℕ) → left ≡ drop i text → (to : ℕ) (after : List ℕ) → to ≡ at + length (c40 left) → after ≡ over out at (c40 left) → (to ≡ start + length (c40 text)) × (after ≡ over out₀ start (c40 text))
+  texting-last left e to after et eo =
+      let l = c40 (drop i text) in
+      let el : to ≡ at + length l = et ∙ ap (λ t. at + length (c40 t)) e in (
+        omega (arith, el, sum, p .reached),
+        eo ∙ ap (λ t. over out at (c40 t)) e ∙ ap (λ o. over o at l) (p .is) ∙ ap (λ k. over (over out₀ start (p .before)) k l) (p .reached) ∙ over-over out₀ start (p .before) l (omega (arith, sum, p .room)) ∙ ap (over out₀ start) (sym (p .whole)),
+      )
+
+  pub texting-end : length text ≤ i → (at ≡ start + length (c40 text)) × (out ≡ over out₀ start (c40 text))
+  texting-end h =
+      let all : c40 text ≡ p .before = p .whole ∙ ap (λ z. p .before ++ z) (left-none text i h) ∙ append-nil (p .before) in
+      (omega (arith, ap length all, p .reached), p .is ∙ ap (over out₀ start) (sym all))
+
+  pub texting-asks : (left : List ℕ) → left ≡ drop i text → Text text → length text ≤ 261 → Text left × (length left ≤ 261) × Room out at (c40 left)
+  texting-asks left e is-text long = (
+    subst Text (sym e) (all-back InChart (take i text) (drop i text) (subst Text (sym (take-append-drop i text)) is-text)),
+    omega (arith, ap length e, length-drop i text),
+    omega (arith, ap (λ t. length (c40 t)) e, sum, p .room, p .reached, texting-length),
+  )
+
+  module _ (here : i + 2 < length text) where
+    next-pair : c40 (drop i text) ≡ be 2 (packedOf (valueOf (getD text i 0)) (valueOf (getD text (i + 1) 0)) (valueOf (getD text (i + 2) 0))) ++ c40 (drop (i + 3) text)
+    next-pair = left-three text i (omega arith)
+
+    pub texting-room : at + 2 ≤ length out
+    texting-room = omega (arith, sum, length-publish (drop i text), length-drop i text, p .room, p .reached, texting-length)
+
+    pub texting-more : (number : ℕ) → number ≡ packedOf (valueOf (getD text i 0)) (valueOf (getD text (i + 1) 0)) (valueOf (getD text (i + 2) 0)) → number ≤ 64000 → Texting text out₀ start (set (set out at (number / 256)) (at + 1) (number % 256)) (at + 2) (i + 3)
+    texting-more number e small =
+        let pair = (number / 256) ∷ (number % 256) ∷ [] in
+        let form : be 2 (packedOf (valueOf (getD text i 0)) (valueOf (getD text (i + 1) 0)) (valueOf (getD text (i + 2) 0))) ≡ pair = ap (be 2) (sym e) ∙ be-two number (omega arith) in
+        let rest = c40 (drop (i + 3) text) in record {
+          before = p .before ++ pair;
+          reached = omega (arith, p .reached, length-append (p .before) pair);
+          is = over-two out at (number / 256) (number % 256) texting-room ∙ ap (λ o. over o at pair) (p .is) ∙ ap (λ k. over (over out₀ start (p .before)) k pair) (p .reached) ∙ over-over out₀ start (p .before) pair (omega (arith, sum, p .room));
+          whole = p .whole ∙ ap (λ z. p .before ++ z) (next-pair ∙ ap (λ f. f ++ rest) form) ∙ sym (append-assoc (p .before) pair rest);
+          room = p .room;
+          inside = omega arith;
+        }
 
 -- the features of rows
 pub zone-none : (v : Version) (values : List ℕ) → messageZone v (map (featureOf values) []) ≡ []

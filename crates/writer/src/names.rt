@@ -6,16 +6,38 @@ ghost use Rattle.format.specs.Buffer.{over};
 ghost use Rattle.c40.specs.Text.{Text, publish as c40In};
 ghost use Rattle.grammar.specs.Publish.{carried as carriedIn, names as namesIn, hexDigit};
 ghost use Rattle.items.specs.Cases.{versionOf};
-ghost use Rattle.writer.specs.Steps.{Room, Named, spelled};
+ghost use Rattle.writer.specs.Steps.{Room, Named};
 
-// Puts down text in C40; its characters are in the chart and there is room, so nothing is refused.
-pub(crate) fn put_text(text: &[u8], out: &mut [u8], at: usize) -> usize
+// Puts down text in C40 by the codec; its characters are in the chart and there is room, so nothing is refused.
+pub(crate) fn put_left(text: &[u8], out: &mut [u8], at: usize) -> usize
     requires { ⌜ Text (now text) × (length (now text) ≤ 261) × Room (now out) at (c40In (now text)) ⌝ }
     ensures place { λ r. ⌜ r ≡ at + length (c40In (now (text .entry))) ⌝ }
     ensures buffer { λ r. ⌜ now (out .exit) ≡ over (now (out .entry)) at (c40In (now (text .entry))) ⌝ }
 {
     c40::write(text, &mut out[at..]);
     at + (text.len() + 2) / 3 * 2
+}
+
+// Puts down text in C40. It was judged, so the codec, which judges again, has only the one or two characters left over after the full pairs.
+pub(crate) fn put_text(text: &[u8], out: &mut [u8], start: usize) -> usize
+    requires { ⌜ Text (now text) × (length (now text) ≤ 261) × Room (now out) start (c40In (now text)) ⌝ }
+    ensures place { λ r. ⌜ r ≡ start + length (c40In (now (text .entry))) ⌝ }
+    ensures buffer { λ r. ⌜ now (out .exit) ≡ over (now (out .entry)) start (c40In (now (text .entry))) ⌝ }
+{
+    let n = text.len();
+    let mut at = start;
+    let mut i: usize = 0;
+    while i + 2 < n {
+        let number = c40::number_of(text[i], text[i + 1], text[i + 2]);
+        out[at] = (number / 256) as u8;
+        out[at + 1] = (number % 256) as u8;
+        at += 2;
+        i += 3;
+    }
+    if i < n {
+        return put_left(&text[i..], out, at);
+    }
+    at
 }
 
 // A filler is carried as a space.
@@ -39,18 +61,6 @@ pub(crate) fn hex_digit(n: usize) -> u8
     (55 + n) as u8
 }
 
-// The characters of version 4's names: signer, the reference's length, the reference.
-pub(crate) fn spell(text: &[u8], characters: &mut [u8])
-    requires { ⌜ (5 ≤ length (now text)) × (length (now text) ≤ 259) × (length (now characters) ≡ 261) ⌝ }
-    ensures { λ r. ⌜ now (characters .exit) ≡ over (now (characters .entry)) 0 (spelled (now (text .entry))) ⌝ }
-{
-    let size = text.len() - 4;
-    octets::copy(&text[..4], characters, 0);
-    characters[4] = hex_digit(size / 16);
-    characters[5] = hex_digit(size % 16);
-    octets::copy(&text[4..], characters, 6);
-}
-
 // Puts down signer and reference.
 pub(crate) fn put_names(version: usize, text: &[u8], out: &mut [u8], at: usize) -> usize
     requires { ⌜ Named version (now text) × Room (now out) at (namesIn (versionOf version) (take 4 (now text)) (drop 4 (now text))) ⌝ }
@@ -60,8 +70,16 @@ pub(crate) fn put_names(version: usize, text: &[u8], out: &mut [u8], at: usize) 
     if version == 3 {
         return put_text(text, out, at);
     }
-    let mut characters = [0u8; 261];
-    spell(text, &mut characters);
-    let end = text.len() + 2;
-    put_text(&characters[..end], out, at)
+    // signer and length fill two pairs, so the reference begins one
+    let size = text.len() - 4;
+    let six = [
+        text[0],
+        text[1],
+        text[2],
+        text[3],
+        hex_digit(size / 16),
+        hex_digit(size % 16),
+    ];
+    let next = put_text(&six, out, at);
+    put_text(&text[4..], out, next)
 }

@@ -89,6 +89,21 @@ pub(crate) fn put_length(version: usize, size: usize, out: &mut [u8], at: usize)
     at + 3
 }
 
+// Puts down the bytes of a value, each touched once; there is room for them, so none is tested for.
+pub(crate) fn put_value(value: &[u8], out: &mut [u8], at: usize) -> usize
+    requires { ⌜ Room (now out) at (now value) ⌝ }
+    ensures place { λ r. ⌜ r ≡ at + length (now (value .entry)) ⌝ }
+    ensures buffer { λ r. ⌜ now (out .exit) ≡ over (now (out .entry)) at (now (value .entry)) ⌝ }
+{
+    let n = value.len();
+    let mut i: usize = 0;
+    while i < n {
+        out[at + i] = value[i];
+        i += 1;
+    }
+    at + n
+}
+
 // Puts down a feature; the signature is put down as one too, after its mark FF and with a DER length.
 pub(crate) fn put_feature(
     version: usize,
@@ -103,7 +118,7 @@ pub(crate) fn put_feature(
 {
     out[at] = tag as u8;
     let next = put_length(version, value.len(), out, at + 1);
-    octets::copy(value, out, next)
+    put_value(value, out, next)
 }
 
 // Puts down the features of the rows.
@@ -119,9 +134,13 @@ pub(crate) fn put_rows(
     ensures buffer { λ r. ⌜ now (out .exit) ≡ over (now (out .entry)) start (messageZone (versionOf version) (map (featureOf (now (values .entry))) (rowsOf (now (rows .entry))))) ⌝ }
 {
     let n = rows.len();
+    if n < 3 {
+        return start;
+    }
+    let last = n - 2;
     let mut at = start;
     let mut row: usize = 0;
-    while row + 2 < n {
+    while row < last {
         let place = rows[row + 1];
         let end = place + rows[row + 2];
         at = put_feature(version, rows[row], &values[place..end], out, at);

@@ -26,7 +26,7 @@ use Rattle.format.specs.Table.Laws.{both-true}
 use Rattle.letters.specs.Characters.{isLetter, isDigit, isReference, isSigner, all, isCountry}
 use Rattle.items.specs.Cases.{versionOf}
 use Rattle.given.specs.Tests.{isVersion}
-use Rattle.writer.specs.Steps.{Named, spelled}
+use Rattle.writer.specs.Steps.{Named, spelled, sixOf}
 
 pub either-is : {C : Type 0} (a b : Bool) → either a b ≡ true → (a ≡ true → C) → (b ≡ true → C) → C
 either-is true b e f g = f refl
@@ -83,11 +83,29 @@ hex-digit-in n h =
     (λ e. rw e (digit-in (48 + n) (omega arith) (omega (arith, ltb-true n 10 e))))
     (λ e. rw e (letter-in (55 + n) (omega (arith, ltb-false n 10 e)) (omega arith)))
 
-pub spelled-text : (v : ℕ) (t : List ℕ) → Named v t → length (drop 4 t) ≤ 255 → Text (spelled t)
-spelled-text v t n h =
+-- the first six characters of version 4's names, and the reference
+pub spelled-six : (t : List ℕ) → 4 ≤ length t → spelled t ≡ sixOf t ++ drop 4 t
+spelled-six [] h = absurd (omega arith)
+spelled-six (a ∷ []) h = absurd (omega arith)
+spelled-six (a ∷ b ∷ []) h = absurd (omega arith)
+spelled-six (a ∷ b ∷ c ∷ []) h = absurd (omega arith)
+spelled-six (a ∷ b ∷ c ∷ d ∷ t) h = refl
+
+six-is : (t : List ℕ) → 4 ≤ length t → take 4 t ++ hexDigits (length (drop 4 t)) ≡ sixOf t
+six-is [] h = absurd (omega arith)
+six-is (a ∷ []) h = absurd (omega arith)
+six-is (a ∷ b ∷ []) h = absurd (omega arith)
+six-is (a ∷ b ∷ c ∷ []) h = absurd (omega arith)
+six-is (a ∷ b ∷ c ∷ d ∷ t) h = refl
+
+pub six-text : (v : ℕ) (t : List ℕ) → Named v t → 4 ≤ length t → length (drop 4 t) ≤ 255 → Text (sixOf t)
+six-text v t n low h =
     let k = length (drop 4 t) in
     let hex : Text (hexDigits k) = (hex-digit-in (k / 16) (omega arith), (hex-digit-in (k % 16) (omega arith), tt)) in
-    all-append InChart (take 4 t ++ hexDigits k) (drop 4 t) (all-append InChart (take 4 t) (hexDigits k) (signer-text (take 4 t) (n .signer)) hex) (all-text isReference digit-text (drop 4 t) (n .reference))
+    subst Text (six-is t low) (all-append InChart (take 4 t) (hexDigits k) (signer-text (take 4 t) (n .signer)) hex)
+
+pub reference-text : (v : ℕ) (t : List ℕ) → Named v t → Text (drop 4 t)
+reference-text v t n = all-text isReference digit-text (drop 4 t) (n .reference)
 
 -- the version of a number
 pub version-three : (v : ℕ) → v ≡ 3 → versionOf v ≡ three

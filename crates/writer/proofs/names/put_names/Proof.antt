@@ -1,33 +1,48 @@
--- `put_names` meets its contract: nine characters in version 3, in version 4 the length among them.
+-- `put_names` meets its contract: nine characters in version 3; in version 4 six, the length among them, and the reference.
 -- Assumes nothing.
 use borrow.Author.Needs.{needs}
 use native.Mathlib.Omega.{arith}
 use mathlib.Core.Path.{_≡_, ap, sym, subst, _∙_}
-use Prim.Native.Nat.{_+_, _≤_}
+use Prim.Native.Nat.{ℕ, _+_, _-_, _/_, _%_, _≤_}
 use denote.Ref.{now}
-use lib.ListN.{length, take, length-take, length-drop}
-use lib.Seq.{length-take-le}
+use mathlib.Core.List.{List, [], _∷_}
+use lib.ListN.{length, getD, take, drop, length-drop}
+use lib.Seq.{take-all}
 use Rattle.format.specs.Buffer.{over}
-use Rattle.c40.specs.Text.{Text, publish as c40}
+use Rattle.grammar.specs.Publish.{hexDigit}
+use Rattle.writer.specs.Steps.{Room, sixOf}
 use Rattle.given.specs.Tests.Laws.{size-three, size-four}
-use Rattle.writer.specs.Steps.{Room, spelled}
-use Rattle.writer.specs.Steps.Laws.{named-text, spelled-text}
-use Rattle.writer.specs.Put.{names-three, names-four, spelled-front, spelled-long}
+use Rattle.writer.specs.Steps.Laws.{named-text}
+use Rattle.writer.specs.Put.{names-three, six-asks, reference-asks, names-put}
 use Rattle.writer.proofs.names.put_names.Statement.{statement}
 use Rattle.writer.proofs.names.put_names.Tie as tie
 
--- the text's size in version 4, and the characters that are spelt
-long : (c : tie.After-spell) → (5 ≤ length (now (c .before .before .before .before .before .args .text))) × (length (now (c .before .before .before .before .before .args .text)) ≤ 259)
-long c = let s = c .before .before .before .before .before in size-four (s .args .version) (length (now (s .args .text))) (c .before .before .if1 .left) (s .pre .0 .size)
+-- the text in version 4
+abbrev text : tie.Else1 → List ℕ
+text c = now (c .before .before .before .args .text)
 
-spelt : (c : tie.After-spell) → take (length (now (c .before .before .before .before .before .args .text)) + 2) (c .spell .last .1 .0) ≡ spelled (now (c .before .before .before .before .before .args .text))
-spelt c = let l = long c in spelled-front (now (c .before .before .before .before .before .args .text)) _ (c .spell .last .1 .0) (omega arith) (c .spell .ensures)
+long : (c : tie.Else1) → 5 ≤ length (text c)
+long c = let s = c .before .before .before in size-four (s .args .version) (length (text c)) (c .if1 .left) (s .pre .0 .size) .0
 
-prefix : (c : tie.After-spell) → length (now (c .before .before .before .before .before .args .text)) + 2 ≤ length (c .spell .last .1 .0)
-prefix c =
-    let t = now (c .before .before .before .before .before .args .text) in
-    let l = long c in
-    omega (arith, ap length (spelt c), length-take (length t + 2) (c .spell .last .1 .0), spelled-long t (omega arith))
+short : (c : tie.Else1) → length (text c) ≤ 259
+short c = let s = c .before .before .before in size-four (s .args .version) (length (text c)) (c .if1 .left) (s .pre .0 .size) .1
+
+-- the six characters
+abbrev codes : tie.After-hex-digit2 → List ℕ
+codes c =
+    let t = text (c .before .before .before .before .before .before) in
+    getD t 0 0 ∷ getD t 1 0 ∷ getD t 2 0 ∷ getD t 3 0 ∷ c .before .hex-digit .result ∷ c .hex-digit2 .result ∷ []
+
+six : (c : tie.After-hex-digit2) → codes c ≡ sixOf (text (c .before .before .before .before .before .before))
+six c =
+    let t = text (c .before .before .before .before .before .before) in
+    let high : c .before .hex-digit .result ≡ hexDigit (length (drop 4 t) / 16) = c .before .hex-digit .ensures ∙ ap (λ k. hexDigit (k / 16)) (sym (length-drop 4 t)) in
+    let low : c .hex-digit2 .result ≡ hexDigit (length (drop 4 t) % 16) = c .hex-digit2 .ensures ∙ ap (λ k. hexDigit (k % 16)) (sym (length-drop 4 t)) in
+    λ i. getD t 0 0 ∷ getD t 1 0 ∷ getD t 2 0 ∷ getD t 3 0 ∷ high i ∷ low i ∷ []
+
+-- the part that is lent is the reference
+reference : (c : tie.Else1) → take (length (text c) - 4) (drop 4 (text c)) ≡ drop 4 (text c)
+reference c = take-all (length (text c) - 4) (drop 4 (text c)) (omega (arith, length-drop 4 (text c)))
 
 put-text-requires : tie.Need-put-text-requires
 put-text-requires c κs = let s = c .before .before .before .before in
@@ -44,39 +59,61 @@ returns c = let s = c .before .before .before .before .before .before .before in
     let e = names-three (s .args .version) (now (s .args .text)) (c .before .before .before .before .if1 .taken) in
     (p .ensures .0 ∙ ap (λ l. s .args .at + length l) (sym e), p .ensures .1 ∙ ap (over (now (s .args .out)) (s .args .at)) (sym e))
 
-slice-aggregate-spell : tie.Need-slice-aggregate-spell
-slice-aggregate-spell c = search needs
+sub-size : tie.Need-sub-size
+sub-size c = let l = long c in omega arith
 
-spell-requires : tie.Need-spell-requires
-spell-requires c κs = let s = c .before .before .before .before in
-    let z = size-four (s .args .version) (length (now (s .args .text))) (c .before .if1 .left) (s .pre .0 .size) in
-    (z .0, z .1, omega arith)
+shared-slice-read-t13 : tie.Need-shared-slice-read-t13
+shared-slice-read-t13 c = let l = long (c .before) in omega arith
 
-add-end : tie.Need-add-end
-add-end c = search needs
+shared-slice-read-t15 : tie.Need-shared-slice-read-t15
+shared-slice-read-t15 c = let l = long (c .before .before) in omega arith
 
-array-share-prefix-characters : tie.Need-array-share-prefix-characters
-array-share-prefix-characters c = prefix (c .before)
+shared-slice-read-t17 : tie.Need-shared-slice-read-t17
+shared-slice-read-t17 c = let l = long (c .before .before .before) in omega arith
+
+shared-slice-read-t19 : tie.Need-shared-slice-read-t19
+shared-slice-read-t19 c = let l = long (c .before .before .before .before) in omega arith
+
+hex-digit-requires : tie.Need-hex-digit-requires
+hex-digit-requires c κs = let l = short (c .before .before .before .before) in omega arith
+
+hex-digit-requires-2 : tie.Need-hex-digit-requires-2
+hex-digit-requires-2 c κs = search needs
 
 slice-aggregate-put-text : tie.Need-slice-aggregate-put-text
-slice-aggregate-put-text c = let s = c .before .before .before .before .before .before .before in sym (length-take-le (length (now (s .args .text)) + 2) (c .before .before .spell .last .1 .0) (prefix (c .before .before)))
+slice-aggregate-put-text c = search needs
 
 put-text-requires-2 : tie.Need-put-text-requires-2
-put-text-requires-2 c κs = let s = c .before .before .before .before .before .before .before .before in
-    let t = now (s .args .text) in
-    let on = c .before .before .before in
-    let f = spelt on in
-    let l = long on in
-    (subst Text (sym f) (spelled-text (s .args .version) t (s .pre .0) (omega (arith, length-drop 4 t))), omega (arith, ap length f, spelled-long t (omega arith)), subst (Room (now (s .args .out)) (s .args .at)) (names-four (s .args .version) t (c .before .before .before .before .before .if1 .left) ∙ ap c40 (sym f)) (s .pre .1))
+put-text-requires-2 c κs = let on = c .before .before in
+    let s = c .before .before .before .before .before .before .before .before .before .before .before in
+    six-asks (s .args .version) (now (s .args .text)) (now (s .args .out)) (s .args .at) (codes on) (s .pre .0) (c .before .before .before .before .before .before .before .before .if1 .left) (s .pre .1) (six on)
+
+sub-put-text : tie.Need-sub-put-text
+sub-put-text c = let l = long (c .before .before .before .before .before .before .before .before .before .before .before) in omega arith
+
+part-put-text-start : tie.Need-part-put-text-start
+part-put-text-start c = let l = long (c .before .before .before .before .before .before .before .before .before .before .before) in omega arith
+
+part-put-text-end : tie.Need-part-put-text-end
+part-put-text-end c = search needs
+
+put-text-requires-3 : tie.Need-put-text-requires-3
+put-text-requires-3 c κs = let on = c .before .before .before .before .before .before .before in
+    let s = c .before .before .before .before .before .before .before .before .before .before .before .before .before .before .before .before in
+    let p = c .before .before .before .before .put-text2 in
+    let e = c .before .before .before .before .before .before .before .before .before .before .before .before .before in
+    reference-asks (s .args .version) (now (s .args .text)) (now (s .args .out)) (s .args .at) (codes on) (s .pre .0) (e .if1 .left) (s .pre .1) (six on) (p .result) _ (p .ensures .0) (p .ensures .1) _ (reference e)
 
 same-length-2 : tie.Need-same-length-2
 same-length-2 c = search needs
 
 returns-2 : tie.Need-returns-2
-returns-2 c = let s = c .before .before .before .before .before .before .before .before .before .before .before in
-    let p = c .before .before .put-text2 in
-    let e = names-four (s .args .version) (now (s .args .text)) (c .before .before .before .before .before .before .before .before .if1 .left) ∙ ap c40 (sym (spelt (c .before .before .before .before .before .before))) in
-    (p .ensures .0 ∙ ap (λ l. s .args .at + length l) (sym e), p .ensures .1 ∙ ap (over (now (s .args .out)) (s .args .at)) (sym e))
+returns-2 c = let on = c .before .before .before .before .before .before .before .before .before .before in
+    let s = c .before .before .before .before .before .before .before .before .before .before .before .before .before .before .before .before .before .before .before in
+    let p = c .before .before .before .before .before .before .before .put-text2 in
+    let q = c .before .before .put-text3 in
+    let e = c .before .before .before .before .before .before .before .before .before .before .before .before .before .before .before .before in
+    names-put (s .args .version) (now (s .args .text)) (now (s .args .out)) (s .args .at) (codes on) (s .pre .0) (e .if1 .left) (s .pre .1) (six on) (p .result) _ (p .ensures .0) (p .ensures .1) _ (reference e) _ _ (q .ensures .0) (q .ensures .1)
 
 pub put-names-spec : {M : Type 1} → statement M
 put-names-spec =
@@ -85,11 +122,18 @@ put-names-spec =
     put-text-requires
     same-length
     returns
-    slice-aggregate-spell
-    spell-requires
-    add-end
-    array-share-prefix-characters
+    sub-size
+    shared-slice-read-t13
+    shared-slice-read-t15
+    shared-slice-read-t17
+    shared-slice-read-t19
+    hex-digit-requires
+    hex-digit-requires-2
     slice-aggregate-put-text
     put-text-requires-2
+    sub-put-text
+    part-put-text-start
+    part-put-text-end
+    put-text-requires-3
     same-length-2
     returns-2)

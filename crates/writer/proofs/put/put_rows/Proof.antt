@@ -13,20 +13,20 @@ use Rattle.writer.proofs.put.put_rows.Statement.{statement}
 use Rattle.writer.proofs.put.put_rows.Tie as tie
 
 abbrev Inv-loop : tie.InvT-loop
-Inv-loop version rows values out₀ start n at₀ row₀ out at row = Putting version values rows out₀ start out at row
+Inv-loop version rows values out₀ start n last at₀ row₀ out at row = Putting version values rows out₀ start out at row
 
 abbrev μ-loop : tie.MeasureT-loop
-μ-loop version rows values out₀ start n at₀ row₀ out at row = length rows - row
+μ-loop version rows values out₀ start n last at₀ row₀ out at row = length rows - row
 
 -- the table and the values that were handed over
 abbrev table : tie.At-loop Inv-loop μ-loop → List ℕ
-table on = now (on .before .before .before .before .args .rows)
+table on = now (on .before .before .before .before .before .args .rows)
 
 abbrev all-values : tie.At-loop Inv-loop μ-loop → List ℕ
-all-values on = now (on .before .before .before .before .args .values)
+all-values on = now (on .before .before .before .before .before .args .values)
 
 -- the row here was judged
-fits : (c : tie.In-loop Inv-loop μ-loop) → let on = c .before in Fits (on .before .before .before .before .args .version) (length (all-values on)) (rowAt (table on) (on .loop .row))
+fits : (c : tie.In-loop Inv-loop μ-loop) → let on = c .before in Fits (on .before .before .before .before .before .args .version) (length (all-values on)) (rowAt (table on) (on .loop .row))
 fits c = putting-fits _ _ _ _ _ _ _ _ (c .before .loop .inv) (omega arith)
 
 -- the part that is lent is its value
@@ -37,11 +37,18 @@ value on =
     let e : place + size - place ≡ size = omega arith in
     ap (λ k. take k (drop place (all-values on))) e
 
-loop-holds : tie.Need-loop-holds Inv-loop μ-loop
-loop-holds c = let s = c .before .before .before in putting-start (s .args .version) (now (s .args .values)) (now (s .args .rows)) (now (s .args .out)) (s .args .start) (s .pre .0) (s .pre .1)
+-- no row, and nothing to put down
+returns : tie.Need-returns Inv-loop μ-loop
+returns c =
+    let s = c .before .before .before .before in
+    let none = putting-start (s .args .version) (now (s .args .values)) (now (s .args .rows)) (now (s .args .out)) (s .args .start) (s .pre .0) (s .pre .1) in
+    putting-end _ _ _ _ _ _ _ _ none (omega arith)
 
-add-loop : tie.Need-add-loop Inv-loop μ-loop
-add-loop c = omega (arith, c .loop .inv .inside)
+sub-last : tie.Need-sub-last Inv-loop μ-loop
+sub-last c = omega arith
+
+loop-holds : tie.Need-loop-holds Inv-loop μ-loop
+loop-holds c = let s = c .before .before .before .before in putting-start (s .args .version) (now (s .args .values)) (now (s .args .rows)) (now (s .args .out)) (s .args .start) (s .pre .0) (s .pre .1)
 
 add-place : tie.Need-add-place Inv-loop μ-loop
 add-place c = omega arith
@@ -94,8 +101,8 @@ loop-again c = let on = c .before .before .before .before .before .before .befor
 same-length : tie.Need-same-length Inv-loop μ-loop
 same-length c = putting-length _ _ _ _ _ _ _ _ (c .before .loop .inv)
 
-returns : tie.Need-returns Inv-loop μ-loop
-returns c = putting-end _ _ _ _ _ _ _ _ (c .before .loop .inv) (omega arith)
+returns-2 : tie.Need-returns-2 Inv-loop μ-loop
+returns-2 c = putting-end _ _ _ _ _ _ _ _ (c .before .loop .inv) (omega arith)
 
 pub put-rows-spec : {M : Type 1} → statement M
 put-rows-spec =
@@ -103,8 +110,9 @@ put-rows-spec =
     (tie.spec
     Inv-loop
     μ-loop
+    returns
+    sub-last
     loop-holds
-    add-loop
     add-place
     mul-place
     shared-slice-read-place
@@ -122,4 +130,4 @@ put-rows-spec =
     loop-less
     loop-again
     same-length
-    returns)
+    returns-2)
