@@ -1,7 +1,6 @@
 // What the writer is given, judged (document 01, numbers 20 to 26): header, text and signature here, rows in rows.rt.
 ghost use mathlib.Core.Path.{_≡_};
 ghost use mathlib.Core.List.{[], _∷_};
-ghost use Rattle.verdict.specs.Judge.{isSignature};
 ghost use Rattle.given.specs.Tests as test;
 
 mod rows;
@@ -80,18 +79,4 @@ pub fn are_last(header: Header) -> bool
         return false;
     }
     header.category <= 254
-}
-
-// Whether this is the length of a raw signature: 2n for n of 28, 32, 48, 64 or 66.
-pub fn is_signature(size: usize) -> bool
-    ensures { λ r. ⌜ r ≡ isSignature size ⌝ }
-{
-    match size {
-        56 => true,
-        64 => true,
-        96 => true,
-        128 => true,
-        132 => true,
-        _ => false,
-    }
 }

@@ -12,6 +12,7 @@ use mathlib.Core.List.{List, [], _++_}
 use lib.Dec.{eqb}
 use lib.ListN.{length, take, drop}
 use Rattle.format.specs.Choice.{pick}
+use Rattle.format.specs.Answers.{done, filled}
 use Rattle.c40.specs.Text.{width}
 use Rattle.c40.specs.Decode.{decode}
 use Rattle.dates.specs.declared.Date.{Date}
@@ -95,7 +96,7 @@ valueOr old (not number place) = old
 
 -- what signer and reference leave in a lent text: themselves from its start and past them what was there, or all that was there
 abbrev pub textOver : List ℕ → Item read.Names → List ℕ
-textOver old (is n at) = (n .signer ++ n .reference) ++ drop (length (n .signer ++ n .reference)) old
+textOver old (is n at) = filled (done (n .signer ++ n .reference)) old
 textOver old (not number place) = old
 
 -- past so many bytes

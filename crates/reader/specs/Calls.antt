@@ -7,33 +7,35 @@ use mathlib.Core.Path.{_≡_}
 use Prim.Native.Nat.{ℕ, _+_, _*_}
 use mathlib.Core.List.{List, [], _∷_, _++_}
 use lib.Dec.{ltb}
-use lib.ListN.{length, take, drop}
+use lib.ListN.{length, take}
 use Rattle.format.specs.Choice.{pick}
-use Rattle.dates.specs.declared.Date.{Date}
+use Rattle.format.specs.Answers.{done, filled}
+use Rattle.dates.specs.Calls.{no-date}
 use Rattle.items.specs.Cases.{edition}
+use Rattle.items.specs.declared.Header.{Header}
 use Rattle.verdict.specs.Judge.{Row, Report, Verdict, accepted, refused, judge}
+use Rattle.reader.specs.declared.Ends.{Ends}
+use Rattle.reader.specs.declared.Part.{Part}
 use Rattle.reader.specs.declared.Reading.{Reading}
 
-abbrev pub noDate : Date
-noDate = record { month = 0; day = 0; year = 0 }
+-- the answer on a good seal
+abbrev pub answer : Header → Ends → Part → ℕ → Reading
+answer header ends signature count = record { number = 0; place = 0; header = header; ends = ends; signature = signature; count = count }
 
 -- on 0 the header, the three zone ends, the signature's place and length and the feature count; on any other number every field but number and place is 0
 abbrev pub answerOf : Verdict → Reading
 answerOf (accepted r) =
     let h = r .header in
-    record {
-      number = 0;
-      place = 0;
-      header = record { version = edition (h .version); country = h .country; length = length (h .reference); issued = h .issued; signed = h .signed; definition = h .definition; category = h .category };
-      ends = record { header = r .header-end; message = r .message-end; seal = r .seal-end };
-      signature = record { place = r .signature-place; length = r .signature-size };
-      count = length (r .rows);
-    }
+    answer
+    (record { version = edition (h .version); country = h .country; length = length (h .reference); issued = h .issued; signed = h .signed; definition = h .definition; category = h .category })
+    (record { header = r .header-end; message = r .message-end; seal = r .seal-end })
+    (record { place = r .signature-place; length = r .signature-size })
+    (length (r .rows))
 answerOf (refused number place) =
     record {
       number = number;
       place = place;
-      header = record { version = 0; country = 0 ∷ 0 ∷ 0 ∷ []; length = 0; issued = noDate; signed = noDate; definition = 0; category = 0 };
+      header = record { version = 0; country = 0 ∷ 0 ∷ 0 ∷ []; length = 0; issued = no-date; signed = no-date; definition = 0; category = 0 };
       ends = record { header = 0; message = 0; seal = 0 };
       signature = record { place = 0; length = 0 };
       count = 0;
@@ -70,7 +72,7 @@ textIn (refused number place) = []
 
 -- what a lent buffer holds afterwards: what is written, and past it what was there
 abbrev pub then : List ℕ → List ℕ → List ℕ
-then written out = written ++ drop (length written) out
+then written out = filled (done written) out
 
 -- signer and reference stand at the start of a text
 abbrev pub Named : Verdict → List ℕ → Type 0

@@ -1,4 +1,5 @@
-pub mod Steps
+pub mod Rows
+pub mod Judged
 pub mod Calls
 pub mod Answer
 pub mod Pins

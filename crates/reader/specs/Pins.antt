@@ -7,17 +7,18 @@ use Rattle.c40.specs.Chart.{theChart, valueOf}
 use Rattle.c40.specs.Pairs.{pairOf, single, values}
 use Rattle.c40.specs.Decode.{decode}
 use Rattle.dates.specs.Days.{isDay}
+use Rattle.dates.specs.Calls.{no-date}
 use Rattle.der.specs.Length.{readLength, longForm}
 use Rattle.grammar.specs.Examples.{header-a, seal-a}
 use Rattle.verdict.specs.Judge.{accepted, refused, header, tag, row, features, signature, reading, judge}
 use Rattle.verdict.specs.Judge.Pins.{report-a}
-use Rattle.reader.specs.Calls.{noDate, answerOf, table, reading as asked, rowsIn, textIn, then}
+use Rattle.reader.specs.Calls.{answerOf, table, reading as asked, rowsIn, textIn, then}
 
 -- what the calls answer for Seal A and for a refusal
 a-answered : answerOf (accepted report-a) ≡ record { number = 0; place = 0; header = record { version = 3; country = header-a .country; length = 5; issued = header-a .issued; signed = header-a .signed; definition = 1; category = 2 }; ends = record { header = 18; message = 24; seal = 82 }; signature = record { place = 26; length = 56 }; count = 1 }
 a-answered = refl
 
-refusal-answered : answerOf (refused 9 24) ≡ record { number = 9; place = 24; header = record { version = 0; country = 0 ∷ 0 ∷ 0 ∷ []; length = 0; issued = noDate; signed = noDate; definition = 0; category = 0 }; ends = record { header = 0; message = 0; seal = 0 }; signature = record { place = 0; length = 0 }; count = 0 }
+refusal-answered : answerOf (refused 9 24) ≡ record { number = 9; place = 24; header = record { version = 0; country = 0 ∷ 0 ∷ 0 ∷ []; length = 0; issued = no-date; signed = no-date; definition = 0; category = 0 }; ends = record { header = 0; message = 0; seal = 0 }; signature = record { place = 0; length = 0 }; count = 0 }
 refusal-answered = refl
 
 -- 12, and the room that is just enough

@@ -1,21 +1,20 @@
 // The reader (document 01): the verdict on every byte string, and for a good seal what it says.
 ghost use mathlib.Core.Path.{_≡_};
+ghost use Prim.Native.Nat.{_≤_};
 ghost use lib.ListN.{length};
 ghost use Rattle.verdict.specs.Judge.{judge as verdict, refused as refusedBy};
-ghost use Rattle.reader.specs.Calls.{answerOf, reading, rowsIn, textIn, then, Named};
+ghost use Rattle.reader.specs.Calls.{answer, answerOf, reading, rowsIn, textIn, then, Named};
 
-mod features;
-mod fields;
-mod signature;
+mod rows;
 
 use dates::Date;
-use features::Features;
-use fields::Front;
-use fields::Rest;
 use items::Cursor;
 pub use items::Header;
 use items::Refusal;
-use signature::Signature;
+use zones::Features;
+use zones::Front;
+use zones::Rest;
+use zones::Signature;
 
 // The ends of the three zones, each one past the zone's last byte.
 pub struct Ends {
@@ -76,34 +75,42 @@ fn refused(why: Refusal) -> Reading
     }
 }
 
-// The verdict; on 0 signer and reference stand at the start of `names`.
-fn judge_names(seal: &[u8], names: &mut [u8; 259]) -> Reading
+// A seal that is good, and what it says.
+fn good(header: Header, ends: Ends, signature: Part, count: usize) -> Reading
+    ensures { λ r. ⌜ r ≡ answer header ends signature count ⌝ }
+{
+    Reading {
+        number: 0,
+        place: 0,
+        header,
+        ends,
+        signature,
+        count,
+    }
+}
+
+// The verdict on a seal that is not too long, item by item; on 0 signer and reference stand at the start of `names`.
+fn judge_items(seal: &[u8], names: &mut [u8; 259]) -> Reading
+    requires short { ⌜ length (now seal) ≤ 4096 ⌝ }
     ensures answer { λ r. ⌜ r ≡ answerOf (verdict (now (seal .entry))) ⌝ }
     ensures text { λ r. ⌜ Named (verdict (now (seal .entry))) (now (names .exit)) ⌝ }
 {
-    if 4096 < seal.len() {
-        return refused(Refusal {
-            number: 1,
-            place: 4096,
-        });
-    }
     let mut country = [0u8; 3];
-    let front = fields::read_front(seal, &mut country, names);
+    let front = zones::read_front(seal, &mut country, names);
     let Front::Is(version, length, at) = front else {
         return refused(front.why());
     };
-    let rest = fields::read_rest(at, seal);
+    let rest = zones::read_rest(at, seal);
     let Rest::Is(issued, signed, definition, category, message) = rest else {
         return refused(rest.why());
     };
-    let features = features::read_features(message, seal, version);
+    let features = zones::read_features(message, seal, version);
     let Features::Are(count, mark) = features else {
         return refused(features.why());
     };
-    let after = Cursor {
-        place: mark.place + 1,
-    };
-    let signature = signature::read_signature(after, seal);
+    let next = mark.place + 1;
+    let after = Cursor { place: next };
+    let signature = zones::read_signature(after, seal);
     let Signature::Is(size, start) = signature else {
         return refused(signature.why());
     };
@@ -116,21 +123,30 @@ fn judge_names(seal: &[u8], names: &mut [u8; 259]) -> Reading
         definition,
         category,
     };
-    Reading {
-        number: 0,
-        place: 0,
-        header,
-        ends: Ends {
-            header: message.place,
-            message: mark.place,
-            seal: seal.len(),
-        },
-        signature: Part {
-            place: start.place,
-            length: size,
-        },
-        count,
+    let ends = Ends {
+        header: message.place,
+        message: mark.place,
+        seal: seal.len(),
+    };
+    let part = Part {
+        place: start.place,
+        length: size,
+    };
+    good(header, ends, part, count)
+}
+
+// The verdict; on 0 signer and reference stand at the start of `names`.
+fn judge_names(seal: &[u8], names: &mut [u8; 259]) -> Reading
+    ensures answer { λ r. ⌜ r ≡ answerOf (verdict (now (seal .entry))) ⌝ }
+    ensures text { λ r. ⌜ Named (verdict (now (seal .entry))) (now (names .exit)) ⌝ }
+{
+    if 4096 < seal.len() {
+        return refused(Refusal {
+            number: 1,
+            place: 4096,
+        });
     }
+    judge_items(seal, names)
 }
 
 // The verdict on every byte string.
@@ -169,7 +185,7 @@ pub fn read(seal: &[u8], table: &mut [usize], text: &mut [u8]) -> Reading
     }
     let ends = reading.ends;
     let start = Cursor { place: ends.header };
-    features::put_rows(start, seal, header.version, count, table);
+    rows::put_rows(start, seal, header.version, count, table);
     octets::copy(&names[..size], text, 0);
     reading
 }

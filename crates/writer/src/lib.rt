@@ -66,7 +66,7 @@ pub fn write(
     if !given::are_values(header.version, rows) {
         return Writing::Values;
     }
-    if !given::is_signature(signature.len()) {
+    if !items::is_signature(signature.len()) {
         return Writing::Signature;
     }
     let size = size::seal_size(header.version, text.len(), rows, signature.len());

@@ -6,9 +6,9 @@ use mathlib.Core.List.{List, _++_}
 use lib.ListN.{length, take, drop}
 use lib.Seq.{take-add}
 use Rattle.verdict.specs.Judge.{Row, Report, accepted, refused, judge}
-use Rattle.reader.specs.Steps.{Fields, Dated}
-use Rattle.reader.specs.Steps.Judged.{Known, headerOf}
-use Rattle.reader.specs.Calls.{answerOf, Named}
+use Rattle.zones.specs.Steps.{Fields, Dated}
+use Rattle.zones.specs.Steps.Whole.{Known, headerOf}
+use Rattle.reader.specs.Calls.{answer, answerOf, Named}
 use Rattle.reader.specs.declared.Reading.{Reading}
 
 -- what is promised of the answer, and of the text where signer and reference are put
@@ -21,30 +21,24 @@ judged-refused s names r number place j e = (e ∙ ap answerOf (sym j), subst (�
 -- the answer on a seal whose fields, rows and signature were read
 abbrev pub answered : Fields → Dated → ℕ → ℕ → ℕ → ℕ → ℕ → ℕ → Reading
 answered f d count header-end message-end seal-end start size =
-    record {
-      number = 0;
-      place = 0;
-      header = record { version = f .version; country = f .country; length = f .names .length; issued = d .issued; signed = d .signed; definition = d .definition; category = d .category };
-      ends = record { header = header-end; message = message-end; seal = seal-end };
-      signature = record { place = start; length = size };
-      count = count;
-    }
+    answer
+    (record { version = f .version; country = f .country; length = f .names .length; issued = d .issued; signed = d .signed; definition = d .definition; category = d .category })
+    (record { header = header-end; message = message-end; seal = seal-end })
+    (record { place = start; length = size })
+    count
 
 module _ (s names : List ℕ) (f : Fields) (d : Dated) (rows : List Row) (p1 p2 start size count : ℕ) where
   abbrev report : Report
   report = record { header = headerOf f d; rows = rows; header-end = p1; message-end = p2; seal-end = length s; signature-place = start; signature-size = size }
 
-  pub judged-accepted : judge s ≡ accepted report → Known f → count ≡ length rows → f .names .names .signer ≡ take 4 names → f .names .names .reference ≡ take (f .names .length) (drop 4 names) → Judged s (answered f d count p1 p2 (length s) start size) names
-  judged-accepted j known counts signer reference =
+  pub judged-accepted : (r : Reading) → r ≡ answered f d count p1 p2 (length s) start size → judge s ≡ accepted report → Known f → count ≡ length rows → f .names .names .signer ≡ take 4 names → f .names .names .reference ≡ take (f .names .length) (drop 4 names) → Judged s r names
+  judged-accepted r e j known counts signer reference =
       let same : answered f d count p1 p2 (length s) start size ≡ answerOf (accepted report) =
-      λ i. record {
-        number = 0;
-        place = 0;
-        header = record { version = known .0 i; country = f .country; length = known .1 i; issued = d .issued; signed = d .signed; definition = d .definition; category = d .category };
-        ends = record { header = p1; message = p2; seal = length s };
-        signature = record { place = start; length = size };
-        count = counts i;
-      } in
+      λ i. answer
+      (record { version = known .0 i; country = f .country; length = known .1 i; issued = d .issued; signed = d .signed; definition = d .definition; category = d .category })
+      (record { header = p1; message = p2; seal = length s })
+      (record { place = start; length = size })
+      (counts i) in
       let named : Named (accepted report) names =
       ap (λ n. take (4 + n) names) (sym (known .1)) ∙ take-add 4 (f .names .length) names ∙ ap₂ _++_ (sym signer) (sym reference) in
-      (same ∙ ap answerOf (sym j), subst (λ v. Named v names) (sym j) named)
+      (e ∙ same ∙ ap answerOf (sym j), subst (λ v. Named v names) (sym j) named)

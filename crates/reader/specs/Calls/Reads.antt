@@ -25,8 +25,8 @@ use Rattle.verdict.specs.Judge.Numbers.{FromList, from-list}
 use Rattle.verdict.specs.Judge.Complete.{reportOf}
 use Rattle.verdict.specs.Judge.Features.{rowsOf}
 use Rattle.verdict.specs.Judge.Sound.{verdict-read, unaccepted}
-use Rattle.reader.specs.Steps.Rows.{rowsAt, rowsRead, AreRead}
-use Rattle.reader.specs.Steps.RowsLaws.{rows-there, rows-are}
+use Rattle.reader.specs.Rows.{rowsAt, rowsRead, AreRead}
+use Rattle.reader.specs.Rows.Laws.{rows-there, rows-are}
 use Rattle.reader.specs.Calls.{answerOf, table, text, given, reading, rowsIn, textIn, then, Named}
 use Rattle.verdict.specs.Judge.Seals.{accepted-only}
 use Rattle.reader.specs.declared.Reading.{Reading}

@@ -17,7 +17,7 @@ returns : tie.Need-returns
 returns c = ap (λ n. whyOf (namesOf [] n)) (sym (c .enum-told .given .1))
 
 returns-2 : tie.Need-returns-2
-returns-2 c = search needs
+returns-2 c = sym (ap (λ n. whyOf (namesOf [] n)) (c .before .self .given .1))
 
 pub why-spec : {M : Type 1} → statement M
 why-spec = tie.close (tie.spec enum-told enum-known-self returns returns-2)

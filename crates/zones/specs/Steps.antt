@@ -1,0 +1,66 @@
+-- The reading in the steps that the code takes, and what each case of their answers means: the fields before the dates, those after, the features, the signature.
+-- Assumes nothing.
+pub mod Laws
+pub mod Whole
+use Prim.Native.Nat.{ℕ}
+use mathlib.Core.List.{List}
+use lib.ListN.{take, drop}
+use Rattle.dates.specs.declared.Date.{Date}
+use Rattle.verdict.specs.Items.{Item, is, not, next, mark, version, country, names, date, last}
+use Rattle.items.specs.Cases.{edition, Measured, measured}
+use Rattle.zones.specs.declared.fields.Front.{Front}
+use Rattle.zones.specs.declared.fields.Front.the-variants as front
+use Rattle.zones.specs.declared.fields.Rest.{Rest}
+use Rattle.zones.specs.declared.fields.Rest.the-variants as rest
+use Rattle.zones.specs.declared.features.Features.{Features}
+use Rattle.zones.specs.declared.features.Features.the-variants as features
+use Rattle.zones.specs.declared.signature.Signature.{Signature}
+use Rattle.zones.specs.declared.signature.Signature.the-variants as signature
+
+-- the fields up to the reference: the version as 3 or 4, and L beside the names
+pub record Fields : Type 0 where
+  pub version : ℕ
+  pub country : List ℕ
+  pub names : Measured
+
+-- the fields from the dates on
+pub record Dated : Type 0 where
+  pub issued : Date
+  pub signed : Date
+  pub definition : ℕ
+  pub category : ℕ
+
+unfoldable pub fields : List ℕ → Item Fields
+fields s =
+    next (mark 0 s)
+    (λ dc at. next (version at s)
+    (λ v at. next (country at s)
+    (λ c at. next (names v at s)
+    (λ n at. is (record { version = edition v; country = c; names = measured n }) at))))
+
+unfoldable pub dated : ℕ → List ℕ → Item Dated
+dated at s =
+    next (date at s)
+    (λ issued at. next (date at s)
+    (λ signed at. next (last at s)
+    (λ definition at. next (last at s)
+    (λ category at. is (record { issued = issued; signed = signed; definition = definition; category = category }) at))))
+
+-- country and names stand in lent buffers
+abbrev pub frontOf : List ℕ → List ℕ → Front → Item Fields
+frontOf code text (front.Is v size at) = is (record { version = v; country = code; names = record { length = size; names = record { signer = take 4 text; reference = take size (drop 4 text) } } }) (at .place)
+frontOf code text (front.Not why) = not (why .number) (why .place)
+
+abbrev pub restOf : Rest → Item Dated
+restOf (rest.Is issued signed definition category at) = is (record { issued = issued; signed = signed; definition = definition; category = category }) (at .place)
+restOf (rest.Not why) = not (why .number) (why .place)
+
+-- how many there are, at the place of FF
+abbrev pub featuresOf : Features → Item ℕ
+featuresOf (features.Are count at) = is count (at .place)
+featuresOf (features.Not why) = not (why .number) (why .place)
+
+-- its size, at the place where it starts
+abbrev pub signatureOf : Signature → Item ℕ
+signatureOf (signature.Is size at) = is size (at .place)
+signatureOf (signature.Not why) = not (why .number) (why .place)

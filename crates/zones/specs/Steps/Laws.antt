@@ -1,0 +1,133 @@
+-- The steps item by item, one law for each answer.
+-- Assumes nothing.
+use mathlib.Core.Path.{_≡_, refl, ap, ap₂, sym, _∙_}
+use mathlib.Core.Bool.{true, false}
+use Prim.Native.Nat.{ℕ, _+_, _≤_, _<_}
+use native.Mathlib.Omega.{arith}
+use borrow.Author.Tests.{lt-ltb, le-ltb}
+use mathlib.Core.List.{List}
+use lib.ListN.{length, take, drop}
+use Rattle.dates.specs.declared.Date.{Date}
+use Rattle.grammar.specs.Content.{Version}
+use Rattle.verdict.specs.Items.{Item, is, not, next, whole, mark, version, country, names, date, last, derLength}
+use Rattle.verdict.specs.Items.Laws.{unread}
+use Rattle.verdict.specs.Items.Sound.{same-value, same-place}
+use Rattle.items.specs.Cases.{through, edition, versionOf, Measured, measured}
+use Rattle.items.specs.Cases.Laws.{version-back, Past, judged}
+use Rattle.verdict.specs.Judge.{isSignature, signature, rawIn}
+use Rattle.zones.specs.Steps.{Fields, fields, dated}
+
+-- an item that is not read through a map is not read itself
+abbrev unreadOf : {A B : Type 0} → Item B → Item A
+unreadOf (is b at) = not 0 at
+unreadOf (not number place) = not number place
+
+pub through-unread : {A B : Type 0} (f : A → B) (i : Item A) (number place : ℕ) → not number place ≡ through f i → not number place ≡ i
+through-unread f (is a at) number place e = absurd (unread number place (f a) at e)
+through-unread f (not n p) number place e = ap unreadOf e
+
+-- a version that was read as a number
+version-read : (i : Item Version) (v at : ℕ) → is v at ≡ through edition i → is (versionOf v) at ≡ i
+version-read (is w p) v at e = ap₂ is (ap versionOf (same-value v (edition w) at p e) ∙ version-back w) (same-place v (edition w) at p e)
+version-read (not number place) v at e = absurd (unread number place v at (sym e))
+
+version-number : (i : Item Version) (v at : ℕ) → is v at ≡ through edition i → edition (versionOf v) ≡ v
+version-number (is w p) v at e =
+    let same = same-value v (edition w) at p e in
+    ap (λ n. edition (versionOf n)) same ∙ ap edition (version-back w) ∙ sym same
+version-number (not number place) v at e = absurd (unread number place v at (sym e))
+
+-- what follows an item that is seen through a map
+through-next : {A B C : Type 0} (f : A → B) (i : Item A) (k : B → ℕ → Item C) → next (through f i) k ≡ next i (λ a at. k (f a) at)
+through-next f (is a at) k = refl
+through-next f (not number place) k = refl
+
+-- the fields up to the reference
+module _ (s : List ℕ) where
+  pub fields-mark : (number place : ℕ) → not number place ≡ mark 0 s → not number place ≡ fields s
+  unfolding fields
+  fields-mark number place e0 = rw (sym e0) refl
+
+  module _ (p0 : ℕ) (e0 : is tt p0 ≡ mark 0 s) where
+    pub fields-version : (number place : ℕ) → not number place ≡ through edition (version p0 s) → not number place ≡ fields s
+    unfolding fields
+    fields-version number place e1 = rw (sym e0, sym (through-unread edition (version p0 s) number place e1)) refl
+
+    module _ (v p1 : ℕ) (e1 : is v p1 ≡ through edition (version p0 s)) where
+      read-version : version p0 s ≡ is (versionOf v) p1
+      read-version = sym (version-read (version p0 s) v p1 e1)
+
+      pub fields-country : (number place : ℕ) → not number place ≡ country p1 s → not number place ≡ fields s
+      unfolding fields
+      fields-country number place e2 = rw (sym e0, read-version, sym e2) refl
+
+      module _ (c : List ℕ) (p2 : ℕ) (e2 : is c p2 ≡ country p1 s) where
+        abbrev with-names : Measured → ℕ → Item Fields
+        with-names m at = is (record { version = edition (versionOf v); country = c; names = m }) at
+
+        after-country : next (through measured (names (versionOf v) p2 s)) with-names ≡ fields s
+        unfolding fields
+        after-country = rw (sym e0, read-version, sym e2) (through-next measured (names (versionOf v) p2 s) with-names)
+
+        pub fields-names : (number place : ℕ) → not number place ≡ through measured (names (versionOf v) p2 s) → not number place ≡ fields s
+        fields-names number place e3 = ap (λ i. next i with-names) e3 ∙ after-country
+
+        pub fields-all : (m : Measured) (p3 : ℕ) → is m p3 ≡ through measured (names (versionOf v) p2 s) → is (record { version = v; country = c; names = m }) p3 ≡ fields s
+        fields-all m p3 e3 =
+            ap (λ n. is (record { version = n; country = c; names = m }) p3) (sym (version-number (version p0 s) v p1 e1)) ∙ ap (λ i. next i with-names) e3 ∙ after-country
+
+-- the fields from the dates on
+module _ (s : List ℕ) (at : ℕ) where
+  pub dated-issued : (number place : ℕ) → not number place ≡ date at s → not number place ≡ dated at s
+  unfolding dated
+  dated-issued number place e0 = rw (sym e0) refl
+
+  module _ (issued : Date) (p0 : ℕ) (e0 : is issued p0 ≡ date at s) where
+    pub dated-signed : (number place : ℕ) → not number place ≡ date p0 s → not number place ≡ dated at s
+    unfolding dated
+    dated-signed number place e1 = rw (sym e0, sym e1) refl
+
+    module _ (signed : Date) (p1 : ℕ) (e1 : is signed p1 ≡ date p0 s) where
+      pub dated-definition : (number place : ℕ) → not number place ≡ last p1 s → not number place ≡ dated at s
+      unfolding dated
+      dated-definition number place e2 = rw (sym e0, sym e1, sym e2) refl
+
+      module _ (definition p2 : ℕ) (e2 : is definition p2 ≡ last p1 s) where
+        pub dated-category : (number place : ℕ) → not number place ≡ last p2 s → not number place ≡ dated at s
+        unfolding dated
+        dated-category number place e3 = rw (sym e0, sym e1, sym e2, sym e3) refl
+
+        pub dated-all : (category p3 : ℕ) → is category p3 ≡ last p2 s → is (record { issued = issued; signed = signed; definition = definition; category = category }) p3 ≡ dated at s
+        unfolding dated
+        dated-all category p3 e3 = rw (sym e0, sym e1, sym e2, sym e3) refl
+
+-- the signature
+module _ (s : List ℕ) (at : ℕ) where
+  pub signature-length : (number place : ℕ) → not number place ≡ derLength at s → not number place ≡ signature at s
+  unfolding signature
+  signature-length number place e0 = rw (sym e0) refl
+
+  module _ (n start : ℕ) (e0 : is n start ≡ derLength at s) where
+    pub signature-size : isSignature n ≡ false → not 10 at ≡ signature at s
+    unfolding signature
+    signature-size e1 = rw (sym e0, e1) refl
+
+    module _ (e1 : isSignature n ≡ true) where
+      pub signature-cut : not 2 start ≡ whole n start s (rawIn n start s) → not 2 start ≡ signature at s
+      unfolding signature
+      signature-cut e2 = rw (sym e0, e1, sym e2) refl
+
+      module _ (end : ℕ) (p : Past n start s end) where
+        pub signature-more : end < length s → not 11 end ≡ signature at s
+        unfolding signature
+        signature-more h =
+            let more : rawIn n start s (take n (drop start s)) ≡ not 11 (start + n) = rw (lt-ltb (start + n) (length s) (omega (arith, p .reached))) refl in
+            let read : whole n start s (rawIn n start s) ≡ not 11 (start + n) = judged n start s end (rawIn n start s) p ∙ more in
+            rw (sym e0, e1, read, p .reached) refl
+
+        pub signature-is : length s ≤ end → is n start ≡ signature at s
+        unfolding signature
+        signature-is h =
+            let all : rawIn n start s (take n (drop start s)) ≡ is n start = rw (le-ltb (start + n) (length s) (omega (arith, p .reached))) refl in
+            let read : whole n start s (rawIn n start s) ≡ is n start = judged n start s end (rawIn n start s) p ∙ all in
+            rw (sym e0, e1, read) refl

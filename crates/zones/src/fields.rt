@@ -1,0 +1,103 @@
+// The header, item by item from the left (document 01, Layout; Doc 9303-13, 2.2, Table 1).
+use dates::Date;
+ghost use mathlib.Core.Path.{_≡_};
+ghost use mathlib.Core.List.{[]};
+ghost use Rattle.items.specs.Cases.{whyOf};
+ghost use Rattle.zones.specs.Steps.{fields as fieldsIn, dated, frontOf, restOf};
+use items::Cursor;
+use items::Day;
+use items::Names;
+use items::Number;
+use items::Refusal;
+use items::Step;
+
+// The items up to the reference; country and names are in lent buffers.
+pub enum Front {
+    // the version, 3 or 4, and the reference's length
+    Is(usize, usize, Cursor),
+    Not(Refusal),
+}
+
+// The items from the dates on.
+pub enum Rest {
+    // issued, signed, definition, category
+    Is(Date, Date, usize, usize, Cursor),
+    Not(Refusal),
+}
+
+impl Front {
+    // Why it was not read.
+    pub fn why(self) -> Refusal
+        ensures { λ r. ⌜ r ≡ whyOf (frontOf [] [] self) ⌝ }
+    {
+        match self {
+            Front::Is(_, _, _) => Refusal {
+                number: 0,
+                place: 0,
+            },
+            Front::Not(why) => why,
+        }
+    }
+}
+
+impl Rest {
+    // Why it was not read.
+    pub fn why(self) -> Refusal
+        ensures { λ r. ⌜ r ≡ whyOf (restOf self) ⌝ }
+    {
+        match self {
+            Rest::Is(_, _, _, _, _) => Refusal {
+                number: 0,
+                place: 0,
+            },
+            Rest::Not(why) => why,
+        }
+    }
+}
+
+// DC, version, country, signer and reference.
+pub fn read_front(seal: &[u8], country: &mut [u8; 3], names: &mut [u8; 259]) -> Front
+    ensures { λ r. ⌜ frontOf (now (country .exit)) (now (names .exit)) r ≡ fieldsIn (now (seal .entry)) ⌝ }
+{
+    let start = Cursor { place: 0 };
+    let mark = start.mark(seal);
+    let Step::Past(at) = mark else {
+        return Front::Not(mark.refusal(3, start.place));
+    };
+    let version = at.version(seal);
+    let Number::Is(v, at2) = version else {
+        return Front::Not(version.refusal(4, at.place));
+    };
+    let code = at2.country(seal, country);
+    let Step::Past(at3) = code else {
+        return Front::Not(code.refusal(5, at2.place));
+    };
+    let read = at3.names(seal, v, names);
+    let Names::Are(size, next) = read else {
+        return Front::Not(read.why());
+    };
+    Front::Is(v, size, next)
+}
+
+// Issue date, signature date, definition reference, category.
+pub fn read_rest(at: Cursor, seal: &[u8]) -> Rest
+    ensures { λ r. ⌜ restOf r ≡ dated (at .place) (now (seal .entry)) ⌝ }
+{
+    let issued = at.date(seal);
+    let Day::Is(first, at2) = issued else {
+        return Rest::Not(issued.refusal(at.place));
+    };
+    let signed = at2.date(seal);
+    let Day::Is(second, at3) = signed else {
+        return Rest::Not(signed.refusal(at2.place));
+    };
+    let definition = at3.last(seal);
+    let Number::Is(d, at4) = definition else {
+        return Rest::Not(definition.refusal(7, at3.place));
+    };
+    let category = at4.last(seal);
+    let Number::Is(c, next) = category else {
+        return Rest::Not(category.refusal(7, at4.place));
+    };
+    Rest::Is(first, second, d, c, next)
+}
