@@ -1,5 +1,4 @@
--- What the contracts of casefile cite: scanning a line, building one, and what a line says of a buffer.
+-- What the contracts of casefile cite: building a line, and what a line says of a buffer.
 -- Assumes nothing.
-pub mod Scan
 pub mod Line
 pub mod Fill

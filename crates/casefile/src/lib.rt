@@ -1,7 +1,6 @@
 // What the programs share that run the cases of a data file: a case is a line of text, and so is its answer.
 mod fill;
 mod line;
-mod scan;
 
 pub use fill::Answer;
 pub use fill::MOST;

@@ -1,8 +1,8 @@
 -- What numbers and bytes are put down as, in the turns of the loops that do it.
 -- Assumes nothing.
-use Prim.Native.Nat.{ℕ, zero, suc, _+_, _*_, _-_, _/_, _%_, _<_}
+use Prim.Native.Nat.{ℕ, suc, _+_, _*_, _-_, _/_, _%_, _<_}
 use native.Mathlib.Omega.{arith}
-use native.Mathlib.Nat.{not-suc-le-zero, le-of-suc-le-suc, suc-mul}
+use native.Mathlib.Nat.{suc-mul}
 use mathlib.Core.Path.{_≡_, refl, ap}
 use mathlib.Core.List.{List, [], _∷_, _++_, append-assoc, append-nil}
 use native.Mathlib.Numerals.{add-one}
@@ -10,12 +10,6 @@ use lib.ListN.{length, getD, take, drop, length-drop}
 use lib.Seq.{take-all, take-suc, drop-cons}
 pub use Rattle.lines.specs.Line.Laws.{within-more, counts, put-none, put-more}
 use Rattle.casefile.specs.Line.{Put, decimalOf, wordsOf, digitOf, hexOf, weighted}
-
--- an element that is there does not depend on what stands for one that is not
-pub there : (l : List ℕ) (i d e : ℕ) → i < length l → getD l i d ≡ getD l i e
-there [] i d e h = absurd (not-suc-le-zero h)
-there (x ∷ l) zero d e h = refl
-there (x ∷ l) (suc i) d e h = there l i d e (le-of-suc-le-suc h)
 
 -- what is left from a place on, up to the end
 pub to-end : (s : List ℕ) (k : ℕ) → take (length s - k) (drop k s) ≡ drop k s

@@ -1,13 +1,13 @@
--- `casefile::scan::line_end` meets its contract. The loop's invariant: no newline stands before `i`.
+-- `scan::line_end` meets its contract. The loop's invariant: no newline stands before `i`.
 -- Assumes nothing.
 use native.Mathlib.Omega.{arith}
 use mathlib.Core.Path.{_≡_}
 use Prim.Native.Nat.{ℕ, _-_, _≤_, _<_}
 use borrow.Author.Count.{below-more}
 use lib.ListN.{length, getD}
-use Rattle.casefile.specs.Line.{Within}
-use Rattle.casefile.proofs.scan.line_end.Statement.{statement}
-use Rattle.casefile.proofs.scan.line_end.Tie as tie
+use Rattle.lines.specs.Line.{Within}
+use Rattle.scan.proofs.line_end.Statement.{statement}
+use Rattle.scan.proofs.line_end.Tie as tie
 
 abbrev Inv-loop : tie.InvT-loop
 Inv-loop s from i₀ i = (from ≤ i) × Within s from i × ((k : ℕ) → k < i → from ≤ k → getD s k 0 ≡ 10 → ⊥)

@@ -3,6 +3,7 @@
 use Prim.Native.Nat.{ℕ, zero, suc, _+_, _*_, _-_, _≤_, _<_}
 use native.Mathlib.Omega.{arith}
 use native.Mathlib.Decide.{decLe}
+use native.Mathlib.Nat.{not-suc-le-zero, le-of-suc-le-suc}
 use borrow.Author.Count.{below-more}
 use borrow.Author.Tests.{lt-ltb, le-ltb, le-leb, lt-leb, eq-eqb, ne-eqb}
 use mathlib.Core.Path.{_≡_, refl, ap, sym, _∙_}
@@ -12,9 +13,15 @@ use mathlib.Core.List.{List, [], _∷_, _++_, append-assoc, append-nil}
 use lib.ListN.{length, getD, drop, length-append, drop-of-length-le, List·getD-eq-default}
 use lib.Seq.{drop-cons}
 use native.Mathlib.Numerals.{add-one}
-use Rattle.casefile.specs.Line.{Put}
-use Rattle.casefile.specs.Line.Laws.{there, put-more}
-use Rattle.casefile.specs.Scan.{Numeral, valueOf, HexDigit, hexValue, pairsOf, pairsAt, pairsEnd, goesOn, numberOf, widthOf, numberAt, numberEnd, times, runAt, runEnd, someRuns, runsAt}
+use Rattle.lines.specs.Line.{Put}
+use Rattle.lines.specs.Line.Laws.{put-more}
+use Rattle.scan.specs.Scan.{Numeral, valueOf, HexDigit, hexValue, pairsOf, pairsAt, pairsEnd, goesOn, numberOf, widthOf, numberAt, numberEnd, times, runAt, runEnd, someRuns, runsAt}
+
+-- an element that is there does not depend on what stands for one that is not
+pub there : (l : List ℕ) (i d e : ℕ) → i < length l → getD l i d ≡ getD l i e
+there [] i d e h = absurd (not-suc-le-zero h)
+there (x ∷ l) zero d e h = refl
+there (x ∷ l) (suc i) d e h = there l i d e (le-of-suc-le-suc h)
 
 pub numeral-none : (s : List ℕ) (from : ℕ) → Numeral s from 0 from
 unfolding valueOf

@@ -1,11 +1,11 @@
--- `casefile::scan::take_run` meets its contract: pairs and a count, or pairs alone.
+-- `scan::take_run` meets its contract: pairs and a count, or pairs alone.
 -- Assumes nothing.
 use borrow.Author.Needs.{needs}
 use native.Mathlib.Omega.{arith}
 use denote.Ref.{now}
-use Rattle.casefile.specs.Scan.Laws.{run-counted, run-other, run-ended}
-use Rattle.casefile.proofs.scan.take_run.Statement.{statement}
-use Rattle.casefile.proofs.scan.take_run.Tie as tie
+use Rattle.scan.specs.Scan.Laws.{run-counted, run-other, run-ended}
+use Rattle.scan.proofs.take_run.Statement.{statement}
+use Rattle.scan.proofs.take_run.Tie as tie
 
 take-pairs-requires : tie.Need-take-pairs-requires
 take-pairs-requires c κs = search needs

@@ -1,11 +1,11 @@
--- `casefile::scan::at` meets its contract.
+-- `scan::at` meets its contract.
 -- Assumes nothing.
 use borrow.Author.Needs.{needs}
 use mathlib.Core.Path.{sym}
 use lib.ListN.{List·getD-eq-default}
-use Rattle.casefile.specs.Line.Laws.{there}
-use Rattle.casefile.proofs.scan.at.Statement.{statement}
-use Rattle.casefile.proofs.scan.at.Tie as tie
+use Rattle.scan.specs.Scan.Laws.{there}
+use Rattle.scan.proofs.at.Statement.{statement}
+use Rattle.scan.proofs.at.Tie as tie
 
 shared-slice-read-result : tie.Need-shared-slice-read-result
 shared-slice-read-result c = search needs

@@ -7,7 +7,7 @@ use mathlib.Core.Bool.{Bool, false, cond}
 use mathlib.Core.List.{List, [], _∷_, _++_}
 use lib.Dec.{ltb, leb, eqb}
 use lib.ListN.{length, getD, drop}
-use Rattle.casefile.specs.Line.{Within}
+use Rattle.lines.specs.Line.{Within}
 
 -- `end` is the first newline at or after `from`, or the end of s where there is none
 pub record LineEnd (s : List ℕ) (from end : ℕ) : Type 0 where

@@ -1,17 +1,17 @@
--- `casefile::scan::take_pairs` meets its contract. The loop's invariant: the pairs before `i` are put down.
+-- `scan::take_pairs` meets its contract. The loop's invariant: the pairs before `i` are put down.
 -- Assumes nothing.
 use borrow.Author.Needs.{needs}
 use native.Mathlib.Omega.{arith}
 use mathlib.Core.Path.{_≡_, refl, _∙_}
 use Prim.Native.Nat.{ℕ, _-_}
-use mathlib.Core.List.{List, [], _∷_, _++_}
+use mathlib.Core.List.{List, []}
 use denote.Ref.{now}
 use lib.ListN.{length}
-use Rattle.casefile.specs.Line.{Put}
-use Rattle.casefile.specs.Line.Laws.{put-none, put-more}
-use Rattle.casefile.specs.Scan.Laws.{PairsTo, pairs-none, pairs-past, pairs-no-high, pairs-no-low, pairs-more, pairs-turn, pairs-done, digit-at}
-use Rattle.casefile.proofs.scan.take_pairs.Statement.{statement}
-use Rattle.casefile.proofs.scan.take_pairs.Tie as tie
+use Rattle.lines.specs.Line.{Put}
+use Rattle.lines.specs.Line.Laws.{put-none, put-more}
+use Rattle.scan.specs.Scan.Laws.{PairsTo, pairs-none, pairs-past, pairs-no-high, pairs-no-low, pairs-more, pairs-turn, pairs-done, digit-at}
+use Rattle.scan.proofs.take_pairs.Statement.{statement}
+use Rattle.scan.proofs.take_pairs.Tie as tie
 
 abbrev Inv-loop : tie.InvT-loop
 Inv-loop s from out₀ to i₀ o₀ out i o = (length out ≡ length out₀) × (bytes : List ℕ) × PairsTo s from i bytes × Put out₀ to bytes out o

@@ -2,8 +2,8 @@
 ghost use mathlib.Core.Path.{_≡_};
 ghost use Prim.Native.Nat.{_-_};
 ghost use lib.ListN.{getD};
-ghost use Rattle.casefile.specs.Line.{Put, Counts};
-ghost use Rattle.casefile.specs.Scan.{LineEnd, Numeral, numberAt, numberEnd, HexDigit, pairsAt, pairsEnd, times, runAt, runEnd, runsAt};
+ghost use Rattle.lines.specs.Line.{Put, Counts};
+ghost use Rattle.scan.specs.Scan.{LineEnd, Numeral, numberAt, numberEnd, HexDigit, pairsAt, pairsEnd, times, runAt, runEnd, runsAt};
 use lines::put;
 use octets::wide;
 

@@ -1,17 +1,16 @@
--- `casefile::scan::repeat` meets its contract. The loop's invariant: the pairs are put down k - 1 times.
+-- `scan::repeat` meets its contract. The loop's invariant: the pairs are put down k - 1 times.
 -- Assumes nothing.
 use borrow.Author.Needs.{needs}
 use native.Mathlib.Omega.{arith}
 use mathlib.Core.Path.{_≡_, refl, _∙_}
 use Prim.Native.Nat.{_-_, _≤_}
-use denote.Ref.{now}
 use lib.ListN.{length}
-use Rattle.casefile.specs.Line.{Put}
-use Rattle.casefile.specs.Line.Laws.{put-none}
-use Rattle.casefile.specs.Scan.{times, pairsAt}
-use Rattle.casefile.specs.Scan.Laws.{times-turn, times-done}
-use Rattle.casefile.proofs.scan.repeat.Statement.{statement}
-use Rattle.casefile.proofs.scan.repeat.Tie as tie
+use Rattle.lines.specs.Line.{Put}
+use Rattle.lines.specs.Line.Laws.{put-none}
+use Rattle.scan.specs.Scan.{times, pairsAt}
+use Rattle.scan.specs.Scan.Laws.{times-turn, times-done}
+use Rattle.scan.proofs.repeat.Statement.{statement}
+use Rattle.scan.proofs.repeat.Tie as tie
 
 abbrev Inv-loop : tie.InvT-loop
 Inv-loop s from count out₀ to k₀ o₀ out k o = (length out ≡ length out₀) × (1 ≤ k) × (k - 1 ≤ count - 1) × Put out₀ to (times (k - 1) (pairsAt s from)) out o

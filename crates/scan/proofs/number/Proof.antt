@@ -1,13 +1,13 @@
--- `casefile::scan::number` meets its contract. The loop's invariant: the digits before `i` stand for `value`.
+-- `scan::number` meets its contract. The loop's invariant: the digits before `i` stand for `value`.
 -- Assumes nothing.
 use borrow.Author.Needs.{needs}
 use native.Mathlib.Omega.{arith}
 use Prim.Native.Nat.{_-_, _<_}
 use lib.ListN.{length}
-use Rattle.casefile.specs.Scan.{Numeral}
-use Rattle.casefile.specs.Scan.Laws.{NumberTo, numeral-none, numeral-more, number-start, number-past, number-low, number-high, number-large, number-go}
-use Rattle.casefile.proofs.scan.number.Statement.{statement}
-use Rattle.casefile.proofs.scan.number.Tie as tie
+use Rattle.scan.specs.Scan.{Numeral}
+use Rattle.scan.specs.Scan.Laws.{NumberTo, numeral-none, numeral-more, number-start, number-past, number-low, number-high, number-large, number-go}
+use Rattle.scan.proofs.number.Statement.{statement}
+use Rattle.scan.proofs.number.Tie as tie
 
 abbrev Inv-loop : tie.InvT-loop
 Inv-loop s from i₀ value₀ i value = (value < 9223372036854775810) × Numeral s from value i × NumberTo s from value i

@@ -1,4 +1,4 @@
--- `casefile::scan::runs` meets its contract. The loop's invariant: the runs before `i` are put down.
+-- `scan::runs` meets its contract. The loop's invariant: the runs before `i` are put down.
 -- Assumes nothing.
 use borrow.Author.Needs.{needs}
 use native.Mathlib.Omega.{arith}
@@ -7,11 +7,11 @@ use Prim.Native.Nat.{ℕ, _+_, _-_, _≤_}
 use mathlib.Core.List.{List, []}
 use denote.Ref.{now}
 use lib.ListN.{length}
-use Rattle.casefile.specs.Line.{Put}
-use Rattle.casefile.specs.Line.Laws.{counts, put-none, put-more}
-use Rattle.casefile.specs.Scan.Laws.{RunsTo, run-on, runs-start, runs-other, runs-ended, runs-go}
-use Rattle.casefile.proofs.scan.runs.Statement.{statement}
-use Rattle.casefile.proofs.scan.runs.Tie as tie
+use Rattle.lines.specs.Line.{Put}
+use Rattle.lines.specs.Line.Laws.{counts, put-none, put-more}
+use Rattle.scan.specs.Scan.Laws.{RunsTo, run-on, runs-start, runs-other, runs-ended, runs-go}
+use Rattle.scan.proofs.runs.Statement.{statement}
+use Rattle.scan.proofs.runs.Tie as tie
 
 abbrev Inv-loop : tie.InvT-loop
 Inv-loop s from out₀ i₀ to₀ out i to = (length out ≡ length out₀) × (to ≤ length out₀) × (bytes : List ℕ) × RunsTo s from i bytes × Put out₀ 0 bytes out to
