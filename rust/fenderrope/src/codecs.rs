@@ -1,0 +1,60 @@
+//! C40 text and single DER INTEGERs.
+
+use crate::face;
+use crate::refusal::Refusal;
+
+/// Text from C40 bytes, from the start of `out`; gives how many characters were written.
+///
+/// Refusals, in order: 45 over 4,096 bytes; 40 odd in number, place their length; 41 pair wrongly coded, place the
+/// first such pair's first byte; 42 no room for the text.
+///
+/// ```
+/// let mut text = [0; 12];
+/// let count = fenderrope::c40_read(&[0xDE, 0x51, 0x58, 0x26], &mut text)?;
+/// assert_eq!(&text[..count], b"VISA01");
+/// # Ok::<(), fenderrope::Refusal>(())
+/// ```
+pub fn c40_read(bytes: &[u8], out: &mut [u8]) -> Result<usize, Refusal> {
+    Refusal::unless_filled(face::c40_read(bytes, out))
+}
+
+/// C40 bytes from text (space, `0` to `9`, `A` to `Z`), from the start of `out`; gives how many bytes were written.
+///
+/// Refusals, in order: 45 over 6,144 characters; 43 character that is not in the chart, place the first one's index; 44
+/// no room for the bytes.
+///
+/// ```
+/// let mut bytes = [0; 8];
+/// let count = fenderrope::c40_write(b"XKCD", &mut bytes)?;
+/// assert_eq!(bytes[..count], [0xEB, 0x11, 0xFE, 0x45]);
+/// let refusal = fenderrope::c40_write(b"XKcd", &mut bytes).unwrap_err();
+/// assert_eq!((refusal.number, refusal.place), (43, 2));
+/// # Ok::<(), fenderrope::Refusal>(())
+/// ```
+pub fn c40_write(text: &[u8], out: &mut [u8]) -> Result<usize, Refusal> {
+    Refusal::unless_filled(face::c40_write(text, out))
+}
+
+/// The value of one whole DER INTEGER; 65 where the bytes are not one of 1 to 8 content bytes.
+///
+/// ```
+/// assert_eq!(fenderrope::integer_read(&[0x02, 0x02, 0xFF, 0x7F]), Ok(-129));
+/// assert_eq!(fenderrope::integer_read(&[0x02, 0x02, 0x00, 0x7F]).unwrap_err().number, 65);
+/// ```
+pub fn integer_read(bytes: &[u8]) -> Result<i64, Refusal> {
+    let answer = face::integer_read(bytes);
+    Refusal::unless(answer.number, answer.place, answer.value)
+}
+
+/// The DER INTEGER of a value, 3 to 10 bytes from the start of `out`; gives how many were written; 63 where there is no
+/// room.
+///
+/// ```
+/// let mut bytes = [0; fenderrope::INTEGER_MOST];
+/// let count = fenderrope::integer_write(-25357, &mut bytes)?;
+/// assert_eq!(bytes[..count], [0x02, 0x02, 0x9C, 0xF3]);
+/// # Ok::<(), fenderrope::Refusal>(())
+/// ```
+pub fn integer_write(value: i64, out: &mut [u8]) -> Result<usize, Refusal> {
+    Refusal::unless_filled(face::integer_write(value, out))
+}

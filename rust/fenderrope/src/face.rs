@@ -1,0 +1,115 @@
+//! The calls of include/fenderrope.h, each as one safe function. No other module of this crate may hold unsafe code.
+//!
+//! Why each `unsafe` is sound: a slice's pointer is never null and is good for its length, what is lent for writing
+//! overlaps nothing else that is lent (the borrow checker sees to both), every pointer and length below comes from one
+//! slice, and the library is proved to keep inside the lengths, to keep no pointer, and to answer every input.
+
+use crate::layout::{Date, Dated, Filled, Hashed, Header, Integer, Numbered, Reading};
+
+extern "C" {
+    fn fr_read(
+        seal: *const u8,
+        seal_length: usize,
+        table: *mut usize,
+        table_length: usize,
+        text: *mut u8,
+        text_length: usize,
+    ) -> Reading;
+    fn fr_judge(seal: *const u8, seal_length: usize) -> Reading;
+    fn fr_write(
+        header: Header,
+        text: *const u8,
+        text_length: usize,
+        rows: *const usize,
+        rows_length: usize,
+        values: *const u8,
+        values_length: usize,
+        signature: *const u8,
+        signature_length: usize,
+        out: *mut u8,
+        out_length: usize,
+    ) -> Filled;
+    fn fr_c40_read(bytes: *const u8, bytes_length: usize, out: *mut u8, out_length: usize) -> Filled;
+    fn fr_c40_write(text: *const u8, text_length: usize, out: *mut u8, out_length: usize) -> Filled;
+    fn fr_date_from_number(number: usize) -> Dated;
+    fn fr_date_to_number(date: Date) -> Numbered;
+    fn fr_integer_read(bytes: *const u8, bytes_length: usize) -> Integer;
+    fn fr_integer_write(value: i64, out: *mut u8, out_length: usize) -> Filled;
+    fn fr_signature_to_der(n: usize, raw: *const u8, raw_length: usize, out: *mut u8, out_length: usize) -> Filled;
+    fn fr_signature_to_raw(n: usize, der: *const u8, der_length: usize, out: *mut u8, out_length: usize) -> Filled;
+    fn fr_hash(n: usize) -> Hashed;
+}
+
+/// Reads a seal; see [`crate::read`].
+pub fn read(seal: &[u8], table: &mut [usize], text: &mut [u8]) -> Reading {
+    unsafe { fr_read(seal.as_ptr(), seal.len(), table.as_mut_ptr(), table.len(), text.as_mut_ptr(), text.len()) }
+}
+
+/// The verdict on a seal; see [`crate::judge`].
+pub fn judge(seal: &[u8]) -> Reading {
+    unsafe { fr_judge(seal.as_ptr(), seal.len()) }
+}
+
+/// Writes a seal; see [`crate::write`].
+pub fn write(header: &Header, text: &[u8], rows: &[usize], values: &[u8], signature: &[u8], out: &mut [u8]) -> Filled {
+    unsafe {
+        fr_write(
+            *header,
+            text.as_ptr(),
+            text.len(),
+            rows.as_ptr(),
+            rows.len(),
+            values.as_ptr(),
+            values.len(),
+            signature.as_ptr(),
+            signature.len(),
+            out.as_mut_ptr(),
+            out.len(),
+        )
+    }
+}
+
+/// Text from C40 bytes; see [`crate::c40_read`].
+pub fn c40_read(bytes: &[u8], out: &mut [u8]) -> Filled {
+    unsafe { fr_c40_read(bytes.as_ptr(), bytes.len(), out.as_mut_ptr(), out.len()) }
+}
+
+/// C40 bytes from text; see [`crate::c40_write`].
+pub fn c40_write(text: &[u8], out: &mut [u8]) -> Filled {
+    unsafe { fr_c40_write(text.as_ptr(), text.len(), out.as_mut_ptr(), out.len()) }
+}
+
+/// A date from its number MMDDYYYY; see [`Date::from_number`].
+pub fn date_from_number(number: usize) -> Dated {
+    unsafe { fr_date_from_number(number) }
+}
+
+/// A date's number MMDDYYYY; see [`Date::number`].
+pub fn date_to_number(date: Date) -> Numbered {
+    unsafe { fr_date_to_number(date) }
+}
+
+/// The value of one whole DER INTEGER; see [`crate::integer_read`].
+pub fn integer_read(bytes: &[u8]) -> Integer {
+    unsafe { fr_integer_read(bytes.as_ptr(), bytes.len()) }
+}
+
+/// The DER INTEGER of a value; see [`crate::integer_write`].
+pub fn integer_write(value: i64, out: &mut [u8]) -> Filled {
+    unsafe { fr_integer_write(value, out.as_mut_ptr(), out.len()) }
+}
+
+/// A raw signature as DER; see [`crate::signature_to_der`].
+pub fn signature_to_der(n: usize, raw: &[u8], out: &mut [u8]) -> Filled {
+    unsafe { fr_signature_to_der(n, raw.as_ptr(), raw.len(), out.as_mut_ptr(), out.len()) }
+}
+
+/// A DER signature as raw bytes; see [`crate::signature_to_raw`].
+pub fn signature_to_raw(n: usize, der: &[u8], out: &mut [u8]) -> Filled {
+    unsafe { fr_signature_to_raw(n, der.as_ptr(), der.len(), out.as_mut_ptr(), out.len()) }
+}
+
+/// The hash that goes with size n; see [`crate::hash`].
+pub fn hash(n: usize) -> Hashed {
+    unsafe { fr_hash(n) }
+}

@@ -1,0 +1,163 @@
+//! The structs that pass between Rust and the proved library, laid out as include/fenderrope.h says.
+//!
+//! [`Date`], [`Header`], [`Ends`] and [`Part`] serve everywhere in this crate; the others are the answers of
+//! [`crate::plain`].
+
+use std::mem::{align_of, offset_of, size_of};
+
+/// A date: month 1 to 12, day 1 to 31, year 1 to 9999. A call refuses a date outside these.
+#[derive(Debug, Clone, Copy, PartialEq, Eq, Hash, Default)]
+#[repr(C)]
+pub struct Date {
+    /// 1 to 12.
+    pub month: usize,
+    /// 1 to 31.
+    pub day: usize,
+    /// 1 to 9999.
+    pub year: usize,
+}
+
+/// The header of a seal, as [`crate::read`] gives it and [`crate::write`] takes it.
+#[derive(Debug, Clone, Copy, PartialEq, Eq, Hash, Default)]
+#[repr(C)]
+pub struct Header {
+    /// 3 or 4.
+    pub version: usize,
+    /// Letters, filled on the right with `<`.
+    pub country: [u8; 3],
+    /// How many characters the certificate reference has; 5 in version 3.
+    pub length: usize,
+    /// The issue date.
+    pub issued_on: Date,
+    /// The signature date.
+    pub signed_on: Date,
+    /// The feature definition reference, 1 to 254.
+    pub definition: usize,
+    /// The document category, 1 to 254.
+    pub category: usize,
+}
+
+/// The ends of the three zones, each one past the zone's last byte.
+#[derive(Debug, Clone, Copy, PartialEq, Eq, Hash, Default)]
+#[repr(C)]
+pub struct Ends {
+    /// The first byte of the message.
+    pub header: usize,
+    /// The signed bytes are the seal's first `message` bytes.
+    pub message: usize,
+    /// The seal's length.
+    pub seal: usize,
+}
+
+/// A part of the seal: the place of its first byte, and how many bytes it has.
+#[derive(Debug, Clone, Copy, PartialEq, Eq, Hash, Default)]
+#[repr(C)]
+pub struct Part {
+    /// Its first byte.
+    pub place: usize,
+    /// How many bytes.
+    pub length: usize,
+}
+
+/// What a reading answers.
+#[derive(Debug, Clone, Copy, PartialEq, Eq, Hash, Default)]
+#[repr(C)]
+pub struct Reading {
+    /// 0 when done, else the refusal.
+    pub number: usize,
+    /// Where, on a refusal.
+    pub place: usize,
+    /// The header.
+    pub header: Header,
+    /// The ends of the zones.
+    pub ends: Ends,
+    /// The raw signature: r, then s.
+    pub signature: Part,
+    /// How many features there are.
+    pub count: usize,
+}
+
+/// What a call answers that fills a buffer.
+#[derive(Debug, Clone, Copy, PartialEq, Eq, Hash, Default)]
+#[repr(C)]
+pub struct Filled {
+    /// 0 when done, else the refusal.
+    pub number: usize,
+    /// Where, on a refusal.
+    pub place: usize,
+    /// How many bytes were written.
+    pub count: usize,
+}
+
+/// What a number answers that is asked for its date.
+#[derive(Debug, Clone, Copy, PartialEq, Eq, Hash, Default)]
+#[repr(C)]
+pub struct Dated {
+    /// 0 when done, else the refusal.
+    pub number: usize,
+    /// Where, on a refusal.
+    pub place: usize,
+    /// The date.
+    pub date: Date,
+}
+
+/// What a date answers that is asked for its number.
+#[derive(Debug, Clone, Copy, PartialEq, Eq, Hash, Default)]
+#[repr(C)]
+pub struct Numbered {
+    /// 0 when done, else the refusal.
+    pub number: usize,
+    /// Where, on a refusal.
+    pub place: usize,
+    /// MMDDYYYY.
+    pub value: usize,
+}
+
+/// What a DER INTEGER answers that is read.
+#[derive(Debug, Clone, Copy, PartialEq, Eq, Hash, Default)]
+#[repr(C)]
+pub struct Integer {
+    /// 0 when done, else the refusal.
+    pub number: usize,
+    /// Where, on a refusal.
+    pub place: usize,
+    /// The value.
+    pub value: i64,
+}
+
+/// The hash that goes with a size.
+#[derive(Debug, Clone, Copy, PartialEq, Eq, Hash, Default)]
+#[repr(C)]
+pub struct Hashed {
+    /// 0 when done, else the refusal.
+    pub number: usize,
+    /// Where, on a refusal.
+    pub place: usize,
+    /// 224, 256, 384 or 512: SHA-224, SHA-256, SHA-384 or SHA-512.
+    pub bits: usize,
+}
+
+/// Stops the build where a struct's size, alignment or offsets are not the numbers that the C test asserts of the
+/// header.
+macro_rules! laid_out {
+    ($name:ident: size $size:literal, align $align:literal, $($field:ident at $offset:literal),+) => {
+        const _: () = {
+            assert!(size_of::<$name>() == $size);
+            assert!(align_of::<$name>() == $align);
+            $(assert!(offset_of!($name, $field) == $offset);)+
+        };
+    };
+}
+
+laid_out!(Date: size 24, align 8, month at 0, day at 8, year at 16);
+laid_out!(Header: size 88, align 8, version at 0, country at 8, length at 16, issued_on at 24, signed_on at 48,
+    definition at 72, category at 80);
+laid_out!(Ends: size 24, align 8, header at 0, message at 8, seal at 16);
+laid_out!(Part: size 16, align 8, place at 0, length at 8);
+laid_out!(Reading: size 152, align 8, number at 0, place at 8, header at 16, ends at 104, signature at 128,
+    count at 144);
+laid_out!(Filled: size 24, align 8, number at 0, place at 8, count at 16);
+laid_out!(Dated: size 40, align 8, number at 0, place at 8, date at 16);
+laid_out!(Numbered: size 24, align 8, number at 0, place at 8, value at 16);
+laid_out!(Integer: size 24, align 8, number at 0, place at 8, value at 16);
+laid_out!(Hashed: size 24, align 8, number at 0, place at 8, bits at 16);

@@ -1,0 +1,85 @@
+//! Visible digital seals (ICAO Doc 9303-13) on visa stickers and lock tags, versions 3 and 4: read and written by a
+//! library that is proved, called from safe Rust.
+//!
+//! Every call takes every input. What is lent is slices; nothing is allocated. A call that is not done gives a
+//! [`Refusal`] with the number and the place, and no lent byte has changed. Signatures are carried and converted, not
+//! verified.
+//!
+//! Seal A of the tender, read, listed as the listing program lists it, and written back:
+//!
+//! ```
+//! use fenderrope::{read, write, Refusal, SEAL_MOST, TABLE_MOST, TEXT_MOST};
+//! use std::fmt::Write;
+//!
+//! let mut seal = b"\xDC\x02\xD9\xC5\xD9\xB7\x5E\x65\x19\xA6\x31\x9E\xF5\x31\x9E\xF5\x01\x02".to_vec();
+//! seal.extend([0x0A, 4, 0xDE, 0x51, 0x58, 0x26, 0xFF, 56]);
+//! seal.extend([0xAA; 56]);
+//!
+//! let (mut table, mut text) = ([0; TABLE_MOST], [0; TEXT_MOST]);
+//! let reading = read(&seal, &mut table, &mut text)?;
+//! let header = reading.header;
+//!
+//! let mut list = String::new();
+//! writeln!(list, "version {}", header.version)?;
+//! writeln!(list, "country {}", String::from_utf8_lossy(&header.country))?;
+//! let (signer, reference) = reading.names(&text).unwrap();
+//! writeln!(list, "signer {signer}\nreference {reference}")?;
+//! writeln!(list, "issued {}\nsigned {}", header.issued_on, header.signed_on)?;
+//! writeln!(list, "definition {}\ncategory {}", header.definition, header.category)?;
+//! for feature in reading.features(&table, &seal) {
+//!     writeln!(list, "feature {} at {} length {}", feature.tag, feature.place, feature.value.len())?;
+//! }
+//! writeln!(list, "signature at {} length {}", reading.signature.place, reading.signature.length)?;
+//! assert_eq!(
+//!     list.lines().collect::<Vec<_>>(),
+//!     [
+//!         "version 3",
+//!         "country UTO",
+//!         "signer UTAB",
+//!         "reference 00001",
+//!         "issued 1957-03-25",
+//!         "signed 1957-03-25",
+//!         "definition 1",
+//!         "category 2",
+//!         "feature 10 at 20 length 4",
+//!         "signature at 26 length 56",
+//!     ]
+//! );
+//!
+//! // The rows are over the seal's own bytes, so the seal serves as the values.
+//! let (rows, names) = (&table[..3 * reading.count], &text[..4 + header.length]);
+//! let signature = reading.signature.of(&seal).unwrap();
+//! let mut again = [0; SEAL_MOST];
+//! let length = write(&header, names, rows, &seal, signature, &mut again)?;
+//! assert_eq!(again[..length], seal);
+//!
+//! // One byte more is refused: 11, bytes after the signature, at 82.
+//! seal.push(0);
+//! assert_eq!(read(&seal, &mut table, &mut text), Err(Refusal { number: 11, place: 82 }));
+//! # Ok::<(), Box<dyn std::error::Error>>(())
+//! ```
+//!
+//! The library is `libfenderrope.a`: the build looks for it in the folder that `FENDERROPE_LIB_DIR` names, else in the
+//! repository's `target/lib`, where `make lib` puts it.
+
+// `forbid` could not be lifted for the one module that makes the calls, so it is `deny`, with `allow` on `face` alone.
+#![deny(unsafe_code)]
+#![warn(missing_docs)]
+
+mod codecs;
+mod dates;
+#[allow(unsafe_code)]
+mod face;
+mod layout;
+pub mod plain;
+mod refusal;
+mod seals;
+mod signatures;
+mod sizes;
+
+pub use codecs::{c40_read, c40_write, integer_read, integer_write};
+pub use layout::{Date, Ends, Header, Part};
+pub use refusal::Refusal;
+pub use seals::{judge, read, write, Feature, Reading};
+pub use signatures::{hash, signature_to_der, signature_to_raw, Hash};
+pub use sizes::*;

@@ -1,0 +1,77 @@
+//! The proved library against `reference`, an independent reading of the same document, on drawn inputs: number, place,
+//! every field and every lent byte are the same each time, and nothing outside of what was lent is touched.
+//!
+//! FR_INPUTS is how many inputs are drawn, two million if it is not given; FR_SEED is the seed, 1 if it is not given.
+
+mod back;
+mod lent;
+mod library;
+mod show;
+mod types;
+mod wrapper;
+mod wrong;
+
+use std::env;
+use std::io::{stdout, Write};
+use std::time::Instant;
+
+use reference::inputs::{run, Call, Inputs, Outcome, Reference};
+use show::Counts;
+
+/// A program that is compared with the reference: its outcome, or what it did that no program may.
+type Program<'a> = (&'a str, &'a dyn Fn(&Call) -> Result<Outcome, String>);
+
+/// Every answer of the base but 64, which no input draws out: the content has 138 bytes at most.
+fn answers() -> impl Iterator<Item = usize> {
+    (0..=12).chain(20..=28).chain(40..=45).chain(60..=63).chain([65])
+}
+
+/// A number from the environment.
+fn setting(name: &str, otherwise: u64) -> u64 {
+    match env::var(name) {
+        Ok(value) => value.parse().unwrap_or_else(|_| panic!("{name} is not a number: {value}")),
+        Err(_) => otherwise,
+    }
+}
+
+/// Puts drawn calls to the programs and to the reference; how often each answer was given, or the first difference.
+fn compare(seed: u64, count: u64, programs: &[Program]) -> Result<Counts, String> {
+    let (mut inputs, mut counts) = (Inputs::new(seed), Counts::new());
+    for at in 0..count {
+        let call = inputs.next();
+        let expected = run(&Reference, &call);
+        let agreed = programs.iter().try_for_each(|program| agrees(program, &call, &expected));
+        let agreed = agreed.and_then(|()| back::back(&call, &expected));
+        agreed.map_err(|said| told(seed, at, &call, &said, &expected))?;
+        *counts.entry(expected.answer.told().0).or_default().entry(show::name(&call)).or_default() += 1;
+    }
+    Ok(counts)
+}
+
+/// Whether the program's outcome is the expected one; if not, what it said.
+fn agrees((name, program): &Program, call: &Call, expected: &Outcome) -> Result<(), String> {
+    match program(call) {
+        Ok(outcome) if outcome == *expected => Ok(()),
+        Ok(outcome) => Err(format!("{name} {}", show::outcome(&outcome))),
+        Err(fault) => Err(format!("{name} {fault}")),
+    }
+}
+
+/// A difference in full.
+fn told(seed: u64, at: u64, call: &Call, said: &str, expected: &Outcome) -> String {
+    let (given, expected) = (show::given(call), show::outcome(expected));
+    format!("difference at input {at} of seed {seed}\n{given}\n{said}\nreference {expected}")
+}
+
+#[test]
+fn the_library_answers_as_the_reference_does() {
+    let (seed, count) = (setting("FR_SEED", 1), setting("FR_INPUTS", 2_000_000));
+    let start = Instant::now();
+    let programs: [Program; 2] = [("library", &library::library), ("wrapper", &wrapper::wrapper)];
+    let counts = compare(seed, count, &programs).unwrap_or_else(|difference| panic!("{difference}"));
+    let seconds = start.elapsed().as_secs_f64();
+    // Straight to standard output, as the test harness keeps back what a passing test prints.
+    let table = format!("{count} inputs of seed {seed}, no difference, {seconds:.1} s\nanswer     times   by call\n");
+    stdout().write_all((table + &show::counts(&counts)).as_bytes()).expect("standard output");
+    assert!(counts.into_keys().eq(answers()), "not every answer of the base was given, or one that is none of its own");
+}

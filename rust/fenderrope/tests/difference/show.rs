@@ -1,0 +1,71 @@
+//! A call, an outcome and the counts, to be read by people.
+
+use std::collections::BTreeMap;
+
+use reference::inputs::{Call, Outcome};
+
+/// How often each call gave each number.
+pub type Counts = BTreeMap<usize, BTreeMap<&'static str, u64>>;
+
+/// The call's name.
+pub fn name(call: &Call) -> &'static str {
+    match call {
+        Call::Read { .. } => "read",
+        Call::Judge { .. } => "judge",
+        Call::Write { .. } => "write",
+        Call::C40Read { .. } => "c40_read",
+        Call::C40Write { .. } => "c40_write",
+        Call::DateFromNumber(_) => "date_from_number",
+        Call::DateToNumber(_) => "date_to_number",
+        Call::IntegerRead(_) => "integer_read",
+        Call::IntegerWrite(..) => "integer_write",
+        Call::ToDer { .. } => "signature_to_der",
+        Call::ToRaw { .. } => "signature_to_raw",
+        Call::Hash(_) => "hash",
+    }
+}
+
+fn hex(bytes: &[u8]) -> String {
+    bytes.iter().map(|byte| format!("{byte:02X}")).collect()
+}
+
+/// Everything given to a call, bytes in hexadecimal.
+pub fn given(call: &Call) -> String {
+    let given = match call {
+        Call::Read { seal, table_room, text_room } => {
+            format!("table room {table_room}, text room {text_room}\n  seal {}", hex(seal))
+        }
+        Call::Judge { seal } => format!("\n  seal {}", hex(seal)),
+        Call::Write { header, text, rows, values, signature, room } => format!(
+            "room {room}\n  {header:?}\n  text {}\n  rows {rows:X?}\n  values {}\n  signature {}",
+            hex(text),
+            hex(values),
+            hex(signature)
+        ),
+        Call::C40Read { bytes, room } => format!("room {room}\n  bytes {}", hex(bytes)),
+        Call::C40Write { text, room } => format!("room {room}\n  text {}", hex(text)),
+        Call::DateFromNumber(number) => format!("{number}"),
+        Call::DateToNumber(date) => format!("{date:?}"),
+        Call::IntegerRead(bytes) => format!("\n  bytes {}", hex(bytes)),
+        Call::IntegerWrite(value, room) => format!("{value}, room {room}"),
+        Call::ToDer { n, raw, room } => format!("n {n}, room {room}\n  raw {}", hex(raw)),
+        Call::ToRaw { n, der, room } => format!("n {n}, room {room}\n  der {}", hex(der)),
+        Call::Hash(n) => format!("{n}"),
+    };
+    format!("{} {given}", name(call))
+}
+
+/// An answer, and the lent memory after it.
+pub fn outcome(outcome: &Outcome) -> String {
+    let Outcome { answer, table, bytes } = outcome;
+    format!("{answer:?}\n  table {table:X?}\n  bytes {}", hex(bytes))
+}
+
+/// One line for each number: how often it was given, and by which calls.
+pub fn counts(counts: &Counts) -> String {
+    let line = |(number, by_call): (&usize, &BTreeMap<&str, u64>)| {
+        let calls: Vec<_> = by_call.iter().map(|(name, count)| format!("{name} {count}")).collect();
+        format!("{number:6} {:9}   {}\n", by_call.values().sum::<u64>(), calls.join(", "))
+    };
+    counts.iter().map(line).collect()
+}

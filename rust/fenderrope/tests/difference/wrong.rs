@@ -1,0 +1,82 @@
+//! The comparison notices: programs that answer as the reference does but for one fault.
+
+use reference::inputs::{run, Answer, Call, Outcome, Reference};
+use reference::{Date, Dated, Reading};
+
+use crate::compare;
+
+/// The reference's outcome, changed by the fault; the difference that the comparison tells must show `shown`.
+fn noticed(fault: impl Fn(&Call, &mut Outcome), shown: &str) {
+    let wrong = |call: &Call| {
+        let mut outcome = run(&Reference, call);
+        fault(call, &mut outcome);
+        Ok(outcome)
+    };
+    let difference = compare(1, 50_000, &[("wrong", &wrong)]).expect_err("a difference");
+    assert!(difference.starts_with("difference at input "), "{difference}");
+    assert!(difference.contains(shown), "`{shown}` is not in: {difference}");
+}
+
+#[test]
+fn no_fault_is_no_difference() {
+    let right = |call: &Call| Ok(run(&Reference, call));
+    assert_eq!(compare(1, 50_000, &[("right", &right)]).map(|counts| counts.len()), Ok(33));
+}
+
+#[test]
+fn day_32_is_noticed() {
+    let fault = |call: &Call, outcome: &mut Outcome| {
+        if let Call::DateFromNumber(number @ 1_320_001..=1_329_999) = call {
+            let date = Date { month: 1, day: 32, year: number % 10_000 };
+            outcome.answer = Answer::Dated(Dated { date, ..Dated::default() });
+        }
+    };
+    noticed(fault, "day: 32");
+}
+
+#[test]
+fn a_place_off_by_one_is_noticed() {
+    let fault = |_: &Call, outcome: &mut Outcome| {
+        if let Answer::Reading(reading) = &mut outcome.answer {
+            reading.place += usize::from(reading.number == 11);
+        }
+    };
+    noticed(fault, "number: 11");
+}
+
+#[test]
+fn exchanged_dates_are_noticed() {
+    let fault = |_: &Call, outcome: &mut Outcome| {
+        if let Answer::Reading(reading) = &mut outcome.answer {
+            std::mem::swap(&mut reading.header.issued_on, &mut reading.header.signed_on);
+        }
+    };
+    noticed(fault, "number: 0");
+}
+
+#[test]
+fn a_byte_changed_on_a_refusal_is_noticed() {
+    let fault = |_: &Call, outcome: &mut Outcome| {
+        if outcome.answer.told().0 != 0 {
+            outcome.bytes.iter_mut().take(1).for_each(|byte| *byte ^= 1);
+        }
+    };
+    noticed(fault, "bytes 5A");
+}
+
+#[test]
+fn a_number_changed_past_the_rows_is_noticed() {
+    let fault = |_: &Call, outcome: &mut Outcome| {
+        if let Answer::Reading(Reading { number: 0, count, .. }) = outcome.answer {
+            outcome.table.iter_mut().skip(3 * count).for_each(|one| *one = 0);
+        }
+    };
+    noticed(fault, "number: 0");
+}
+
+#[test]
+fn touched_memory_is_noticed() {
+    let wrong = |_: &Call| Err("memory was touched".to_string());
+    let difference = compare(1, 1, &[("wrong", &wrong)]).expect_err("a difference");
+    assert!(difference.contains("wrong memory was touched"), "{difference}");
+}

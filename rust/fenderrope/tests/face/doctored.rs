@@ -1,0 +1,116 @@
+//! The comparison notices: the real texts, each with one thing made wrong.
+
+use crate::{differences, header, header_text, rattle_text, rust_text, source};
+
+/// The text with one place changed; the place must stand there exactly once.
+fn with(text: &str, old: &str, new: &str) -> String {
+    assert_eq!(text.matches(old).count(), 1, "`{old}` stands once");
+    text.replace(old, new)
+}
+
+/// The header with one place changed is unlike the sources, and what is said of it names `named`.
+fn header_noticed(old: &str, new: &str, named: &str) {
+    let wrong = header::face(&with(&header_text(), old, new));
+    let found = differences(wrong, source::face(&rattle_text(), "Fr"));
+    assert!(found.iter().any(|line| line.contains(named)), "`{new}` for `{old}`: {found:?}");
+}
+
+/// The same for the Rattle sources.
+fn source_noticed(old: &str, new: &str, named: &str) {
+    let wrong = source::face(&with(&rattle_text(), old, new), "Fr");
+    let found = differences(header::face(&header_text()), wrong);
+    assert!(found.iter().any(|line| line.contains(named)), "`{new}` for `{old}`: {found:?}");
+}
+
+/// The same for this crate's declarations.
+fn rust_noticed(old: &str, new: &str, named: &str) {
+    let wrong = source::face(&with(&rust_text(), old, new), "");
+    let found = differences(header::face(&header_text()), wrong);
+    assert!(found.iter().any(|line| line.contains(named)), "`{new}` for `{old}`: {found:?}");
+}
+
+#[test]
+fn fields_in_the_header() {
+    header_noticed("size_t month;\n    size_t day;", "size_t day;\n    size_t month;", "date: ");
+    header_noticed(
+        "fr_date issued_on;\n    fr_date signed_on;",
+        "fr_date signed_on;\n    fr_date issued_on;",
+        "header: ",
+    );
+    header_noticed("country[3]", "country[4]", "header: ");
+    header_noticed("uint8_t country[3]", "uint16_t country[3]", "header: ");
+    header_noticed("size_t year;", "uint32_t year;", "date: ");
+    header_noticed("int64_t value;", "int32_t value;", "integer: ");
+    header_noticed("size_t bits;", "size_t width;", "hashed: ");
+    header_noticed("size_t bits;", "", "hashed: ");
+    header_noticed("fr_ends ends;", "fr_date ends;", "reading: ");
+    header_noticed("typedef struct fr_part", "typedef struct part", "missing");
+}
+
+#[test]
+fn calls_in_the_header() {
+    header_noticed("fr_hash(size_t n)", "fr_hashes(size_t n)", "fr_hash: ");
+    header_noticed("fr_hashed fr_hash(size_t n);", "", "fr_hash: ");
+    header_noticed(
+        "fr_hashed fr_hash(size_t n);",
+        "fr_hashed fr_hash(size_t n);\nfr_hashed fr_more(size_t n);",
+        "fr_more: ",
+    );
+    header_noticed("fr_hash(size_t n)", "fr_hash(uint32_t n)", "fr_hash: ");
+    header_noticed("fr_dated fr_date_from_number", "fr_numbered fr_date_from_number", "fr_date_from_number: ");
+    header_noticed("fr_c40_read(const uint8_t *bytes", "fr_c40_read(uint8_t *bytes", "fr_c40_read: ");
+    header_noticed("fr_judge(const uint8_t *seal, size_t seal_length)", "fr_judge(const uint8_t *seal)", "fr_judge: ");
+    header_noticed(
+        "fr_judge(const uint8_t *seal, size_t seal_length)",
+        "fr_judge(size_t seal_length, const uint8_t *seal)",
+        "fr_judge: ",
+    );
+    header_noticed(
+        "const size_t *rows, size_t rows_length, const uint8_t *values,",
+        "const uint8_t *values,",
+        "fr_write: ",
+    );
+    header_noticed("fr_write(fr_header header,", "fr_write(const fr_header *header,", "fr_write: ");
+}
+
+#[test]
+fn fields_in_the_sources() {
+    source_noticed("pub month: usize,\n    pub day: usize,", "pub day: usize,\n    pub month: usize,", "date: ");
+    source_noticed("pub country: [u8; 3],", "pub country: [u8; 4],", "header: ");
+    source_noticed("pub value: i64,", "pub value: usize,", "integer: ");
+    source_noticed("pub bits: usize,", "pub bits: u32,", "hashed: ");
+    source_noticed("#[repr(C)]\npub struct FrPart", "pub struct FrPart", "FrPart is not repr(C)");
+    source_noticed("pub struct FrEnds {", "pub struct FrBorders {", "borders: ");
+}
+
+#[test]
+fn calls_in_the_sources() {
+    source_noticed("fn fr_hash(n: usize)", "fn fr_hash(n: u32)", "fr_hash: ");
+    source_noticed("fn fr_hash(n: usize) -> FrHashed", "fn fr_hash(n: usize) -> FrFilled", "fr_hash: ");
+    source_noticed("#[no_mangle]\npub extern \"C\" fn fr_hash", "pub extern \"C\" fn fr_hash", "fr_hash is not");
+    source_noticed("pub extern \"C\" fn fr_hash", "pub fn fr_hash", "fr_hash: ");
+    source_noticed("fn fr_judge(seal: &[u8])", "fn fr_judge(seal: &mut [u8])", "fr_judge: ");
+    source_noticed("fn fr_judge(seal: &[u8])", "fn fr_judge(seal: &[usize])", "fr_judge: ");
+    source_noticed(
+        "fr_c40_write(text: &[u8], out: &mut [u8])",
+        "fr_c40_write(out: &mut [u8], text: &[u8])",
+        "fr_c40_write: ",
+    );
+    source_noticed("    rows: &[usize],\n    values: &[u8],", "    values: &[u8],\n    rows: &[usize],", "fr_write: ");
+}
+
+#[test]
+fn declarations_of_this_crate() {
+    rust_noticed("fn fr_hash(n: usize)", "fn fr_hash(n: u32)", "fr_hash: ");
+    rust_noticed(
+        "fn fr_judge(seal: *const u8, seal_length: usize)",
+        "fn fr_judge(seal_length: usize, seal: *const u8)",
+        "fr_judge: ",
+    );
+    rust_noticed(
+        "fn fr_date_to_number(date: Date) -> Numbered",
+        "fn fr_date_to_number(date: Date) -> Filled",
+        "fr_date_to_number: ",
+    );
+    rust_noticed("pub country: [u8; 3],", "pub country: [u8; 2],", "header: ");
+}

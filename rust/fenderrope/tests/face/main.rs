@@ -1,0 +1,104 @@
+//! The face in three texts: include/fenderrope.h, the Rattle sources of the calls, and this crate's declarations of
+//! them. They agree in every name, in the order and width of fields and parameters, and in what is lent for writing.
+//! The layout in memory is asserted where the structs stand, in src/layout.rs and in the C test, by the same numbers.
+
+mod doctored;
+mod header;
+mod layouts;
+mod model;
+mod source;
+mod tokens;
+
+use std::fs;
+use std::path::{Path, PathBuf};
+
+use model::Face;
+
+/// A file of the repository.
+fn in_repository(path: &str) -> PathBuf {
+    Path::new(env!("CARGO_MANIFEST_DIR")).join("../..").join(path)
+}
+
+fn text_of(path: &Path) -> String {
+    fs::read_to_string(path).unwrap_or_else(|error| panic!("{}: {error}", path.display()))
+}
+
+fn header_text() -> String {
+    text_of(&in_repository("include/fenderrope.h"))
+}
+
+/// All Rattle sources of the face, one after another.
+fn rattle_text() -> String {
+    let folder = in_repository("crates/capi/src");
+    let entries = fs::read_dir(&folder).unwrap_or_else(|error| panic!("{}: {error}", folder.display()));
+    let paths = entries.map(|entry| entry.expect("a folder that can be listed").path());
+    let mut sources: Vec<_> = paths.filter(|path| path.extension().is_some_and(|end| end == "rt")).collect();
+    sources.sort();
+    sources.iter().map(|path| text_of(path) + "\n").collect()
+}
+
+fn rust_text() -> String {
+    text_of(&in_repository("rust/fenderrope/src/layout.rs")) + &text_of(&in_repository("rust/fenderrope/src/face.rs"))
+}
+
+/// What two texts do not say alike; a text that is not understood is a difference too.
+fn differences(left: Result<Face, String>, right: Result<Face, String>) -> Vec<String> {
+    match (left, right) {
+        (Ok(left), Ok(right)) => left.differences(&right),
+        (left, right) => left.err().into_iter().chain(right.err()).collect(),
+    }
+}
+
+#[test]
+fn the_header_says_what_the_rattle_sources_say() {
+    let header = header::face(&header_text()).expect("a header that is understood");
+    assert_eq!((header.structs.len(), header.calls.len()), (10, 12));
+    let none: Vec<String> = Vec::new();
+    assert_eq!(differences(Ok(header), source::face(&rattle_text(), "Fr")), none);
+}
+
+#[test]
+fn this_crate_declares_what_the_header_says() {
+    let none: Vec<String> = Vec::new();
+    assert_eq!(differences(source::face(&rust_text(), ""), header::face(&header_text())), none);
+}
+
+#[test]
+fn the_sizes_are_those_of_the_header() {
+    let ours = [
+        ("FR_SEAL_MOST", fenderrope::SEAL_MOST),
+        ("FR_TEXT_MOST", fenderrope::TEXT_MOST),
+        ("FR_FEATURES_MOST", fenderrope::FEATURES_MOST),
+        ("FR_TABLE_MOST", fenderrope::TABLE_MOST),
+        ("FR_SIGNATURE_MOST", fenderrope::SIGNATURE_MOST),
+        ("FR_DER_MOST", fenderrope::DER_MOST),
+        ("FR_C40_MOST", fenderrope::C40_MOST),
+        ("FR_CHARACTERS_MOST", fenderrope::CHARACTERS_MOST),
+        ("FR_INTEGER_MOST", fenderrope::INTEGER_MOST),
+    ];
+    let ours = ours.map(|(name, size)| (name.to_string(), size));
+    assert_eq!(header::sizes(&header_text()), ours.into());
+}
+
+#[test]
+fn a_seal_is_read_through_these_declarations() {
+    let seal = seal_a();
+    let (mut table, mut text) = ([7; 5], [7; 11]);
+    let reading = fenderrope::plain::read(&seal, &mut table, &mut text);
+    let date = fenderrope::Date { month: 3, day: 25, year: 1957 };
+    assert_eq!((reading.number, reading.place, reading.count), (0, 0, 1));
+    assert_eq!((reading.header.version, reading.header.country, reading.header.length), (3, *b"UTO", 5));
+    assert_eq!((reading.header.issued_on, reading.header.signed_on), (date, date));
+    assert_eq!((reading.header.definition, reading.header.category), (1, 2));
+    assert_eq!((reading.ends.header, reading.ends.message, reading.ends.seal), (18, 24, 82));
+    assert_eq!((reading.signature.place, reading.signature.length), (26, 56));
+    assert_eq!((table, &text), ([10, 20, 4, 7, 7], b"UTAB00001\x07\x07"));
+}
+
+/// Seal A of the tender.
+fn seal_a() -> Vec<u8> {
+    let mut seal = b"\xDC\x02\xD9\xC5\xD9\xB7\x5E\x65\x19\xA6\x31\x9E\xF5\x31\x9E\xF5\x01\x02".to_vec();
+    seal.extend([0x0A, 4, 0xDE, 0x51, 0x58, 0x26, 0xFF, 56]);
+    seal.extend([0xAA; 56]);
+    seal
+}

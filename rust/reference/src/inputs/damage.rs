@@ -1,0 +1,223 @@
+//! Seals that are damaged: in one item, of which a wrong form is put in its place, or in their bytes.
+
+use super::forms;
+use super::random::Random;
+use super::seals::{join, Draft, Kind, Piece, LETTERS, LETTERS_AND_DIGITS};
+use crate::{c40, der, LONGEST_SEAL};
+
+/// The draft's bytes after so many damages. Items are damaged first, then bytes.
+pub(super) fn seal(random: &mut Random, draft: &Draft, times: usize) -> Vec<u8> {
+    let mut pieces = draft.pieces();
+    let in_items = (0..times).filter(|_| random.below(5) < 3).count();
+    for _ in 0..in_items {
+        item(random, draft, &mut pieces);
+    }
+    let mut seal = join(&pieces);
+    for _ in in_items..times {
+        bytes(random, &mut seal);
+    }
+    seal
+}
+
+/// One damage that knows nothing of items.
+fn bytes(random: &mut Random, seal: &mut Vec<u8>) {
+    let place = random.below(seal.len());
+    match random.below(16) {
+        0..=2 => seal.truncate(place),
+        3 => seal.truncate(random.below(101)),
+        4 => seal.truncate(seal.len().saturating_sub(random.within(1, 3))),
+        5 | 6 => {
+            let more = random.pick(&[1, 1, 1, 2, 3, 40, 57, 58]);
+            seal.extend(random.bytes(more));
+        }
+        7 => lengthen(random, seal),
+        8 => {
+            let tail = random.below(80);
+            seal.truncate(place);
+            seal.extend(random.bytes(tail));
+        }
+        9 | 10 => seal.insert(place, random.byte()),
+        11 | 12 if !seal.is_empty() => {
+            seal.remove(place);
+        }
+        _ => {
+            for _ in 0..random.within(1, 3) {
+                let place = random.below(seal.len());
+                let new = [random.byte(), 0x00, 0xFF, seal.get(place).map_or(0, |old| old ^ (1 << random.below(8)))];
+                let new = random.pick(&new);
+                seal.get_mut(place).into_iter().for_each(|byte| *byte = new);
+            }
+        }
+    }
+}
+
+/// Makes the seal longer than any seal, or just not.
+fn lengthen(random: &mut Random, seal: &mut Vec<u8>) {
+    let size = random.pick(&[LONGEST_SEAL, LONGEST_SEAL + 1, LONGEST_SEAL + 1, LONGEST_SEAL + 2, 5000]);
+    seal.resize(size.max(seal.len()), random.pick(&[0x00, 0xAA, 0xFF]));
+}
+
+/// The index of one of the items of a kind.
+fn find(random: &mut Random, pieces: &[Piece], kinds: &[Kind]) -> Option<usize> {
+    let found: Vec<usize> = (0..pieces.len()).filter(|&index| kinds.contains(&pieces[index].0)).collect();
+    (!found.is_empty()).then(|| random.pick(&found))
+}
+
+/// One wrong item in place of a right one.
+fn item(random: &mut Random, draft: &Draft, pieces: &mut Vec<Piece>) {
+    use Kind::*;
+    let kinds: &[Kind] = match random.below(26) {
+        0 => &[Mark],
+        1 => &[Version],
+        2 => &[Country],
+        3..=5 => &[Names, Signer, Reference],
+        6 => &[Reference, Names],
+        7..=8 => &[Day],
+        9..=10 => &[LastByte],
+        11..=13 => return repeat_tag(random, pieces),
+        14 => &[Tag, Value, End],
+        15..=17 => &[Length, SignatureLength],
+        18..=19 => &[SignatureLength],
+        20..=22 => return other_signature(random, pieces),
+        23 => return cut_length(random, pieces),
+        24 => return cut_item(random, pieces),
+        _ => return too_many_tags(random, draft, pieces),
+    };
+    let Some(index) = find(random, pieces, kinds) else { return };
+    let (kind, bytes) = &pieces[index];
+    pieces[index].1 = match kind {
+        Mark => vec![random.pick(&[0x00, 0xDD, 0xCD, 0xFF])],
+        Version => vec![random.pick(&[0x00, 0x01, 0x02, 0x03, 0x04, 0x05, 0x82, 0xDC, 0xFF])],
+        Country => wrong_country(random),
+        Names | Signer | Reference => wrong_names(random, *kind, bytes),
+        Day => forms::wrong_day(random).to_be_bytes()[5..].to_vec(),
+        LastByte => vec![random.pick(&[0x00, 0xFF])],
+        Tag | End => vec![random.pick(&[0x00, 0xFE, 0xFF])],
+        Length => forms::wrong_length(random, pieces.get(index + 1).map_or(0, |value| value.1.len())),
+        SignatureLength => forms::wrong_length(random, draft.signature.len()),
+        Value | Signature => {
+            let count = random.below(bytes.len() + 3);
+            random.bytes(count)
+        }
+    };
+}
+
+/// Two bytes that are no country, or a country with wrong characters.
+fn wrong_country(random: &mut Random) -> Vec<u8> {
+    let letter = random.pick(LETTERS);
+    let digit = random.pick(b"0123456789");
+    let texts = [
+        [digit, letter, letter],
+        [letter, digit, letter],
+        [letter, letter, digit],
+        [letter, b' ', letter],
+        [b' ', letter, letter],
+        *b"   ",
+    ];
+    match random.below(8) {
+        0 => c40::encode(&[letter, letter]).unwrap_or_default(),
+        1 => vec![0xFE, letter + 1],
+        2 => forms::wrong_pair(random).to_vec(),
+        _ => c40::encode(&random.pick(&texts)).unwrap_or_default(),
+    }
+}
+
+/// A text field with a pair that is wrongly coded, with a wrong character, with another end, or with another length L.
+fn wrong_names(random: &mut Random, kind: Kind, bytes: &[u8]) -> Vec<u8> {
+    let mut text = c40::decode(bytes).unwrap_or_default();
+    let at = 2 * random.below(bytes.len() / 2);
+    let last = bytes.len() - bytes.len().min(2);
+    let letter = random.pick(LETTERS);
+    let ends = [[0xFE, letter + 1], forms::pair(14, random.within(4, 39), 0), forms::pair(4, 14, random.within(4, 39))];
+    let mut wrong = bytes.to_vec();
+    match random.below(8) {
+        0 | 1 if wrong.len() > 1 => wrong[at..at + 2].copy_from_slice(&forms::wrong_pair(random)),
+        2 | 3 if wrong.len() > 1 => wrong[last..].copy_from_slice(&random.pick(&ends)),
+        4 | 5 if kind == Kind::Signer && text.len() == 6 => {
+            let digits = [
+                *b"00",
+                *b"00",
+                *b"0G",
+                *b"G0",
+                *b" 5",
+                *b"5 ",
+                *b"FF",
+                [random.pick(b"0F"), random.pick(LETTERS_AND_DIGITS)],
+            ];
+            text[4..].copy_from_slice(&random.pick(&digits));
+            wrong = c40::encode(&text).unwrap_or_default();
+        }
+        _ => {
+            let wide = if kind == Kind::Signer { text.len().min(4) } else { text.len() };
+            let place = random.below(wide);
+            text.get_mut(place).into_iter().for_each(|character| *character = random.pick(b" 7"));
+            wrong = c40::encode(&text).unwrap_or_default();
+        }
+    }
+    wrong
+}
+
+/// A feature with a tag that an earlier one has; where there is none, two features with one tag.
+fn repeat_tag(random: &mut Random, pieces: &mut Vec<Piece>) {
+    let tags: Vec<usize> = (0..pieces.len()).filter(|&index| pieces[index].0 == Kind::Tag).collect();
+    if tags.len() > 1 {
+        let later = random.within(1, tags.len() - 1);
+        let earlier = random.below(later);
+        pieces[tags[later]].1 = pieces[tags[earlier]].1.clone();
+        return;
+    }
+    let tag = tags.first().map_or_else(|| vec![random.below(255) as u8], |&index| pieces[index].1.clone());
+    let Some(end) = find(random, pieces, &[Kind::End]) else { return };
+    for _ in tags.len()..2 {
+        let feature = [(Kind::Tag, tag.clone()), (Kind::Length, vec![1]), (Kind::Value, vec![random.byte()])];
+        pieces.splice(end..end, feature);
+    }
+}
+
+/// The seal up to a length in a wrong form or a long one, of which the last bytes may be missing.
+fn cut_length(random: &mut Random, pieces: &mut Vec<Piece>) {
+    let Some(index) = find(random, pieces, &[Kind::Length, Kind::SignatureLength]) else { return };
+    let length = random.pick(&[0, 56, 128, 132, 300, 70_000]);
+    pieces[index].1 = forms::wrong_length(random, length);
+    let cut = random.within(1, pieces[index].1.len());
+    pieces[index].1.truncate(cut);
+    pieces.truncate(index + 1);
+}
+
+/// The seal up to some item, of which the last bytes may be missing and the others wrong.
+fn cut_item(random: &mut Random, pieces: &mut Vec<Piece>) {
+    let in_header = random.below(pieces.len().min(10));
+    let anywhere = random.below(pieces.len());
+    pieces.truncate(1 + random.pick(&[in_header, anywhere]));
+    let wrong = random.pick(&[None, Some(0x00), Some(0xFF)]);
+    if let Some((_, bytes)) = pieces.last_mut() {
+        bytes.truncate(random.below(bytes.len() + 1));
+        bytes.iter_mut().for_each(|byte| *byte = wrong.unwrap_or(*byte));
+    }
+}
+
+/// A signature of a length that is none of the five, with its length in the right form.
+fn other_signature(random: &mut Random, pieces: &mut [Piece]) {
+    let any = random.below(140);
+    let length = random.pick(&[any, 0, 55, 57, 65, 127, 129, 130, 131, 133, 255, 256]);
+    for (kind, bytes) in pieces {
+        match kind {
+            Kind::SignatureLength => *bytes = der::length_bytes(length),
+            Kind::Signature => *bytes = random.bytes(length),
+            _ => {}
+        }
+    }
+}
+
+/// All tags once and then a 256th, mostly cut right after it.
+fn too_many_tags(random: &mut Random, draft: &Draft, pieces: &mut Vec<Piece>) {
+    if !random.one_in(4) {
+        return repeat_tag(random, pieces);
+    }
+    let mut full = draft.clone();
+    full.features = super::seals::tags(random, 255).into_iter().map(|tag| (tag, Vec::new())).collect();
+    full.features.push((random.below(255) as u8, Vec::new()));
+    *pieces = full.pieces();
+    let cut = pieces.len() - random.pick(&[3, 5, 5]);
+    pieces.truncate(cut);
+}

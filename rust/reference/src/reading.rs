@@ -1,0 +1,208 @@
+//! The reader (document 01, "Layout" and "The numbers a call answers").
+//!
+//! A parser takes the bytes that are left and gives what it read and the bytes left after it. A refusal remembers how many
+//! bytes were left where its item began; its place is then the seal's length less that.
+
+use std::collections::BTreeSet;
+
+use crate::der::Fault;
+use crate::{c40, dates, der, names, Ends, Header, Part, Reading, Refusal, LONGEST_SEAL, SIGNATURE_SIZES};
+
+/// The number of a refusal, and how many bytes were left at the item's first byte.
+struct Stopped {
+    number: usize,
+    left: usize,
+}
+
+type Parsed<'a, T> = Result<(T, &'a [u8]), Stopped>;
+
+/// All that an accepted seal says.
+struct Accepted {
+    header: Header,
+    text: Vec<u8>,
+    rows: Vec<[usize; 3]>,
+    ends: Ends,
+    signature: Part,
+}
+
+/// A feature: its tag, how many bytes are left at its value, and how long that is.
+struct Feature {
+    tag: u8,
+    left: usize,
+    length: usize,
+}
+
+fn stop<T>(number: usize, rest: &[u8]) -> Result<T, Stopped> {
+    Err(Stopped { number, left: rest.len() })
+}
+
+/// So many bytes. "An item cut short is 2, before its content is judged."
+fn bytes(width: usize, rest: &[u8]) -> Parsed<'_, &[u8]> {
+    rest.split_at_checked(width).map_or_else(|| stop(2, rest), Ok)
+}
+
+/// So many bytes that mean something, or else this number.
+fn item<T>(width: usize, number: usize, rest: &[u8], meaning: impl FnOnce(&[u8]) -> Option<T>) -> Parsed<'_, T> {
+    let (found, after) = bytes(width, rest)?;
+    meaning(found).map_or_else(|| stop(number, rest), |meant| Ok((meant, after)))
+}
+
+/// C40 text of exactly so many characters: a full last pair, two characters and 0, or one after FE, as the count asks.
+fn text(characters: usize, bytes: &[u8]) -> Option<Vec<u8>> {
+    c40::decode(bytes).ok().filter(|text| text.len() == characters)
+}
+
+/// The country. A filler is "carried in C40 as a space".
+fn country(two: &[u8]) -> Option<[u8; 3]> {
+    let carried: [u8; 3] = text(3, two)?.try_into().ok()?;
+    let country = carried.map(|character| if character == b' ' { b'<' } else { character });
+    names::is_country(&country).then_some(country)
+}
+
+/// "Version 3: nine characters, six bytes."
+fn names_of_three(rest: &[u8]) -> Parsed<'_, Vec<u8>> {
+    item(6, 5, rest, |six| text(9, six).filter(|text| names::is_signer(&text[..4]) && names::is_reference(&text[4..])))
+}
+
+/// Version 4: "the first four bytes and then the reference".
+fn names_of_four(rest: &[u8]) -> Parsed<'_, Vec<u8>> {
+    let ((mut signer, length), rest) = item(4, 5, rest, |four| {
+        let mut six = text(6, four).filter(|six| names::is_signer(&six[..4]))?;
+        let length = names::length_of(&six.split_off(4))?;
+        Some((six, length))
+    })?;
+    let reference = |bytes: &[u8]| text(length, bytes).filter(|reference| names::is_reference(reference));
+    let (reference, rest) = item(2 * length.div_ceil(3), 5, rest, reference)?;
+    signer.extend(reference);
+    Ok((signer, rest))
+}
+
+/// "Definition reference, then document category: one byte each, 1 to 254."
+fn last_byte(rest: &[u8]) -> Parsed<'_, usize> {
+    item(1, 7, rest, |one| Some(usize::from(one[0])).filter(|number| (1..=254).contains(number)))
+}
+
+/// The header zone, with signer and reference as text.
+fn header(rest: &[u8]) -> Parsed<'_, (Header, Vec<u8>)> {
+    let ((), rest) = item(1, 3, rest, |one| (one == [0xDC]).then_some(()))?;
+    let (version, rest) = item(1, 4, rest, |one| match one {
+        [0x02] => Some(3),
+        [0x03] => Some(4),
+        _ => None,
+    })?;
+    let (country, rest) = item(2, 5, rest, country)?;
+    let (text, rest) = if version == 3 { names_of_three(rest)? } else { names_of_four(rest)? };
+    let (issued_on, rest) = item(3, 6, rest, dates::from_bytes)?;
+    let (signed_on, rest) = item(3, 6, rest, dates::from_bytes)?;
+    let (definition, rest) = last_byte(rest)?;
+    let (category, rest) = last_byte(rest)?;
+    let length = text.len() - 4;
+    let header = Header { version, country, length, issued_on, signed_on, definition, category };
+    Ok(((header, text), rest))
+}
+
+/// A DER length: 2 where it is cut, 8 where it is wrong, both at its first byte.
+fn der_length(rest: &[u8]) -> Parsed<'_, usize> {
+    der::length(rest).or_else(|fault| match fault {
+        Fault::Cut => stop(2, rest),
+        Fault::Wrong => stop(8, rest),
+    })
+}
+
+/// "A feature's length is one plain byte in version 3 and a DER length in version 4."
+fn feature_length(version: usize, rest: &[u8]) -> Parsed<'_, usize> {
+    if version == 3 {
+        item(1, 2, rest, |one| Some(usize::from(one[0])))
+    } else {
+        der_length(rest)
+    }
+}
+
+/// The message zone: "tag, length, value, in any order, and that order is kept". It ends where FF stands for a tag, and FF is
+/// left. "A repeated tag is judged at the tag."
+fn features(version: usize, mut rest: &[u8]) -> Parsed<'_, Vec<Feature>> {
+    let mut used = BTreeSet::new();
+    let mut found = Vec::new();
+    loop {
+        let (one, after) = bytes(1, rest)?;
+        let tag = one[0];
+        if tag == 0xFF {
+            return Ok((found, rest));
+        }
+        if !used.insert(tag) {
+            return stop(9, rest);
+        }
+        let (length, value) = feature_length(version, after)?;
+        found.push(Feature { tag, left: value.len(), length });
+        (_, rest) = bytes(length, value)?;
+    }
+}
+
+/// "Byte FF, a length, the raw signature. Nothing after it." Gives the bytes of the signature.
+fn signature(rest: &[u8]) -> Result<&[u8], Stopped> {
+    let (_, rest) = bytes(1, rest)?;
+    let (length, raw) = der_length(rest)?;
+    if !SIGNATURE_SIZES.iter().any(|n| 2 * n == length) {
+        return stop(10, rest);
+    }
+    let (signature, extra) = bytes(length, raw)?;
+    if !extra.is_empty() {
+        return stop(11, extra);
+    }
+    Ok(signature)
+}
+
+/// The whole seal: "item by item from the left".
+fn seal(seal: &[u8]) -> Result<Accepted, Stopped> {
+    let ((header, text), message) = header(seal)?;
+    let (features, mark) = features(header.version, message)?;
+    let raw = signature(mark)?;
+    let place = |left: usize| seal.len() - left;
+    Ok(Accepted {
+        header,
+        text,
+        rows: features.iter().map(|f| [usize::from(f.tag), place(f.left), f.length]).collect(),
+        ends: Ends { header: place(message.len()), message: place(mark.len()), seal: seal.len() },
+        signature: Part { place: place(raw.len()), length: raw.len() },
+    })
+}
+
+/// "Reader: 1 first, then item by item."
+fn parse(bytes: &[u8]) -> Result<Accepted, Refusal> {
+    if bytes.len() > LONGEST_SEAL {
+        return Err(Refusal { number: 1, place: LONGEST_SEAL });
+    }
+    seal(bytes).map_err(|stopped| Refusal { number: stopped.number, place: bytes.len() - stopped.left })
+}
+
+/// A refusal is its number and place, and all else is 0.
+fn refused(refusal: Refusal) -> Reading {
+    Reading { number: refusal.number, place: refusal.place, ..Reading::default() }
+}
+
+impl Accepted {
+    fn reading(&self) -> Reading {
+        let Accepted { header, ends, signature, .. } = *self;
+        Reading { number: 0, place: 0, header, ends, signature, count: self.rows.len() }
+    }
+}
+
+/// The reader's answer without room for table and text, and so never 12.
+pub fn judge(seal: &[u8]) -> Reading {
+    parse(seal).map_or_else(refused, |accepted| accepted.reading())
+}
+
+/// Reads a seal: "a row (tag, value place, value length) per feature and the signer and reference text".
+pub fn read(seal: &[u8], table: &mut [usize], text: &mut [u8]) -> Reading {
+    let accepted = match parse(seal) {
+        Ok(accepted) => accepted,
+        Err(refusal) => return refused(refusal),
+    };
+    let rows = accepted.rows.concat();
+    if table.len() < rows.len() || text.len() < accepted.text.len() {
+        return refused(Refusal::of(12));
+    }
+    table[..rows.len()].copy_from_slice(&rows);
+    text[..accepted.text.len()].copy_from_slice(&accepted.text);
+    accepted.reading()
+}

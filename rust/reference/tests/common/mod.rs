@@ -1,0 +1,66 @@
+//! What the test programs share: bytes from hexadecimal, Seal A, and calls that also watch the lent memory.
+#![allow(dead_code)]
+
+use reference::inputs::{lent, lent_table};
+use reference::{Date, Filled, Header, Reading};
+
+/// Bytes from hexadecimal digits; spaces do not matter.
+pub fn hex(digits: &str) -> Vec<u8> {
+    let digits: Vec<u8> = digits.bytes().filter(|digit| !digit.is_ascii_whitespace()).collect();
+    digits.chunks(2).map(|two| u8::from_str_radix(std::str::from_utf8(two).unwrap(), 16).unwrap()).collect()
+}
+
+/// The header zone of Seal A.
+pub const HEADER_A: &str = "DC 02 D9 C5 D9 B7 5E 65 19 A6 31 9E F5 31 9E F5 01 02";
+
+/// The header zone of version 4 with the signer UTAB and the reference 00001.
+pub const HEADER_FOUR: &str = "DC 03 D9 C5 D9 B7 5E 6A 19 A5 19 C9 31 9E F5 31 9E F5 01 02";
+
+/// A seal: header and message in hexadecimal, then FF 38 and 56 bytes AA.
+pub fn seal(header: &str, message: &str) -> Vec<u8> {
+    [hex(header), hex(message), hex("FF 38"), vec![0xAA; 56]].concat()
+}
+
+/// "Seal A, 82 bytes."
+pub fn seal_a() -> Vec<u8> {
+    seal(HEADER_A, "0A 04 DE 51 58 26")
+}
+
+/// The header that Seal A has.
+pub fn header_a() -> Header {
+    let day = Date { month: 3, day: 25, year: 1957 };
+    Header { version: 3, country: *b"UTO", length: 5, issued_on: day, signed_on: day, definition: 1, category: 2 }
+}
+
+/// The bytes with those at a place put in the stead of what was there.
+pub fn with(bytes: &[u8], place: usize, new: &str) -> Vec<u8> {
+    let mut bytes = bytes.to_vec();
+    let new = hex(new);
+    bytes[place..place + new.len()].copy_from_slice(&new);
+    bytes
+}
+
+/// Number and place of a reading that lends much room; a refusal must leave all of it, and every other field must be 0.
+pub fn read(seal: &[u8]) -> (usize, usize) {
+    let (mut table, mut text) = (lent_table(800), lent(300));
+    let answer = reference::read(seal, &mut table, &mut text);
+    assert_eq!(answer, reference::judge(seal));
+    if answer.number != 0 {
+        assert_eq!((table, text), (lent_table(800), lent(300)));
+        assert_eq!(answer, Reading { number: answer.number, place: answer.place, ..Reading::default() });
+    }
+    (answer.number, answer.place)
+}
+
+/// What a call that fills a buffer says and writes in a room; memory past what is written must stay.
+pub fn filled(room: usize, call: impl FnOnce(&mut [u8]) -> Filled) -> Result<Vec<u8>, (usize, usize)> {
+    let mut out = lent(room);
+    let answer = call(&mut out);
+    assert_eq!(out[answer.count..], lent(room)[answer.count..]);
+    if answer.number != 0 {
+        assert_eq!(answer.count, 0);
+        return Err((answer.number, answer.place));
+    }
+    assert_eq!(answer.place, 0);
+    Ok(out[..answer.count].to_vec())
+}
