@@ -1,5 +1,6 @@
 # make        prove and build everything; programs stand in target/bin, the library in target/lib
 # make list   prove and build the listing program alone: target/bin/list
+# make seal-a the same, and list Seal A
 # make lib    prove and build the library for C and Rust alone: target/lib/libfenderrope.a
 # make test   the gate: the tests in C and Rust and of the installing; then prove everything from nothing, try the must-fail edits, run the programs
 # make face   the C tests alone, in C and C++, with each compiler that is there
@@ -8,7 +9,7 @@
 # make peers  end to end with openssl, zint and dmtxread
 # make fuzz   fuzz the library for FUZZ_SECONDS (needs clang)
 # make fmt    lay out every .rt and .antt file
-# make bench  count instructions beside plain C
+# make bench  each call beside plain C and Rust: instructions and nanoseconds
 # make vectors  reckon the files of cases anew from document 01 (needs python3)
 # make install    put what was made under PREFIX (below DESTDIR): program, library, header, pkg-config file, man pages, docs
 # make uninstall  remove what make install put there
@@ -26,7 +27,7 @@ CARGO := cd rust && CARGO_TARGET_DIR=$(CURDIR)/target/rust cargo
 TO = $(DESTDIR)$(PREFIX)
 DOC = $(TO)/share/doc/fenderrope
 
-.PHONY: all list lib test face rust difference peers fuzz fmt bench vectors install uninstall clean kit
+.PHONY: all list seal-a lib test face rust difference peers fuzz fmt bench vectors install uninstall clean kit
 
 all: kit
 	@rt check
@@ -34,6 +35,9 @@ all: kit
 
 list: kit
 	@rt check list
+
+seal-a: list
+	@$(LIST) <examples/seal-a
 
 lib: kit
 	@rt staticlib capi
@@ -62,7 +66,7 @@ fuzz: lib
 fmt: kit
 	@rt fmt
 
-bench: kit
+bench: lib
 	@bench/run
 
 vectors:
