@@ -1,4 +1,4 @@
-//! The numbers that the compiler holds the structs to: tests/face.c for C, src/layout.rs for Rust. They are the same.
+//! The numbers that the compiler holds the structs to: tests/c/layout.h for C, src/layout.rs for Rust. They are the same.
 
 use std::collections::BTreeMap;
 
@@ -70,7 +70,7 @@ fn in_rust(text: &str) -> Result<Layouts, String> {
 }
 
 fn c_text() -> String {
-    text_of(&in_repository("tests/face.c"))
+    text_of(&in_repository("tests/c/layout.h"))
 }
 
 fn rust_text() -> String {

@@ -1,0 +1,29 @@
+/*
+ * The C face as a C or C++ program sees it. When compiled: layout.h. When run: every call for 0 and for its refusals, with guard elements around all lent
+ * memory. Prints one line and ends with status 0 only if every check held.
+ */
+#include "layout.h"
+#include "lent.h"
+
+#include "codecs.h"
+#include "reading.h"
+#include "writing.h"
+
+int main(void) {
+    make_seal_a();
+    test_seal_a();
+    test_cut();
+    test_reader_refusals();
+    test_room();
+    test_names();
+    test_lengths();
+    test_writer_header();
+    test_writer_rows();
+    test_c40();
+    test_dates();
+    test_integers();
+    test_signatures();
+    test_hash();
+    printf("face: %lu checks, %lu failed\n", checks, failures);
+    return failures != 0;
+}

@@ -1,0 +1,87 @@
+/*
+ * Sizes, alignments and offsets of the structs, for x86-64, and the types of the calls: checked when compiled, against plain numbers that the Rust tests hold
+ * too.
+ */
+#ifndef LAYOUT_H
+#define LAYOUT_H
+
+#include <assert.h>
+#include <stdalign.h>
+
+#include "fenderrope.h"
+
+#define LAYOUT(type, size) static_assert(sizeof(type) == (size) && alignof(type) == 8, #type)
+#define FIELD(type, field, offset, size) static_assert(offsetof(type, field) == (offset) && sizeof(((type *)0)->field) == (size), #type "." #field)
+
+LAYOUT(fr_date, 24);
+FIELD(fr_date, month, 0, 8);
+FIELD(fr_date, day, 8, 8);
+FIELD(fr_date, year, 16, 8);
+
+LAYOUT(fr_header, 88);
+FIELD(fr_header, version, 0, 8);
+FIELD(fr_header, country, 8, 3);
+FIELD(fr_header, length, 16, 8);
+FIELD(fr_header, issued_on, 24, 24);
+FIELD(fr_header, signed_on, 48, 24);
+FIELD(fr_header, definition, 72, 8);
+FIELD(fr_header, category, 80, 8);
+
+LAYOUT(fr_ends, 24);
+FIELD(fr_ends, header, 0, 8);
+FIELD(fr_ends, message, 8, 8);
+FIELD(fr_ends, seal, 16, 8);
+
+LAYOUT(fr_part, 16);
+FIELD(fr_part, place, 0, 8);
+FIELD(fr_part, length, 8, 8);
+
+LAYOUT(fr_reading, 152);
+FIELD(fr_reading, number, 0, 8);
+FIELD(fr_reading, place, 8, 8);
+FIELD(fr_reading, header, 16, 88);
+FIELD(fr_reading, ends, 104, 24);
+FIELD(fr_reading, signature, 128, 16);
+FIELD(fr_reading, count, 144, 8);
+
+LAYOUT(fr_filled, 24);
+FIELD(fr_filled, number, 0, 8);
+FIELD(fr_filled, place, 8, 8);
+FIELD(fr_filled, count, 16, 8);
+
+LAYOUT(fr_dated, 40);
+FIELD(fr_dated, number, 0, 8);
+FIELD(fr_dated, place, 8, 8);
+FIELD(fr_dated, date, 16, 24);
+
+LAYOUT(fr_numbered, 24);
+FIELD(fr_numbered, number, 0, 8);
+FIELD(fr_numbered, place, 8, 8);
+FIELD(fr_numbered, value, 16, 8);
+
+LAYOUT(fr_integer, 24);
+FIELD(fr_integer, number, 0, 8);
+FIELD(fr_integer, place, 8, 8);
+FIELD(fr_integer, value, 16, 8);
+
+LAYOUT(fr_hashed, 24);
+FIELD(fr_hashed, number, 0, 8);
+FIELD(fr_hashed, place, 8, 8);
+FIELD(fr_hashed, bits, 16, 8);
+
+/* The types of the calls: an argument that is moved, left out or of another width does not compile. */
+typedef const uint8_t *bytes_in;
+fr_reading (*call_read)(bytes_in, size_t, size_t *, size_t, uint8_t *, size_t) = fr_read;
+fr_reading (*call_judge)(bytes_in, size_t) = fr_judge;
+fr_filled (*call_write)(fr_header, bytes_in, size_t, const size_t *, size_t, bytes_in, size_t, bytes_in, size_t, uint8_t *, size_t) = fr_write;
+fr_filled (*call_c40_read)(bytes_in, size_t, uint8_t *, size_t) = fr_c40_read;
+fr_filled (*call_c40_write)(bytes_in, size_t, uint8_t *, size_t) = fr_c40_write;
+fr_dated (*call_date_from_number)(size_t) = fr_date_from_number;
+fr_numbered (*call_date_to_number)(fr_date) = fr_date_to_number;
+fr_integer (*call_integer_read)(bytes_in, size_t) = fr_integer_read;
+fr_filled (*call_integer_write)(int64_t, uint8_t *, size_t) = fr_integer_write;
+fr_filled (*call_signature_to_der)(size_t, bytes_in, size_t, uint8_t *, size_t) = fr_signature_to_der;
+fr_filled (*call_signature_to_raw)(size_t, bytes_in, size_t, uint8_t *, size_t) = fr_signature_to_raw;
+fr_hashed (*call_hash)(size_t) = fr_hash;
+
+#endif

@@ -1,0 +1,152 @@
+/* Reading: Seal A, cut and damaged seals, room, names and lengths. */
+#include "lent.h"
+
+/* Seal A read: every field, the row and the text; and written back with the seal's own bytes as values. */
+static void test_seal_a(void) {
+    size_t rows[3];
+    uint8_t text[9];
+    fr_reading r;
+    CHECK(is_reading_a(fr_judge(seal_a, SEAL_A)));
+    fresh();
+    r = fr_read(seal_a, SEAL_A, table, FR_TABLE_MOST, lent, FR_TEXT_MOST);
+    CHECK(is_reading_a(r));
+    CHECK(table[0] == 10 && table[1] == 20 && table[2] == 4);
+    CHECK(memcmp(lent, "UTAB00001", 9) == 0);
+    CHECK(kept(9, 3));
+    memcpy(rows, table, sizeof rows);
+    memcpy(text, lent, sizeof text);
+    fresh();
+    CHECK(done(fr_write(r.header, text, 9, rows, 3, seal_a, SEAL_A, seal_a + r.signature.place, r.signature.length, lent, SEAL_A), seal_a, SEAL_A));
+    fresh();
+    CHECK(refused(fr_write(r.header, text, 9, rows, 3, seal_a, SEAL_A, seal_a + r.signature.place, r.signature.length, lent, SEAL_A - 1), 28, 0));
+}
+
+/* Seal A cut anywhere: 2 at the first byte of the item that is cut. */
+static void test_cut(void) {
+    static const size_t items[] = {0, 1, 2, 4, 10, 13, 16, 17, 18, 19, 20, 24, 25, 26, SEAL_A};
+    size_t length, item = 0;
+    CHECK(refuses(NULL, 0, 2, 0));
+    for (length = 0; length < SEAL_A; length++) {
+        while (items[item + 1] <= length) item++;
+        CHECK(refuses(seal_a, length, 2, items[item]));
+    }
+}
+
+/* One refusal or more for each number of the reader. */
+static void test_reader_refusals(void) {
+    static uint8_t long_seal[FR_SEAL_MOST + 1];
+    uint8_t more[SEAL_A + 6];
+    memcpy(more, seal_a, SEAL_A);
+    CHECK(refuses(long_seal, sizeof long_seal, 1, 4096));
+    CHECK(refuses(long_seal, FR_SEAL_MOST, 3, 0));
+    CHECK(refuses(altered(0, "\xDD", 1), SEAL_A, 3, 0));
+    CHECK(refuses(altered(1, "\x01", 1), SEAL_A, 4, 1));
+    CHECK(refuses(altered(1, "\x04", 1), SEAL_A, 4, 1));
+    CHECK(refuses(altered(2, "\x00\x00", 2), SEAL_A, 5, 2));
+    CHECK(refuses(altered(4, "\xFE\x42", 2), SEAL_A, 5, 4));
+    CHECK(refuses(altered(10, "\x00\x00\x00", 3), SEAL_A, 6, 10));
+    CHECK(refuses(altered(13, "\xFF\xFF\xFF", 3), SEAL_A, 6, 13));
+    CHECK(refuses(altered(16, "\x00", 1), SEAL_A, 7, 16));
+    CHECK(refuses(altered(16, "\xFF", 1), SEAL_A, 7, 16));
+    CHECK(refuses(altered(17, "\x00", 1), SEAL_A, 7, 17));
+    CHECK(refuses(altered(17, "\xFF", 1), SEAL_A, 7, 17));
+    CHECK(refuses(altered(25, "\x81\x38", 2), SEAL_A, 8, 25));
+    CHECK(refuses(altered(25, "\x80", 1), SEAL_A, 8, 25));
+    CHECK(refuses(altered(25, "\x39", 1), SEAL_A, 10, 25));
+    more[SEAL_A] = 0;
+    CHECK(refuses(more, SEAL_A + 1, 11, 82));
+    memmove(more + 30, more + 24, SEAL_A - 24);
+    memcpy(more + 24, more + 18, 6);
+    CHECK(refuses(more, SEAL_A + 6, 9, 24));
+    more[24] = 11;
+    CHECK(fr_judge(more, SEAL_A + 6).number == 0 && fr_judge(more, SEAL_A + 6).count == 2);
+}
+
+/* 12 comes with too little room of either kind, and nothing is written into the other. */
+static void test_room(void) {
+    fresh();
+    CHECK(unread(fr_read(seal_a, SEAL_A, table, 2, lent, FR_TEXT_MOST), 12, 0) && kept(0, 0));
+    CHECK(unread(fr_read(seal_a, SEAL_A, table, FR_TABLE_MOST, lent, 8), 12, 0) && kept(0, 0));
+    CHECK(unread(fr_read(seal_a, SEAL_A, NULL, 0, NULL, 0), 12, 0) && kept(0, 0));
+    CHECK(is_reading_a(fr_read(seal_a, SEAL_A, table, 3, lent, 9)) && kept(9, 3));
+}
+
+/* Dates, definition reference and category of header_of. */
+static const uint8_t last_bytes[] = {0x31, 0x9E, 0xF5, 0x41, 0x08, 0x46, 0x01, 0x02};
+
+static int is_last(fr_header h) {
+    return same_date(h.issued_on, 3, 25, 1957) && same_date(h.signed_on, 4, 26, 1958) && h.definition == 1 && h.category == 2;
+}
+
+/* The header's bytes that the writer makes, with those of country and names as given, and that the reader gives every field back. */
+static int writes_names(fr_header header, const char *text, const uint8_t *bytes, size_t count) {
+    static const uint8_t signature[56] = {0};
+    static uint8_t seal[FR_SEAL_MOST];
+    size_t written, length = strlen(text);
+    fr_filled w;
+    fr_reading r;
+    header.length = length - 4;
+    fresh();
+    w = fr_write(header, (const uint8_t *)text, length, NULL, 0, NULL, 0, signature, 56, lent, ROOM);
+    written = w.count;
+    if (w.number != 0 || w.place != 0 || written != 10 + count + 58 || !kept(written, 0) || memcmp(lent + 2, bytes, count) != 0) return 0;
+    if (memcmp(lent + 2 + count, last_bytes, sizeof last_bytes) != 0) return 0;
+    memcpy(seal, lent, written);
+    fresh();
+    r = fr_read(seal, written, NULL, 0, lent, FR_TEXT_MOST);
+    return r.number == 0 && is_last(r.header) && r.count == 0 && r.header.version == header.version && r.header.length == length - 4
+        && r.ends.header == 10 + count && memcmp(r.header.country, header.country, 3) == 0 && memcmp(lent, text, length) == 0 && kept(length, 0);
+}
+
+static void test_names(void) {
+    static const uint8_t three[] = {0xD9, 0xC5, 0xD9, 0xB7, 0x5E, 0x65, 0x19, 0xA6};
+    static const uint8_t four[] = {0xD9, 0xC5, 0xD9, 0xB7, 0x5E, 0x6A, 0x19, 0xA5, 0x19, 0xC9};
+    static const uint8_t seven[] = {0xD9, 0xC5, 0xD9, 0xB7, 0x5E, 0x66, 0xFE, 0x38};
+    static const uint8_t filled[] = {0x6A, 0xBC, 0xD9, 0xB7, 0x5E, 0x65, 0x19, 0xA6};
+    fr_header d = header_of(3);
+    memcpy(d.country, "D<<", 3);
+    CHECK(writes_names(header_of(3), "UTAB00001", three, sizeof three));
+    CHECK(writes_names(header_of(4), "UTAB00001", four, sizeof four));
+    CHECK(writes_names(header_of(4), "UTAB7", seven, sizeof seven));
+    CHECK(writes_names(d, "UTAB00001", filled, sizeof filled));
+}
+
+/* A seal with one feature whose length is `form` and whose value is `size` bytes FF, which are no mark. */
+static fr_reading with_feature(size_t version, const char *form, size_t form_size, size_t size) {
+    static const uint8_t names[] = {0xD9, 0xB7, 0x5E, 0x6A, 0x19, 0xA5, 0x19, 0xC9};
+    static uint8_t seal[FR_SEAL_MOST];
+    size_t end = 18;
+    memcpy(seal, seal_a, 18);
+    if (version == 4) {
+        seal[1] = 3;
+        memcpy(seal + 4, names, 8);
+        memcpy(seal + 12, seal_a + 10, 8);
+        end = 20;
+    }
+    seal[end++] = 11;
+    memcpy(seal + end, form, form_size);
+    memset(seal + end + form_size, 0xFF, size);
+    end += form_size + size;
+    memcpy(seal + end, seal_a + 24, 58);
+    fresh();
+    return fr_read(seal, end + 58, table, FR_TABLE_MOST, lent, FR_TEXT_MOST);
+}
+
+/* A length is a plain byte in version 3 and the shortest DER length in version 4. */
+static void test_lengths(void) {
+    fr_reading r = with_feature(4, "\x81\x7F", 2, 127);
+    CHECK(unread(r, 8, 21) && kept(0, 0));
+    r = with_feature(4, "\x7F", 1, 127);
+    CHECK(r.number == 0 && r.count == 1 && table[0] == 11 && table[1] == 22 && table[2] == 127 && kept(9, 3));
+    r = with_feature(4, "\x81\x80", 2, 128);
+    CHECK(r.number == 0 && r.count == 1 && table[0] == 11 && table[1] == 23 && table[2] == 128 && kept(9, 3));
+    CHECK(r.ends.header == 20 && r.ends.message == 151 && r.ends.seal == 209 && r.signature.place == 153 && r.signature.length == 56);
+    r = with_feature(4, "\x80", 1, 128);
+    CHECK(unread(r, 8, 21) && kept(0, 0));
+    r = with_feature(3, "\x80", 1, 128);
+    CHECK(r.number == 0 && r.count == 1 && table[0] == 11 && table[1] == 20 && table[2] == 128 && kept(9, 3));
+    r = with_feature(3, "\xFF", 1, 255);
+    CHECK(r.number == 0 && r.count == 1 && table[0] == 11 && table[1] == 20 && table[2] == 255 && kept(9, 3));
+    r = with_feature(4, "\x84\xFF\xFF\xFF\xFF", 5, 128);
+    CHECK(unread(r, 2, 26) && kept(0, 0));
+}
