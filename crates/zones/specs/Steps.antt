@@ -6,7 +6,7 @@ use Prim.Native.Nat.{ℕ}
 use mathlib.Core.List.{List}
 use lib.ListN.{take, drop}
 use Rattle.dates.specs.declared.Date.{Date}
-use Rattle.verdict.specs.Items.{Item, is, not, next, mark, version, country, names, date, last}
+use Rattle.verdict.specs.Items.{Item, is, not, next, mark, version, country, names, date, last, Names}
 use Rattle.items.specs.Cases.{edition, Measured, measured}
 use Rattle.zones.specs.declared.fields.Front.{Front}
 use Rattle.zones.specs.declared.fields.Front.the-variants as front
@@ -37,6 +37,17 @@ fields s =
     (λ v at. next (country at s)
     (λ c at. next (names v at s)
     (λ n at. is (record { version = edition v; country = c; names = measured n }) at))))
+
+-- the country, which is read after mark and version whatever the names are
+unfoldable pub countryIn : List ℕ → Item (List ℕ)
+countryIn s =
+    next (mark 0 s)
+    (λ dc at. next (version at s)
+    (λ v at. country at s))
+
+-- signer and reference of the fields
+abbrev pub namesIn : Fields → Names
+namesIn f = f .names .names
 
 unfoldable pub dated : ℕ → List ℕ → Item Dated
 dated at s =

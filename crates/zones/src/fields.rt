@@ -2,8 +2,8 @@
 use dates::Date;
 ghost use mathlib.Core.Path.{_≡_};
 ghost use mathlib.Core.List.{[]};
-ghost use Rattle.items.specs.Cases.{whyOf};
-ghost use Rattle.zones.specs.Steps.{fields as fieldsIn, dated, frontOf, restOf};
+ghost use Rattle.items.specs.Cases.{whyOf, through, valueOr, textOver};
+ghost use Rattle.zones.specs.Steps.{fields as fieldsIn, countryIn, namesIn, dated, frontOf, restOf};
 use items::Cursor;
 use items::Day;
 use items::Names;
@@ -55,9 +55,11 @@ impl Rest {
     }
 }
 
-// DC, version, country, signer and reference.
+// DC, version, country, signer and reference; `country` stays where it was not read, and `names` on any refusal.
 pub fn read_front(seal: &[u8], country: &mut [u8; 3], names: &mut [u8; 259]) -> Front
-    ensures { λ r. ⌜ frontOf (now (country .exit)) (now (names .exit)) r ≡ fieldsIn (now (seal .entry)) ⌝ }
+    ensures item { λ r. ⌜ frontOf (now (country .exit)) (now (names .exit)) r ≡ fieldsIn (now (seal .entry)) ⌝ }
+    ensures code { λ r. ⌜ now (country .exit) ≡ valueOr (now (country .entry)) (countryIn (now (seal .entry))) ⌝ }
+    ensures text { λ r. ⌜ now (names .exit) ≡ textOver (now (names .entry)) (through namesIn (fieldsIn (now (seal .entry)))) ⌝ }
 {
     let start = Cursor { place: 0 };
     let mark = start.mark(seal);

@@ -32,7 +32,7 @@ front-read : (c : tie.After-known-told) →
     frontOf (on .read-front .last .1 .0) (on .read-front .last .1 .1 .0) (front.Is (g .0) (g .1 .0) (g .1 .1 .0)) ≡ fields (now (on .before .before .before .before .args .seal))
 front-read c =
     let on = c .before .before .before in
-    sym (ap (frontOf (on .read-front .last .1 .0) (on .read-front .last .1 .1 .0)) (c .before .front .given .1)) ∙ on .read-front .ensures
+    sym (ap (frontOf (on .read-front .last .1 .0) (on .read-front .last .1 .1 .0)) (c .before .front .given .1)) ∙ on .read-front .ensures .0
 
 rest-read : (c : tie.After-known-told2) →
     let told = c .before .before .before .before in
@@ -67,7 +67,7 @@ returns c =
     let why = c .before .why .ensures ∙ ap (λ f. whyOf (frontOf [] [] f)) (told .enum-told .given .1) in
     judged-refused _ _ _ _ _
     (judge-fields _ (short on) _ _
-    (ap (λ w. not (w .number) (w .place)) why ∙ sym (ap (frontOf (on .read-front .last .1 .0) (on .read-front .last .1 .1 .0)) (told .enum-told .given .1)) ∙ on .read-front .ensures))
+    (ap (λ w. not (w .number) (w .place)) why ∙ sym (ap (frontOf (on .read-front .last .1 .0) (on .read-front .last .1 .1 .0)) (told .enum-told .given .1)) ∙ on .read-front .ensures .0))
     (c .refused .ensures)
 
 returns-2 : tie.Need-returns-2

@@ -9,13 +9,13 @@ use mathlib.Core.List.{List}
 use lib.ListN.{length, take, drop}
 use Rattle.dates.specs.declared.Date.{Date}
 use Rattle.grammar.specs.Content.{Version}
-use Rattle.verdict.specs.Items.{Item, is, not, next, whole, mark, version, country, names, date, last, derLength}
+use Rattle.verdict.specs.Items.{Item, is, not, next, whole, mark, version, country, names, date, last, derLength, Names}
 use Rattle.verdict.specs.Items.Laws.{unread}
 use Rattle.verdict.specs.Items.Sound.{same-value, same-place}
-use Rattle.items.specs.Cases.{through, edition, versionOf, Measured, measured}
+use Rattle.items.specs.Cases.{through, edition, versionOf, Measured, measured, valueOr, textOver}
 use Rattle.items.specs.Cases.Laws.{version-back, Past, judged}
 use Rattle.verdict.specs.Judge.{isSignature, signature, rawIn}
-use Rattle.zones.specs.Steps.{Fields, fields, dated}
+use Rattle.zones.specs.Steps.{Fields, fields, countryIn, namesIn, dated}
 
 -- an item that is not read through a map is not read itself
 abbrev unreadOf : {A B : Type 0} → Item B → Item A
@@ -42,20 +42,41 @@ through-next : {A B C : Type 0} (f : A → B) (i : Item A) (k : B → ℕ → It
 through-next f (is a at) k = refl
 through-next f (not number place) k = refl
 
+-- the names of fields that end with them
+names-back : (v : ℕ) (c : List ℕ) (i : Item Names) → i ≡ through namesIn (next i (λ n at. is (record { version = v; country = c; names = measured n }) at))
+names-back v c (is n at) = refl
+names-back v c (not number place) = refl
+
+-- a text stays where the fields are not read
+pub text-kept : (s : List ℕ) (number place : ℕ) → not number place ≡ fields s → (text : List ℕ) → text ≡ textOver text (through namesIn (fields s))
+text-kept s number place e text = ap (λ i. textOver text (through namesIn i)) e
+
 -- the fields up to the reference
 module _ (s : List ℕ) where
   pub fields-mark : (number place : ℕ) → not number place ≡ mark 0 s → not number place ≡ fields s
   unfolding fields
   fields-mark number place e0 = rw (sym e0) refl
 
+  pub country-mark : (number place : ℕ) → not number place ≡ mark 0 s → (code : List ℕ) → code ≡ valueOr code (countryIn s)
+  unfolding countryIn
+  country-mark number place e0 code = rw (sym e0) refl
+
   module _ (p0 : ℕ) (e0 : is tt p0 ≡ mark 0 s) where
     pub fields-version : (number place : ℕ) → not number place ≡ through edition (version p0 s) → not number place ≡ fields s
     unfolding fields
     fields-version number place e1 = rw (sym e0, sym (through-unread edition (version p0 s) number place e1)) refl
 
+    pub country-version : (number place : ℕ) → not number place ≡ through edition (version p0 s) → (code : List ℕ) → code ≡ valueOr code (countryIn s)
+    unfolding countryIn
+    country-version number place e1 code = rw (sym e0, sym (through-unread edition (version p0 s) number place e1)) refl
+
     module _ (v p1 : ℕ) (e1 : is v p1 ≡ through edition (version p0 s)) where
       read-version : version p0 s ≡ is (versionOf v) p1
       read-version = sym (version-read (version p0 s) v p1 e1)
+
+      pub country-reached : country p1 s ≡ countryIn s
+      unfolding countryIn
+      country-reached = rw (sym e0, read-version) refl
 
       pub fields-country : (number place : ℕ) → not number place ≡ country p1 s → not number place ≡ fields s
       unfolding fields
@@ -68,6 +89,10 @@ module _ (s : List ℕ) where
         after-country : next (through measured (names (versionOf v) p2 s)) with-names ≡ fields s
         unfolding fields
         after-country = rw (sym e0, read-version, sym e2) (through-next measured (names (versionOf v) p2 s) with-names)
+
+        pub names-reached : names (versionOf v) p2 s ≡ through namesIn (fields s)
+        unfolding fields
+        names-reached = rw (sym e0, read-version, sym e2) (names-back (edition (versionOf v)) c (names (versionOf v) p2 s))
 
         pub fields-names : (number place : ℕ) → not number place ≡ through measured (names (versionOf v) p2 s) → not number place ≡ fields s
         fields-names number place e3 = ap (λ i. next i with-names) e3 ∙ after-country
