@@ -9,7 +9,7 @@
 # make peers  end to end with openssl, zint and dmtxread
 # make fuzz   fuzz the library for FUZZ_SECONDS (needs clang)
 # make fmt    lay out every .rt and .antt file
-# make bench  each call beside plain C and Rust: instructions and nanoseconds
+# make bench  instructions and nanoseconds of each call beside plain C and Rust (BLOCKS=1: the C with memcpy and memchr)
 # make vectors  reckon the files of cases anew from document 01 (needs python3)
 # make install    put what was made under PREFIX (below DESTDIR): program, library, header, pkg-config file, man pages, docs
 # make uninstall  remove what make install put there

@@ -1,0 +1,123 @@
+//! The structs of the face, as include/fenderrope.h sets them out.
+
+#[repr(C)]
+#[derive(Clone, Copy, Default)]
+pub struct Date {
+    pub month: usize,
+    pub day: usize,
+    pub year: usize,
+}
+
+#[repr(C)]
+#[derive(Clone, Copy, Default)]
+pub struct Header {
+    pub version: usize,
+    pub country: [u8; 3],
+    pub length: usize,
+    pub issued_on: Date,
+    pub signed_on: Date,
+    pub definition: usize,
+    pub category: usize,
+}
+
+#[repr(C)]
+#[derive(Default)]
+pub struct Ends {
+    pub header: usize,
+    pub message: usize,
+    pub seal: usize,
+}
+
+#[repr(C)]
+#[derive(Default)]
+pub struct Part {
+    pub place: usize,
+    pub length: usize,
+}
+
+#[repr(C)]
+#[derive(Default)]
+pub struct Reading {
+    pub number: usize,
+    pub place: usize,
+    pub header: Header,
+    pub ends: Ends,
+    pub signature: Part,
+    pub count: usize,
+}
+
+#[repr(C)]
+#[derive(Default)]
+pub struct Filled {
+    pub number: usize,
+    pub place: usize,
+    pub count: usize,
+}
+
+#[repr(C)]
+#[derive(Default)]
+pub struct Dated {
+    pub number: usize,
+    pub place: usize,
+    pub date: Date,
+}
+
+#[repr(C)]
+#[derive(Default)]
+pub struct Numbered {
+    pub number: usize,
+    pub place: usize,
+    pub value: usize,
+}
+
+#[repr(C)]
+#[derive(Default)]
+pub struct Integer {
+    pub number: usize,
+    pub place: usize,
+    pub value: i64,
+}
+
+#[repr(C)]
+#[derive(Default)]
+pub struct Hashed {
+    pub number: usize,
+    pub place: usize,
+    pub bits: usize,
+}
+
+/// Why a call is refused, and where.
+pub struct Refusal {
+    pub number: usize,
+    pub place: usize,
+}
+
+/// A refusal without a place.
+pub fn refusal(number: usize) -> Refusal {
+    Refusal { number, place: 0 }
+}
+
+impl Filled {
+    /// The count written, or why nothing was.
+    pub fn of(answer: Result<usize, Refusal>) -> Filled {
+        match answer {
+            Ok(count) => Filled { number: 0, place: 0, count },
+            Err(Refusal { number, place }) => Filled { number, place, count: 0 },
+        }
+    }
+}
+
+impl Date {
+    pub fn is_day(&self) -> bool {
+        (1..=12).contains(&self.month) && (1..=31).contains(&self.day) && (1..=9999).contains(&self.year)
+    }
+
+    pub fn from_number(number: usize) -> Option<Date> {
+        let date = Date { month: number / 1_000_000, day: number / 10_000 % 100, year: number % 10_000 };
+        date.is_day().then_some(date)
+    }
+
+    pub fn number(&self) -> usize {
+        self.month * 1_000_000 + self.day * 10_000 + self.year
+    }
+}

@@ -1,0 +1,240 @@
+/* The three makers on the same inputs, good and refused: answers, filled buffers and the memory past what is written must be the same, bit for bit. */
+#include "inputs.h"
+#include <stdio.h>
+#include <stdlib.h>
+#include <string.h>
+
+/* what a call gave: the fields of its answer, and the buffers that it was lent */
+typedef struct {
+    size_t fields[20], table[800];
+    uint8_t bytes[6200];
+} seen;
+
+static seen got[MAKERS];
+static size_t inputs;
+
+static void judge_same(const char *call) {
+    inputs++;
+    for (int i = 1; i < MAKERS; i++)
+        if (memcmp(got, got + i, sizeof *got)) {
+            fprintf(stderr, "bench: %s and %s differ, input %zu: %s\n  numbers %zu and %zu, places %zu and %zu\n", makers[0].name, makers[i].name, inputs,
+                    call, got[0].fields[0], got[i].fields[0], got[0].fields[1], got[i].fields[1]);
+            exit(1);
+        }
+}
+
+/* makes a call by each maker m, which leaves what it gave in s */
+#define SAME(CALL)                                                                                                                                   \
+    do {                                                                                                                                             \
+        for (int i = 0; i < MAKERS; i++) {                                                                                                           \
+            const maker *m = makers + i;                                                                                                             \
+            seen *s = got + i;                                                                                                                       \
+            memset(s, 0x5A, sizeof *s);                                                                                                              \
+            CALL;                                                                                                                                    \
+        }                                                                                                                                            \
+        judge_same(#CALL);                                                                                                                           \
+    } while (0)
+
+static void see(seen *s, size_t number, size_t place, size_t value) {
+    s->fields[0] = number;
+    s->fields[1] = place;
+    s->fields[2] = value;
+}
+
+static void see_filled(seen *s, fr_filled f) { see(s, f.number, f.place, f.count); }
+
+static void see_date(size_t *fields, fr_date d) {
+    fields[0] = d.month;
+    fields[1] = d.day;
+    fields[2] = d.year;
+}
+
+static void see_reading(seen *s, fr_reading r) {
+    see(s, r.number, r.place, r.header.version);
+    s->fields[3] = r.header.country[0] + 256u * r.header.country[1] + 65536u * r.header.country[2];
+    s->fields[4] = r.header.length;
+    see_date(s->fields + 5, r.header.issued_on);
+    see_date(s->fields + 8, r.header.signed_on);
+    s->fields[11] = r.header.definition;
+    s->fields[12] = r.header.category;
+    s->fields[13] = r.ends.header;
+    s->fields[14] = r.ends.message;
+    s->fields[15] = r.ends.seal;
+    s->fields[16] = r.signature.place;
+    s->fields[17] = r.signature.length;
+    s->fields[18] = r.count;
+}
+
+static void see_dated(seen *s, fr_dated d) {
+    see(s, d.number, d.place, 0);
+    see_date(s->fields + 3, d.date);
+}
+
+static void same_seal(const uint8_t *seal, size_t n, size_t numbers, size_t room) {
+    SAME(see_reading(s, m->read(seal, n, s->table, numbers, s->bytes, room)));
+    SAME(see_reading(s, m->judge(seal, n)));
+}
+
+/* the values that a byte is changed to */
+static const uint8_t others[] = {0, 1, 3, 0x30, 0x7F, 0x80, 0x81, 0x82, 0xFA, 0xFE, 0xFF};
+
+/* whole, cut short anywhere, with one more, with too little room, and with a byte changed before place `front` or in the last 140 */
+static void same_seals(const given *g, size_t front) {
+    static uint8_t seal[4200];
+    size_t n = write_given(makers, g, seal).count, count = g->numbers;
+    for (size_t k = 0; k <= n + 1; k++) same_seal(seal, k, 765, 259);
+    same_seal(seal, n, count, g->characters);
+    same_seal(seal, n, count - 1, g->characters);
+    same_seal(seal, n, count, g->characters - 1);
+    for (size_t i = 0; i < n; i++) {
+        uint8_t kept = seal[i];
+        if (i >= front && i + 140 < n) continue;
+        for (size_t k = 0; k < sizeof others; k++) {
+            seal[i] = others[k];
+            same_seal(seal, n, 765, 259);
+        }
+        seal[i] = kept;
+    }
+    memset(seal, 0, sizeof seal);
+    same_seal(seal, 4097, 765, 259);
+}
+
+static void same_write(given g) { SAME(see_filled(s, write_given(m, &g, s->bytes))); }
+
+/* written, with room from none to enough, and refused by each number from 20 to 28 */
+static void same_writes(const given *g) {
+    given b[9];
+    same_write(*g);
+    for (size_t i = 0; i < 9; i++) b[i] = *g;
+    b[0].header.version = 5;
+    b[1].text[g->characters - 1] = '<';
+    b[2].header.signed_on.day = 32;
+    b[3].header.category = 255;
+    b[4].rows[3] = g->rows[0];
+    b[5].header.version = 3, b[5].header.length = 5, b[5].characters = 9, b[5].size = 256, b[5].rows[1] = 0, b[5].rows[2] = 256, b[5].numbers = 3;
+    b[6].raw = 65;
+    b[7].size = 4096, b[7].rows[1] = 0, b[7].rows[2] = 4096, b[7].numbers = 3, b[7].header.version = 4;
+    b[8].room = 149;
+    for (size_t i = 0; i < 9; i++) {
+        same_write(b[i]);
+        if (got[0].fields[0] != 20 + i) fprintf(stderr, "bench: input for %zu gives %zu\n", 20 + i, got[0].fields[0]), exit(1);
+    }
+    for (given one = *g; one.room-- > 0;) same_write(one);
+}
+
+static void same_text(void) {
+    static uint8_t text[6145], bytes[4098];
+    fill_text(text, sizeof text);
+    makers->c40_write(text, 6144, bytes, 4096);
+    for (size_t n = 0; n <= 6145; n += n < 40 || n > 6000 ? 1 : 97) SAME(see_filled(s, m->c40_write(text, n, s->bytes, 4096)));
+    for (size_t n = 0; n <= 4098; n += n < 40 || n > 4000 ? 1 : 96) SAME(see_filled(s, m->c40_read(bytes, n, s->bytes, 6144)));
+    for (size_t room = 0; room < 20; room++) {
+        SAME(see_filled(s, m->c40_write(text, 20, s->bytes, room)));
+        SAME(see_filled(s, m->c40_read(bytes, 10, s->bytes, room)));
+    }
+    for (unsigned c = 0; c < 256; c++) {
+        text[7] = (uint8_t)c;
+        SAME(see_filled(s, m->c40_write(text, 9, s->bytes, 4096)));
+    }
+    for (unsigned pair = 0; pair < 65536; pair++) {
+        bytes[4] = (uint8_t)(pair >> 8), bytes[5] = (uint8_t)pair;
+        SAME(see_filled(s, m->c40_read(bytes, 6, s->bytes, 6144)));
+        SAME(see_filled(s, m->c40_read(bytes, 8, s->bytes, 6144)));
+    }
+}
+
+static void same_dates(void) {
+    static const size_t years[] = {0, 1, 1957, 9999, 10000, SIZE_MAX};
+    for (size_t number = 0; number < 17000000; number += 997) SAME(see_dated(s, m->date_from_number(number)));
+    SAME(see_dated(s, m->date_from_number(SIZE_MAX)));
+    for (size_t month = 0; month < 15; month++)
+        for (size_t day = 0; day < 34; day++)
+            for (size_t y = 0; y < 6; y++) {
+                fr_numbered a;
+                SAME((a = m->date_to_number((fr_date){month, day, years[y]}), see(s, a.number, a.place, a.value)));
+            }
+}
+
+static void same_integer(const uint8_t *bytes, size_t n) {
+    fr_integer a;
+    SAME((a = m->integer_read(bytes, n), see(s, a.number, a.place, (size_t)a.value)));
+}
+
+/* content of every size from none to 200 bytes, with a length of one byte or of two */
+static void same_contents(void) {
+    uint8_t bytes[203] = {0x02};
+    for (size_t size = 0; size <= 200; size++) {
+        size_t width = size < 0x80 ? 1 : 2;
+        bytes[1] = size < 0x80 ? (uint8_t)size : 0x81;
+        if (width == 2) bytes[2] = (uint8_t)size;
+        bytes[1 + width] = 1;
+        same_integer(bytes, 1 + width + size);
+    }
+}
+
+static void same_integers(void) {
+    uint8_t bytes[16] = {0};
+    same_contents();
+    for (unsigned bit = 0; bit < 64; bit++)
+        for (int step = -2; step <= 2; step++) {
+            int64_t value = (int64_t)(((uint64_t)1 << bit) + (uint64_t)step);
+            for (size_t room = 0; room <= 10; room++) SAME(see_filled(s, m->integer_write(value, s->bytes, room)));
+            size_t n = makers->integer_write(value, bytes, 10).count;
+            for (size_t k = 0; k <= n + 1; k++) same_integer(bytes, k);
+            for (size_t i = 0; i < n; i++)
+                for (size_t k = 0; k < sizeof others; k++) {
+                    uint8_t kept = bytes[i];
+                    bytes[i] = others[k];
+                    same_integer(bytes, n);
+                    bytes[i] = kept;
+                }
+        }
+}
+
+static void same_signature(size_t n, const uint8_t *raw) {
+    uint8_t der[144] = {0};
+    for (size_t room = 0; room <= 2 * n + 9; room++) SAME(see_filled(s, m->signature_to_der(n, raw, 2 * n, s->bytes, room)));
+    SAME(see_filled(s, m->signature_to_der(n, raw, 2 * n - 1, s->bytes, 144)));
+    SAME(see_filled(s, m->signature_to_der(n + 1, raw, 2 * n, s->bytes, 144)));
+    size_t size = makers->signature_to_der(n, raw, 2 * n, der, 144).count;
+    for (size_t k = 0; k <= size + 1; k++) SAME(see_filled(s, m->signature_to_raw(n, der, k, s->bytes, 132)));
+    for (size_t room = 0; room <= 2 * n; room++) SAME(see_filled(s, m->signature_to_raw(n, der, size, s->bytes, room)));
+    SAME(see_filled(s, m->signature_to_raw(28, der, size, s->bytes, 132)));
+    SAME(see_filled(s, m->signature_to_raw(29, der, size, s->bytes, 132)));
+    for (size_t i = 0; i < size; i++)
+        for (size_t k = 0; k < sizeof others; k++) {
+            uint8_t kept = der[i];
+            der[i] = others[k];
+            SAME(see_filled(s, m->signature_to_raw(n, der, size, s->bytes, 132)));
+            der[i] = kept;
+        }
+}
+
+static void same_signatures(void) {
+    static const size_t n[] = {28, 32, 48, 64, 66};
+    static const uint8_t zero[132];
+    for (size_t i = 0; i < 5; i++) {
+        signatures all = make_signatures(n[i]);
+        for (size_t k = 0; k < SIGNATURES; k++) same_signature(n[i], all.raw[k]);
+        same_signature(n[i], zero);
+    }
+    for (size_t k = 0; k < 100; k++) {
+        fr_hashed a;
+        SAME((a = m->hash(k), see(s, a.number, a.place, a.bits)));
+    }
+}
+
+size_t compare_all(void) {
+    given three = given_typical(3), four = given_typical(4), full = given_full();
+    same_seals(&three, 150);
+    same_seals(&four, 150);
+    same_seals(&full, 260);
+    same_writes(&three);
+    same_writes(&four);
+    same_write(full);
+    same_text();
+    same_dates();
+    same_integers();
+    same_signatures();
+    return inputs;
+}
