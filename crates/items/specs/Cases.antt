@@ -1,23 +1,13 @@
 -- What each case of an item's answer means: the item and the place that the next cursor has, or document 01's number and the place.
 -- Assumes nothing.
 pub mod Laws
-pub mod Text
-pub mod Field
-pub mod Named
-pub mod Lent
-use mathlib.Core.Path.{_≡_}
-use Prim.Native.Nat.{ℕ, _+_, _≤_, _<_}
-use mathlib.Core.Bool.{Bool, true, false}
-use mathlib.Core.List.{List, [], _++_}
+use Prim.Native.Nat.{ℕ, _+_}
+use mathlib.Core.List.{List}
 use lib.Dec.{eqb}
-use lib.ListN.{length, take, drop}
 use Rattle.format.specs.Choice.{pick}
-use Rattle.format.specs.Answers.{done, filled}
-use Rattle.c40.specs.Text.{width}
-use Rattle.c40.specs.Decode.{decode}
 use Rattle.dates.specs.declared.Date.{Date}
 use Rattle.grammar.specs.Content.{Version, three, four}
-use Rattle.verdict.specs.Items.{Item, is, not, exactly}
+use Rattle.verdict.specs.Items.{Item, is, not}
 use Rattle.verdict.specs.Items as read
 use Rattle.items.specs.declared.cursor.Refusal.{Refusal}
 use Rattle.items.specs.declared.cursor.Byte.{Byte}
@@ -30,8 +20,6 @@ use Rattle.items.specs.declared.cursor.Number.{Number}
 use Rattle.items.specs.declared.cursor.Number.the-variants as number
 use Rattle.items.specs.declared.cursor.Day.{Day}
 use Rattle.items.specs.declared.cursor.Day.the-variants as day
-use Rattle.items.specs.declared.names.Names.{Names}
-use Rattle.items.specs.declared.names.Names.the-variants as names
 
 -- an item seen through a map
 abbrev pub through : {A B : Type 0} → (A → B) → Item A → Item B
@@ -76,42 +64,11 @@ dayOf at (day.Is d next) = is d (next .place)
 dayOf at day.Cut = not 2 at
 dayOf at day.NoSuchDate = not 6 at
 
--- signer and reference, and the reference's length
-pub record Measured : Type 0 where
-  pub length : ℕ
-  pub names : read.Names
-
-abbrev pub measured : read.Names → Measured
-measured n = record { length = length (n .reference); names = n }
-
--- signer and reference stand one after the other at the start of a text
-abbrev pub namesOf : List ℕ → Names → Item Measured
-namesOf text (names.Are size next) = is (record { length = size; names = record { signer = take 4 text; reference = take size (drop 4 text) } }) (next .place)
-namesOf text (names.Not why) = not (why .number) (why .place)
-
 -- what an item leaves in a lent buffer: its value, or what was there
 abbrev pub valueOr : {A : Type 0} → A → Item A → A
 valueOr old (is a at) = a
 valueOr old (not number place) = old
 
--- what signer and reference leave in a lent text: themselves from its start and past them what was there, or all that was there
-abbrev pub textOver : List ℕ → Item read.Names → List ℕ
-textOver old (is n at) = filled (done (n .signer ++ n .reference)) old
-textOver old (not number place) = old
-
 -- past so many bytes
 abbrev pub past : ℕ → ℕ → List ℕ → Item Unit
 past size at bytes = is tt (at + size)
-
--- any text at all
-abbrev pub anyText : List ℕ → Bool
-anyText t = true
-
--- as many bytes as a field of the text's size takes
-abbrev pub Sized : List ℕ → List ℕ → Type 0
-Sized bytes text = (length bytes ≡ width (length text)) × ((0 < length text) × (length text ≤ 255))
-
--- whether the bytes are C40 of exactly the text's size, and then what the text is
-abbrev pub Fills : Bool → List ℕ → List ℕ → Type 0
-Fills true bytes text = (exactly (length text) (decode 0 bytes) ≡ text)
-Fills false bytes text = (exactly (length text) (decode 0 bytes) ≡ [])

@@ -1,6 +1,5 @@
 // The items of a seal, read one after another by a cursor (document 01, "Reader").
 mod cursor;
-mod names;
 mod signature;
 
 pub use cursor::Byte;
@@ -11,7 +10,6 @@ pub use cursor::Refusal;
 pub use cursor::Step;
 pub use cursor::Whole;
 use dates::Date;
-pub use names::Names;
 pub use signature::is_signature;
 
 // The header of a seal, as the reader gives it and the writer takes it: version 3 or 4, the country with fillers as `<`, and the reference's length L.

@@ -7,7 +7,8 @@ use mathlib.Core.List.{List}
 use lib.ListN.{take, drop}
 use Rattle.dates.specs.declared.Date.{Date}
 use Rattle.verdict.specs.Items.{Item, is, not, next, mark, version, country, names, date, last, Names}
-use Rattle.items.specs.Cases.{edition, Measured, measured}
+use Rattle.items.specs.Cases.{edition}
+use Rattle.names.specs.Cases.{Measured, measured}
 use Rattle.zones.specs.declared.fields.Front.{Front}
 use Rattle.zones.specs.declared.fields.Front.the-variants as front
 use Rattle.zones.specs.declared.fields.Rest.{Rest}

@@ -2,14 +2,16 @@
 use dates::Date;
 ghost use mathlib.Core.Path.{_≡_};
 ghost use mathlib.Core.List.{[]};
-ghost use Rattle.items.specs.Cases.{whyOf, through, valueOr, textOver};
+ghost use Rattle.items.specs.Cases.{whyOf, through, valueOr};
+ghost use Rattle.names.specs.Cases.{textOver};
 ghost use Rattle.zones.specs.Steps.{fields as fieldsIn, countryIn, namesIn, dated, frontOf, restOf};
 use items::Cursor;
 use items::Day;
-use items::Names;
 use items::Number;
 use items::Refusal;
 use items::Step;
+use names::Field;
+use names::Names;
 
 // The items up to the reference; country and names are in lent buffers.
 pub enum Front {
@@ -70,11 +72,11 @@ pub fn read_front(seal: &[u8], country: &mut [u8; 3], names: &mut [u8; 259]) -> 
     let Number::Is(v, at2) = version else {
         return Front::Not(version.refusal(4, at.place));
     };
-    let code = at2.country(seal, country);
+    let code = Field { place: at2.place }.country(seal, country);
     let Step::Past(at3) = code else {
         return Front::Not(code.refusal(5, at2.place));
     };
-    let read = at3.names(seal, v, names);
+    let read = Field { place: at3.place }.names(seal, v, names);
     let Names::Are(size, next) = read else {
         return Front::Not(read.why());
     };

@@ -9,7 +9,7 @@ use Prim.Native.Nat.{_+_, _≤_}
 use denote.Ref.{now}
 use lib.ListN.{length, take}
 use Rattle.letters.specs.Characters.{isSigner, isReference, all, isCountry}
-use Rattle.items.specs.Cases.Named.{first-four, rest-of}
+use Rattle.letters.specs.Characters.Laws.{first-four, rest-of}
 use Rattle.given.specs.Tests.Laws.{names-country, names-size, names-length, names-signer, names-reference, size-any}
 use Rattle.given.specs.Tests.{isTextSize}
 use Rattle.given.proofs.are_names.Statement.{statement}

@@ -4,9 +4,11 @@ use mathlib.Core.Path.{_≡_, refl, ap, sym, _∙_}
 use mathlib.Core.Bool.{true, false}
 use Prim.Native.Nat.{ℕ, _+_, _-_, _≤_, _<_}
 use borrow.Author.Tests.{le-leb, lt-leb, eq-eqb, ne-eqb}
+use native.Mathlib.Omega.{arith}
 use mathlib.Core.List.{List, [], _∷_}
 use lib.Dec.{eqb}
-use lib.ListN.{length, drop, getD}
+use lib.ListN.{length, drop, getD, take, length-drop}
+use lib.Seq.{take-all}
 use Rattle.format.specs.Table.{both}
 use Rattle.format.specs.Table.Laws.{both-true-right, either-absorbed}
 use Rattle.format.specs.Places.{at-place, past-end}
@@ -86,3 +88,15 @@ module _ (t : List ℕ) (i : ℕ) (sofar : Passed t i) where
 
   pub all-end : length t ≤ i → true ≡ all isReference t
   all-end h = sym (sofar ∙ ap (all isReference) (past-end t i h))
+
+-- the first four characters
+pub first-four : (t : List ℕ) → 4 ≤ length t → getD t 0 0 ∷ getD t 1 0 ∷ getD t 2 0 ∷ getD t 3 0 ∷ [] ≡ take 4 t
+first-four [] h = absurd (omega arith)
+first-four (a ∷ []) h = absurd (omega arith)
+first-four (a ∷ b ∷ []) h = absurd (omega arith)
+first-four (a ∷ b ∷ c ∷ []) h = absurd (omega arith)
+first-four (a ∷ b ∷ c ∷ d ∷ t) h = refl
+
+-- all that stands after the first k
+pub rest-of : (k : ℕ) (t : List ℕ) → take (length t - k) (drop k t) ≡ drop k t
+rest-of k t = take-all (length t - k) (drop k t) (omega (arith, length-drop k t))

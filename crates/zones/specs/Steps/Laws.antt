@@ -12,7 +12,8 @@ use Rattle.grammar.specs.Content.{Version}
 use Rattle.verdict.specs.Items.{Item, is, not, next, whole, mark, version, country, names, date, last, derLength, Names}
 use Rattle.verdict.specs.Items.Laws.{unread}
 use Rattle.verdict.specs.Items.Sound.{same-value, same-place}
-use Rattle.items.specs.Cases.{through, edition, versionOf, Measured, measured, valueOr, textOver}
+use Rattle.items.specs.Cases.{through, edition, versionOf, valueOr}
+use Rattle.names.specs.Cases.{Measured, measured, textOver}
 use Rattle.items.specs.Cases.Laws.{version-back, Past, judged}
 use Rattle.verdict.specs.Judge.{isSignature, signature, rawIn}
 use Rattle.zones.specs.Steps.{Fields, fields, countryIn, namesIn, dated}

@@ -9,7 +9,8 @@ use Rattle.grammar.specs.Content.{Version, Header}
 use Rattle.verdict.specs.Items.{Item, is, not, next, mark, version, country, names, date, last, Names}
 use Rattle.verdict.specs.Items.Laws.{unread}
 use Rattle.verdict.specs.Items.Sound.{steps, same-value, same-place}
-use Rattle.items.specs.Cases.{through, edition, versionOf, measured}
+use Rattle.items.specs.Cases.{through, edition, versionOf}
+use Rattle.names.specs.Cases.{measured}
 use Rattle.items.specs.Cases.Laws.{version-back}
 use Rattle.verdict.specs.Judge.{Row, header}
 use Rattle.zones.specs.Steps.{Fields, Dated, fields, dated}

@@ -5,8 +5,9 @@ use mathlib.Core.Path.{_≡_, _∙_, ap, sym}
 use mathlib.Core.List.{[]}
 use denote.Ref.{now}
 use Rattle.verdict.specs.Items.{is, not, mark, version, country, names}
-use Rattle.items.specs.Cases.{stepOf, numberOf, namesOf, whyOf, through, edition, versionOf, measured, valueOr, textOver}
-use Rattle.items.specs.declared.names.Names.the-variants as read
+use Rattle.items.specs.Cases.{stepOf, numberOf, whyOf, through, edition, versionOf, valueOr}
+use Rattle.names.specs.Cases.{namesOf, measured, textOver}
+use Rattle.names.specs.declared.Names.the-variants as read
 use Rattle.zones.specs.Steps.{fields, countryIn, namesIn}
 use Rattle.zones.specs.Steps.Laws.{fields-mark, fields-version, fields-country, fields-names, fields-all, country-mark, country-version, country-reached, names-reached, text-kept}
 use Rattle.zones.proofs.Says.{step-says, number-says}
