@@ -6,6 +6,7 @@ Where a seal is put together from parts, the case's answer is stated from what w
 the answer is its number at its place), and the reference must agree. Only where a heading says "by the reference" is the
 answer the reference's alone.
 """
+import functools
 import pathlib
 import re
 import sys
@@ -18,8 +19,12 @@ CHAPTERS = {}   # chapter: [(heading, cases)]
 VERSIONS = (3, 4)
 
 
-def family(chapter, heading, *groups):
-    CHAPTERS.setdefault(chapter, []).append((heading, [case for group in groups for case in group]))
+def enter(chapters, chapter, heading, *groups):
+    """Puts groups of cases under a heading of a chapter."""
+    chapters.setdefault(chapter, []).append((heading, [case for group in groups for case in group]))
+
+
+family = functools.partial(enter, CHAPTERS)
 
 
 VISA = (10, H("DE515826"))

@@ -7,28 +7,19 @@ the answer is the seal put together from them), and the reference must agree. On
 the answer the reference's alone. Every seal written must also read as what was given, by the reading of seals.py. The seals
 that are read and written back are those of seal_cases.py that answer 0.
 """
+import functools
 import itertools
 import pathlib
 import sys
 
 import seal_cases
 from der_cases import filled, length_bytes
+from seal_cases import A, B, H, VERSIONS, VISA, enter
 from seals import Dice, MOST, SIZES, Seal, mixed, padded
 from writing import FIELDS, ROOM, TOP, case_line, check, given_of, good, put_in, runs, seal_of, with_text, write, wrong
 
-H = bytes.fromhex
 CHAPTERS = {}                # chapter: [(heading, cases)]
-VERSIONS = (3, 4)
-
-
-def family(chapter, heading, *groups):
-    CHAPTERS.setdefault(chapter, []).append((heading, [case for group in groups for case in group]))
-
-
-VISA = (10, H("DE515826"))
-A = Seal(3, features=[VISA])
-B = Seal(4, country="D<<", signer="DEZ9", reference="0A1B2C3", issued=(1, 31, 1), signed=(12, 1, 9999), definition=254,
-         category=3, features=[VISA, (0, b""), (254, b"\xFF\x38\xAA")], raw=b"\x80" * 56)
+family = functools.partial(enter, CHAPTERS)
 BASES = {3: given_of(A), 4: given_of(B)}
 EACH = BASES.values()
 

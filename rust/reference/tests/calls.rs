@@ -5,33 +5,10 @@ mod common;
 use std::collections::BTreeMap;
 
 use common::filled;
-use reference::inputs::{lent, lent_table, run, Answer, Call, Inputs, Outcome, Reference};
+use reference::inputs::{answers, lent, lent_table, run, Answer, Call, Inputs, Outcome, Reference};
 use reference::*;
 
 const CALLS: usize = 200_000;
-
-/// Every answer that the base can give. 64 is never given: the content has 138 bytes at most.
-fn answers() -> impl Iterator<Item = usize> {
-    (0..=12).chain(20..=28).chain(40..=45).chain(60..=63).chain([65])
-}
-
-/// A name for the call, so that the counts can be told apart.
-fn name(call: &Call) -> &'static str {
-    match call {
-        Call::Read { .. } => "read",
-        Call::Judge { .. } => "judge",
-        Call::Write { .. } => "write",
-        Call::C40Read { .. } => "c40_read",
-        Call::C40Write { .. } => "c40_write",
-        Call::DateFromNumber(_) => "date_from_number",
-        Call::DateToNumber(_) => "date_to_number",
-        Call::IntegerRead(_) => "integer_read",
-        Call::IntegerWrite(..) => "integer_write",
-        Call::ToDer { .. } => "signature_to_der",
-        Call::ToRaw { .. } => "signature_to_raw",
-        Call::Hash(_) => "hash",
-    }
-}
 
 #[test]
 fn every_answer_is_frequent() {
@@ -41,7 +18,7 @@ fn every_answer_is_frequent() {
         let call = inputs.next();
         let (number, _) = run(&Reference, &call).answer.told();
         *all.entry(number).or_insert(0) += 1;
-        *of_call.entry((name(&call), number)).or_insert(0) += 1;
+        *of_call.entry((call.name(), number)).or_insert(0) += 1;
     }
     for ((call, number), count) in &of_call {
         println!("{call:18} {number:3} {count:7}");

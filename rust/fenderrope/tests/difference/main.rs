@@ -15,16 +15,11 @@ use std::env;
 use std::io::{stdout, Write};
 use std::time::Instant;
 
-use reference::inputs::{run, Call, Inputs, Outcome, Reference};
+use reference::inputs::{answers, run, Call, Inputs, Outcome, Reference};
 use show::Counts;
 
 /// A program that is compared with the reference: its outcome, or what it did that no program may.
 type Program<'a> = (&'a str, &'a dyn Fn(&Call) -> Result<Outcome, String>);
-
-/// Every answer of the base but 64, which no input draws out: the content has 138 bytes at most.
-fn answers() -> impl Iterator<Item = usize> {
-    (0..=12).chain(20..=28).chain(40..=45).chain(60..=63).chain([65])
-}
 
 /// A number from the environment.
 fn setting(name: &str, otherwise: u64) -> u64 {
@@ -43,7 +38,7 @@ fn compare(seed: u64, count: u64, programs: &[Program]) -> Result<Counts, String
         let agreed = programs.iter().try_for_each(|program| agrees(program, &call, &expected));
         let agreed = agreed.and_then(|()| back::back(&call, &expected));
         agreed.map_err(|said| told(seed, at, &call, &said, &expected))?;
-        *counts.entry(expected.answer.told().0).or_default().entry(show::name(&call)).or_default() += 1;
+        *counts.entry(expected.answer.told().0).or_default().entry(call.name()).or_default() += 1;
     }
     Ok(counts)
 }

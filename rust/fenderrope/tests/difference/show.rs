@@ -7,24 +7,6 @@ use reference::inputs::{Call, Outcome};
 /// How often each call gave each number.
 pub type Counts = BTreeMap<usize, BTreeMap<&'static str, u64>>;
 
-/// The call's name.
-pub fn name(call: &Call) -> &'static str {
-    match call {
-        Call::Read { .. } => "read",
-        Call::Judge { .. } => "judge",
-        Call::Write { .. } => "write",
-        Call::C40Read { .. } => "c40_read",
-        Call::C40Write { .. } => "c40_write",
-        Call::DateFromNumber(_) => "date_from_number",
-        Call::DateToNumber(_) => "date_to_number",
-        Call::IntegerRead(_) => "integer_read",
-        Call::IntegerWrite(..) => "integer_write",
-        Call::ToDer { .. } => "signature_to_der",
-        Call::ToRaw { .. } => "signature_to_raw",
-        Call::Hash(_) => "hash",
-    }
-}
-
 fn hex(bytes: &[u8]) -> String {
     bytes.iter().map(|byte| format!("{byte:02X}")).collect()
 }
@@ -52,7 +34,7 @@ pub fn given(call: &Call) -> String {
         Call::ToRaw { n, der, room } => format!("n {n}, room {room}\n  der {}", hex(der)),
         Call::Hash(n) => format!("{n}"),
     };
-    format!("{} {given}", name(call))
+    format!("{} {given}", call.name())
 }
 
 /// An answer, and the lent memory after it.

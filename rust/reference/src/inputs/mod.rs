@@ -39,6 +39,31 @@ pub enum Call {
     Hash(usize),
 }
 
+impl Call {
+    /// The call's name, so that counts can be told apart.
+    pub fn name(&self) -> &'static str {
+        match self {
+            Call::Read { .. } => "read",
+            Call::Judge { .. } => "judge",
+            Call::Write { .. } => "write",
+            Call::C40Read { .. } => "c40_read",
+            Call::C40Write { .. } => "c40_write",
+            Call::DateFromNumber(_) => "date_from_number",
+            Call::DateToNumber(_) => "date_to_number",
+            Call::IntegerRead(_) => "integer_read",
+            Call::IntegerWrite(..) => "integer_write",
+            Call::ToDer { .. } => "signature_to_der",
+            Call::ToRaw { .. } => "signature_to_raw",
+            Call::Hash(_) => "hash",
+        }
+    }
+}
+
+/// Every answer that the base can give. 64 is never given: the content has 138 bytes at most.
+pub fn answers() -> impl Iterator<Item = usize> {
+    (0..=12).chain(20..=28).chain(40..=45).chain(60..=63).chain([65])
+}
+
 /// The calls that follow from one seed, without end.
 #[derive(Debug, Clone)]
 pub struct Inputs {
