@@ -1,6 +1,5 @@
-// What the writer is given, judged (document 01, numbers 20 to 26): header, text and signature here, rows in rows.rt.
+// What the writer is given, judged (document 01, numbers 20 to 25): header and text here, rows in rows.rt. 26 is `items::is_signature`.
 ghost use mathlib.Core.Path.{_≡_};
-ghost use mathlib.Core.List.{[], _∷_};
 ghost use Rattle.given.specs.Tests as test;
 
 mod rows;

@@ -2,7 +2,7 @@
 ghost use mathlib.Core.Path.{_≡_};
 ghost use Prim.Native.Nat.{_<_, _≤_};
 ghost use lib.ListN.{length};
-ghost use mathlib.Core.List.{[], _∷_};
+ghost use mathlib.Core.List.{[]};
 ghost use Rattle.verdict.specs.Items as read;
 ghost use Rattle.letters.specs.Characters.{isReference, all};
 ghost use Rattle.items.specs.Cases.{stepOf, whyOf, versionOf, through, valueOr};
