@@ -3,7 +3,7 @@
 pub mod Laws
 use mathlib.Core.Path.{_≡_}
 use mathlib.Core.Bool.{Bool, true}
-use Prim.Native.Nat.{ℕ, _+_, _*_, _/_, _%_}
+use Prim.Native.Nat.{ℕ, _+_, _*_, _/_, _%_, _<_, _≤_}
 use mathlib.Core.List.{List}
 use lib.Dec.{leb}
 use Rattle.format.specs.Numbers.{be}
@@ -20,6 +20,23 @@ isDay d = both (within 1 12 (d .month)) (both (within 1 31 (d .day)) (within 1 9
 
 abbrev pub Day : Date → Type 0
 Day d = isDay d ≡ true
+
+abbrev pub dated : ℕ → ℕ → ℕ → Date
+dated month day year = record { month = month; day = day; year = year }
+
+-- A date's own first and last day: 1 January of year 1 and 31 December of year 9999. specs/Exact.antt proves that they are days,
+-- and that no day is before the one or after the other.
+abbrev pub firstDay : Date
+firstDay = dated 1 1 1
+
+abbrev pub lastDay : Date
+lastDay = dated 12 31 9999
+
+-- one day is not after another: by the year, then by the month, then by the day
+pub data NotAfter (a b : Date) : Type 0 where
+  by-year : a .year < b .year → NotAfter a b
+  by-month : a .year ≡ b .year → a .month < b .month → NotAfter a b
+  by-day : a .year ≡ b .year → a .month ≡ b .month → a .day ≤ b .day → NotAfter a b
 
 -- month, day and four-digit year as one number MMDDYYYY, and back
 abbrev pub numberOf : Date → ℕ

@@ -1,6 +1,7 @@
--- The calls, exactly: a number gives the day whose number it is, a day its number, and three bytes the day whose published form they are.
+-- The first and the last day. And the calls, exactly: a number gives the day whose number it is, a day its number, and three bytes the day
+-- whose published form they are.
 -- Assumes nothing.
-use mathlib.Core.Path.{_≡_, ap, sym, _∙_}
+use mathlib.Core.Path.{_≡_, refl, ap, sym, _∙_}
 use mathlib.Core.Bool.{false}
 use Prim.Native.Nat.{ℕ, _≤_}
 use native.Mathlib.Omega.{arith}
@@ -11,10 +12,29 @@ use Rattle.format.specs.Numbers.{be, val}
 use Rattle.format.specs.Numbers.Laws.{be-val}
 use Rattle.format.specs.Choice.Laws.{by-test}
 use Rattle.format.specs.Answers.{given, refusal}
-use Rattle.dates.specs.Days.{isDay, Day, numberOf, dateOf, publish}
-use Rattle.dates.specs.Days.Laws.{number-date, date-number, val-publish}
+use Rattle.dates.specs.Days.{isDay, Day, firstDay, lastDay, NotAfter, numberOf, dateOf, publish}
+use Rattle.dates.specs.Days.Laws.{day-bounds, number-above, number-below, fields-not-after, number-date, date-number, val-publish}
 use Rattle.dates.specs.Calls.{no-date, fromNumber, toNumber}
 use Rattle.dates.specs.declared.Date.{Date}
+
+-- FIRST and LAST are days, and no day is before the first or after the last: by the calendar, nor is its number less or greater.
+pub first-day : Day firstDay × ((d : Date) → Day d → NotAfter firstDay d × (numberOf firstDay ≤ numberOf d))
+unfolding isDay
+first-day = (
+  refl,
+  λ d h.
+      let b = day-bounds d h in
+      (fields-not-after firstDay d (b .year .0) (b .month .0) (b .day .0), number-above d h),
+)
+
+pub last-day : Day lastDay × ((d : Date) → Day d → NotAfter d lastDay × (numberOf d ≤ numberOf lastDay))
+unfolding isDay
+last-day = (
+  refl,
+  λ d h.
+      let b = day-bounds d h in
+      (fields-not-after d lastDay (b .year .1) (b .month .1) (b .day .1), number-below d h),
+)
 
 -- what each call answers, by the test of the day
 pub from-day : (n : ℕ) → Day (dateOf n) → fromNumber n ≡ given (dateOf n)

@@ -2,7 +2,7 @@
 ghost use mathlib.Core.Path.{_≡_};
 ghost use mathlib.Core.List.{[], _∷_};
 ghost use Rattle.format.specs.Numbers.{val};
-ghost use Rattle.dates.specs.Days.{isDay};
+ghost use Rattle.dates.specs.Days.{isDay, dated, firstDay, lastDay};
 ghost use Rattle.dates.specs.Calls.{takenOf, numberedOf, fromNumber, toNumber};
 
 pub struct Date {
@@ -40,6 +40,21 @@ impl Date {
         day: 31,
         year: 9999,
     };
+
+    // FIRST and LAST under a promise. The second clause asks the constant itself: its value is settled whatever a body does.
+    pub fn first() -> Date
+        ensures { λ r. ⌜ r ≡ firstDay ⌝ }
+        ensures { λ r. do ⌜ dated (← ⟦Date::FIRST.month⟧ .entry) (← ⟦Date::FIRST.day⟧ .entry) (← ⟦Date::FIRST.year⟧ .entry) ≡ firstDay ⌝ }
+    {
+        Date::FIRST
+    }
+
+    pub fn last() -> Date
+        ensures { λ r. ⌜ r ≡ lastDay ⌝ }
+        ensures { λ r. do ⌜ dated (← ⟦Date::LAST.month⟧ .entry) (← ⟦Date::LAST.day⟧ .entry) (← ⟦Date::LAST.year⟧ .entry) ≡ lastDay ⌝ }
+    {
+        Date::LAST
+    }
 
     // Whether there is such a day: from the first to the last in each field.
     pub fn is_day(self) -> bool

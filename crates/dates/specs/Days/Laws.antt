@@ -3,7 +3,9 @@
 use mathlib.Core.Path.{_≡_, refl, sym}
 use mathlib.Core.Bool.{true, false}
 use Prim.Native.Nat.{ℕ, _+_, _*_, _/_, _%_, _^_, _<_, _≤_}
+use native.Mathlib.Nat.{eq-or-lt-of-le}
 use native.Mathlib.Omega.{arith}
+use mathlib.Core.Logic.{⊎-elim}
 use borrow.Author.Tests.{lt-leb, le-leb, leb-true}
 use mathlib.Core.List.{[], _∷_}
 use lib.Dec.{leb}
@@ -14,7 +16,7 @@ use Rattle.format.specs.Table.{both}
 use Rattle.format.specs.Choice.Laws.{by-test}
 use Rattle.format.specs.Cut.{Cut}
 use Rattle.format.specs.Cut.Laws.{cut-be, cut-through}
-use Rattle.dates.specs.Days.{within, isDay, Day, numberOf, dateOf, publish}
+use Rattle.dates.specs.Days.{within, isDay, Day, NotAfter, by-year, by-month, by-day, numberOf, dateOf, publish}
 use Rattle.dates.specs.declared.Date.{Date}
 use Rattle.format.specs.Table.Laws.{both-true}
 
@@ -67,6 +69,15 @@ last-test d m m′ a a′ y =
 -- the last day's number is the greatest, and it fits three bytes
 pub number-below : (d : Date) → Day d → numberOf d ≤ 12319999
 number-below d h = let b = day-bounds d h in omega arith
+
+-- the first day's is the least
+pub number-above : (d : Date) → Day d → 1010001 ≤ numberOf d
+number-above d h = let b = day-bounds d h in omega arith
+
+-- a date none of whose fields is over another's is not after it
+pub fields-not-after : (a b : Date) → a .year ≤ b .year → a .month ≤ b .month → a .day ≤ b .day → NotAfter a b
+fields-not-after a b y m d =
+    ⊎-elim (λ e. ⊎-elim (λ f. by-day e f d) (by-month e) (eq-or-lt-of-le m)) by-year (eq-or-lt-of-le y)
 
 -- there and back
 pub number-date : (d : Date) → Day d → dateOf (numberOf d) ≡ d
