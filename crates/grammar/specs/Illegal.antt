@@ -9,6 +9,7 @@ use lib.ListN.{replicate}
 use Rattle.dates.specs.Days.{isDay}
 use Rattle.grammar.specs.Content.{four}
 use Rattle.grammar.specs.Legal.{LetterOrDigit, LegalHeader, LegalFeatures, Legal}
+use Rattle.grammar.specs.Parts.{reference-letter-or-digit}
 use Rattle.grammar.specs.Examples.{uto, utab, ref-00001, spring, with-last, with-names, with-dates, with-features, with-signature}
 
 -- definition and category: each its own rule
@@ -70,10 +71,10 @@ reference-6 : LegalHeader (with-names uto utab (48 ∷ 48 ∷ 48 ∷ 48 ∷ 48 �
 reference-6 l = let e = l .size in omega arith
 
 reference-space : LegalHeader (with-names uto utab (48 ∷ 48 ∷ 48 ∷ 48 ∷ 32 ∷ [])) → ⊥
-reference-space l = no-letter-or-digit 32 (omega arith) (l .reference .1 .1 .1 .1 .0)
+reference-space l = no-letter-or-digit 32 (omega arith) (reference-letter-or-digit 32 (l .reference .1 .1 .1 .1 .0))
 
 reference-lower : LegalHeader (with-names uto utab (97 ∷ 48 ∷ 48 ∷ 48 ∷ 48 ∷ [])) → ⊥
-reference-lower l = ⊎-elim (λ e. omega (arith, e .1)) (λ e. omega (arith, e .1)) (l .reference .0)
+reference-lower l = ⊎-elim (λ e. omega (arith, e .1)) (λ e. omega (arith, e .1)) (reference-letter-or-digit 97 (l .reference .0))
 
 -- one past Z and one past 9
 past-z : LetterOrDigit 91 → ⊥

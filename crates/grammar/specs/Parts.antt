@@ -39,6 +39,10 @@ map-back P f g e (c ∷ t) a = λ i. e c (a .0) i ∷ map-back P f g e t (a .1) 
 letter-or-digit-in : (c : ℕ) → LetterOrDigit c → InChart c
 letter-or-digit-in c h = ⊎-elim (λ l. letter-in c (l .0) (l .1)) (λ d. digit-in c (d .0) (d .1)) h
 
+-- a reference's characters are letters and digits: all that is used of them here
+pub reference-letter-or-digit : (c : ℕ) → ReferenceCharacter c → LetterOrDigit c
+reference-letter-or-digit c h = h
+
 -- country: fillers as spaces, and back
 uncarried : ℕ → ℕ
 uncarried c = pick (eqb c 32) 60 c
@@ -82,7 +86,7 @@ signer-text t s = (
 )
 
 pub reference-text : (t : List ℕ) → All ReferenceCharacter t → Text t
-reference-text t a = all-to ReferenceCharacter InChart letter-or-digit-in t a
+reference-text t a = all-to ReferenceCharacter InChart (λ c h. letter-or-digit-in c (reference-letter-or-digit c h)) t a
 
 -- the two digits of a length: in the chart, and they give the length
 hex-digit-in : (n : ℕ) → n < 16 → InChart (hexDigit n)

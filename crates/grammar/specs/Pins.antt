@@ -15,7 +15,7 @@ use Rattle.dates.specs.Days.{isDay, publish as date}
 use Rattle.der.specs.Length.{form}
 use Rattle.grammar.specs.Content.{three, four}
 use Rattle.grammar.specs.Publish.{versionByte, carried, hexDigits, names, headerZone, lengthOf, messageZone, signatureZone, signedBytes, publish}
-use Rattle.grammar.specs.Legal.{LetterOrDigit, Filler, Country, Signer, ReferenceSize, LastByte, ValueSize, LegalHeader, LegalFeatures, SignatureSize, n28, n32, n48, n64, n66, Legal}
+use Rattle.grammar.specs.Legal.{Filler, Country, Signer, ReferenceCharacter, ReferenceSize, LastByte, ValueSize, LegalHeader, LegalFeatures, SignatureSize, n28, n32, n48, n64, n66, Legal}
 use Rattle.grammar.specs.Examples.{uto, utab, ref-00001, d-fillers, header-a, content-a, seal-a}
 
 -- Seal A is the published form of its content
@@ -187,7 +187,7 @@ signer-utab = record {
   fourth = inl (omega arith, omega arith);
 }
 
-zero-digit : LetterOrDigit 48
+zero-digit : ReferenceCharacter 48
 zero-digit = inr (omega arith, omega arith)
 
 header-a-legal : LegalHeader header-a

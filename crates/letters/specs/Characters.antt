@@ -18,9 +18,12 @@ isLetter = within 65 90
 abbrev pub isDigit : ℕ → Bool
 isDigit = within 48 57
 
--- which characters a reference may have
+abbrev pub isLetterOrDigit : ℕ → Bool
+isLetterOrDigit c = either (isLetter c) (isDigit c)
+
+-- Which characters a reference may have: the test of the grammar's `ReferenceCharacter`. Nothing else goes by it.
 abbrev pub isReference : ℕ → Bool
-isReference c = either (isLetter c) (isDigit c)
+isReference c = isLetterOrDigit c
 
 abbrev pub all : (ℕ → Bool) → List ℕ → Bool
 all test [] = true
@@ -34,7 +37,7 @@ isCountry filler t =
 
 -- two letters, then two letters or digits
 abbrev pub isSigner : List ℕ → Bool
-isSigner t = both (all isLetter (take 2 t)) (all isReference (drop 2 t))
+isSigner t = both (all isLetter (take 2 t)) (all isLetterOrDigit (drop 2 t))
 
 -- what a hexadecimal digit, in upper case, stands for; 16 for any other character
 abbrev pub hexValue : ℕ → ℕ

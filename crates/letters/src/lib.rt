@@ -24,14 +24,21 @@ pub fn is_digit(c: u8) -> bool
     c <= b'9'
 }
 
-// Which characters a reference may have.
-pub fn is_reference(c: u8) -> bool
-    ensures { λ r. ⌜ r ≡ character.isReference c ⌝ }
+// A letter or a digit.
+pub fn is_letter_or_digit(c: u8) -> bool
+    ensures { λ r. ⌜ r ≡ character.isLetterOrDigit c ⌝ }
 {
     if is_letter(c) {
         return true;
     }
     is_digit(c)
+}
+
+// Which characters a reference may have: the one test of them.
+pub fn is_reference(c: u8) -> bool
+    ensures { λ r. ⌜ r ≡ character.isReference c ⌝ }
+{
+    is_letter_or_digit(c)
 }
 
 // Whether all of a text may stand in a reference.
@@ -58,10 +65,10 @@ pub fn is_signer(a: u8, b: u8, c: u8, d: u8) -> bool
     if !is_letter(b) {
         return false;
     }
-    if !is_reference(c) {
+    if !is_letter_or_digit(c) {
         return false;
     }
-    is_reference(d)
+    is_letter_or_digit(d)
 }
 
 // A country, fillers as `filler`: a letter first, and no letter after a filler.

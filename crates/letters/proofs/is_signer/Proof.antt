@@ -22,18 +22,18 @@ returns-2 c =
     let s = one .before .before .args in
     signer-second (s .a) (s .b) (s .c) (s .d) (sym (one .before .is-letter .ensures) ∙ not-false _ (one .if1 .left)) (sym (c .before .is-letter2 .ensures) ∙ not-true _ (c .if2 .taken))
 
-is-reference-requires : tie.Need-is-reference-requires
-is-reference-requires c κs = search needs
+is-letter-or-digit-requires : tie.Need-is-letter-or-digit-requires
+is-letter-or-digit-requires c κs = search needs
 
 returns-3 : tie.Need-returns-3
 returns-3 c =
     let two = c .before .before in
     let one = two .before .before in
     let s = one .before .before .args in
-    signer-third (s .a) (s .b) (s .c) (s .d) (sym (one .before .is-letter .ensures) ∙ not-false _ (one .if1 .left)) (sym (two .before .is-letter2 .ensures) ∙ not-false _ (two .if2 .left)) (sym (c .before .is-reference .ensures) ∙ not-true _ (c .if3 .taken))
+    signer-third (s .a) (s .b) (s .c) (s .d) (sym (one .before .is-letter .ensures) ∙ not-false _ (one .if1 .left)) (sym (two .before .is-letter2 .ensures) ∙ not-false _ (two .if2 .left)) (sym (c .before .is-letter-or-digit .ensures) ∙ not-true _ (c .if3 .taken))
 
-is-reference-requires-2 : tie.Need-is-reference-requires-2
-is-reference-requires-2 c κs = search needs
+is-letter-or-digit-requires-2 : tie.Need-is-letter-or-digit-requires-2
+is-letter-or-digit-requires-2 c κs = search needs
 
 returns-4 : tie.Need-returns-4
 returns-4 c =
@@ -41,8 +41,8 @@ returns-4 c =
     let two = three .before .before in
     let one = two .before .before in
     let s = one .before .before .args in
-    c .is-reference2 .ensures
-    ∙ signer-fourth (s .a) (s .b) (s .c) (s .d) (sym (one .before .is-letter .ensures) ∙ not-false _ (one .if1 .left)) (sym (two .before .is-letter2 .ensures) ∙ not-false _ (two .if2 .left)) (sym (three .before .is-reference .ensures) ∙ not-false _ (three .if3 .left))
+    c .is-letter-or-digit2 .ensures
+    ∙ signer-fourth (s .a) (s .b) (s .c) (s .d) (sym (one .before .is-letter .ensures) ∙ not-false _ (one .if1 .left)) (sym (two .before .is-letter2 .ensures) ∙ not-false _ (two .if2 .left)) (sym (three .before .is-letter-or-digit .ensures) ∙ not-false _ (three .if3 .left))
 
 pub is-signer-spec : {M : Type 1} → statement M
 is-signer-spec =
@@ -52,7 +52,7 @@ is-signer-spec =
     returns
     is-letter-requires-2
     returns-2
-    is-reference-requires
+    is-letter-or-digit-requires
     returns-3
-    is-reference-requires-2
+    is-letter-or-digit-requires-2
     returns-4)

@@ -11,19 +11,23 @@ use Rattle.format.specs.Table.{both, either}
 use Rattle.format.specs.Table.Laws.{both-true, either-true}
 use Rattle.format.specs.Bytes.{All}
 use Rattle.dates.specs.Days.Laws.{within-true, within-below, within-both}
-use Rattle.grammar.specs.Legal.{Letter, LetterOrDigit, Signer}
-use Rattle.letters.specs.Characters.{isLetter, isDigit, isReference, all, isSigner}
+use Rattle.grammar.specs.Legal.{Letter, LetterOrDigit, ReferenceCharacter, Signer}
+use Rattle.letters.specs.Characters.{isLetter, isDigit, isLetterOrDigit, isReference, all, isSigner}
 
 -- letters and digits pass their tests
 pub letter : (c : ℕ) → Letter c → isLetter c ≡ true
 letter c l = within-true 65 90 c (l .0) (l .1)
 
-pub reference-passes : (c : ℕ) → LetterOrDigit c → isReference c ≡ true
-reference-passes c e =
+pub letter-or-digit : (c : ℕ) → LetterOrDigit c → isLetterOrDigit c ≡ true
+letter-or-digit c e =
     ⊎-elim
     (λ l. ap (λ b. either b (isDigit c)) (letter c l))
     (λ d. ap (λ b. either b (isDigit c)) (within-below 65 90 c (omega (arith, d .1))) ∙ within-true 48 57 c (d .0) (d .1))
     e
+
+-- a reference's characters, and only they, pass their test: with `reference-of` below the law of `isReference`
+pub reference-passes : (c : ℕ) → ReferenceCharacter c → isReference c ≡ true
+reference-passes c e = letter-or-digit c e
 
 pub all-pass : (P : ℕ → Type 0) (test : ℕ → Bool) → ((c : ℕ) → P c → test c ≡ true) → (t : List ℕ) → All P t → all test t ≡ true
 all-pass P test f [] a = refl
@@ -35,12 +39,15 @@ signer-passes [] l = let e = l .size in absurd (omega arith)
 signer-passes (a ∷ []) l = let e = l .size in absurd (omega arith)
 signer-passes (a ∷ b ∷ []) l = let e = l .size in absurd (omega arith)
 signer-passes (a ∷ b ∷ c ∷ []) l = let e = l .size in absurd (omega arith)
-signer-passes (a ∷ b ∷ c ∷ d ∷ []) l = rw (letter a (l .first), letter b (l .second), reference-passes c (l .third), reference-passes d (l .fourth)) refl
+signer-passes (a ∷ b ∷ c ∷ d ∷ []) l = rw (letter a (l .first), letter b (l .second), letter-or-digit c (l .third), letter-or-digit d (l .fourth)) refl
 signer-passes (a ∷ b ∷ c ∷ d ∷ e ∷ t) l = let f = l .size in absurd (omega arith)
 
 -- what passes the tests is legal
-pub reference-of : (c : ℕ) → isReference c ≡ true → LetterOrDigit c
-reference-of c e = ⊎-elim (λ f. inl (within-both 65 90 c f)) (λ f. inr (within-both 48 57 c f)) (either-true (isLetter c) (isDigit c) e)
+letter-or-digit-of : (c : ℕ) → isLetterOrDigit c ≡ true → LetterOrDigit c
+letter-or-digit-of c e = ⊎-elim (λ f. inl (within-both 65 90 c f)) (λ f. inr (within-both 48 57 c f)) (either-true (isLetter c) (isDigit c) e)
+
+pub reference-of : (c : ℕ) → isReference c ≡ true → ReferenceCharacter c
+reference-of c e = letter-or-digit-of c e
 
 pub all-of : (P : ℕ → Type 0) (test : ℕ → Bool) → ((c : ℕ) → test c ≡ true → P c) → (t : List ℕ) → all test t ≡ true → All P t
 all-of P test f [] e = tt
@@ -53,7 +60,7 @@ signer-of (a ∷ b ∷ []) l e = absurd (omega arith)
 signer-of (a ∷ b ∷ c ∷ []) l e = absurd (omega arith)
 signer-of (a ∷ b ∷ c ∷ d ∷ x ∷ t) l e = absurd (omega arith)
 signer-of (a ∷ b ∷ c ∷ d ∷ []) l e =
-    let p = both-true (all isLetter (a ∷ b ∷ [])) (all isReference (c ∷ d ∷ [])) e in
+    let p = both-true (all isLetter (a ∷ b ∷ [])) (all isLetterOrDigit (c ∷ d ∷ [])) e in
     let f = all-of Letter isLetter (λ c. within-both 65 90 c) (a ∷ b ∷ []) (p .0) in
-    let g = all-of LetterOrDigit isReference reference-of (c ∷ d ∷ []) (p .1) in
+    let g = all-of LetterOrDigit isLetterOrDigit letter-or-digit-of (c ∷ d ∷ []) (p .1) in
     record { size = refl; first = f .0; second = f .1 .0; third = g .0; fourth = g .1 .0 }

@@ -12,14 +12,14 @@ use lib.Seq.{take-all}
 use Rattle.format.specs.Table.{both}
 use Rattle.format.specs.Table.Laws.{both-true-right, either-absorbed}
 use Rattle.format.specs.Places.{at-place, past-end}
-use Rattle.letters.specs.Characters.{isLetter, isDigit, isReference, all, isCountry, isSigner, hexValue, shown}
+use Rattle.letters.specs.Characters.{isLetter, isDigit, isLetterOrDigit, isReference, all, isCountry, isSigner, hexValue, shown}
 
 -- a letter or a digit, by the first test
-pub reference-letter : (c : ℕ) → isLetter c ≡ true → true ≡ isReference c
-reference-letter c e = rw e refl
+pub first-letter : (c : ℕ) → isLetter c ≡ true → true ≡ isLetterOrDigit c
+first-letter c e = rw e refl
 
-pub reference-digit : (c : ℕ) → isLetter c ≡ false → isDigit c ≡ isReference c
-reference-digit c e = rw e refl
+pub then-digit : (c : ℕ) → isLetter c ≡ false → isDigit c ≡ isLetterOrDigit c
+then-digit c e = rw e refl
 
 -- a signer, character by character
 module _ (a b c d : ℕ) where
@@ -29,11 +29,11 @@ module _ (a b c d : ℕ) where
   pub signer-second : isLetter a ≡ true → isLetter b ≡ false → false ≡ isSigner (a ∷ b ∷ c ∷ d ∷ [])
   signer-second e f = rw (e, f) refl
 
-  pub signer-third : isLetter a ≡ true → isLetter b ≡ true → isReference c ≡ false → false ≡ isSigner (a ∷ b ∷ c ∷ d ∷ [])
+  pub signer-third : isLetter a ≡ true → isLetter b ≡ true → isLetterOrDigit c ≡ false → false ≡ isSigner (a ∷ b ∷ c ∷ d ∷ [])
   signer-third e f g = rw (e, f, g) refl
 
-  pub signer-fourth : isLetter a ≡ true → isLetter b ≡ true → isReference c ≡ true → isReference d ≡ isSigner (a ∷ b ∷ c ∷ d ∷ [])
-  signer-fourth e f g = rw (e, f, g) (sym (both-true-right (isReference d)))
+  pub signer-fourth : isLetter a ≡ true → isLetter b ≡ true → isLetterOrDigit c ≡ true → isLetterOrDigit d ≡ isSigner (a ∷ b ∷ c ∷ d ∷ [])
+  signer-fourth e f g = rw (e, f, g) (sym (both-true-right (isLetterOrDigit d)))
 
 -- a country, character by character
 module _ (filler a b c : ℕ) where

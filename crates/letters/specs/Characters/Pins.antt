@@ -3,7 +3,7 @@
 use mathlib.Core.Path.{_≡_, refl}
 use mathlib.Core.Bool.{true, false}
 use mathlib.Core.List.{[], _∷_}
-use Rattle.letters.specs.Characters.{isLetter, isDigit, isReference, isCountry, isSigner, hexValue, shown}
+use Rattle.letters.specs.Characters.{isLetter, isDigit, isLetterOrDigit, isReference, isCountry, isSigner, hexValue, shown}
 
 -- A to Z, and the characters beside them
 letters : (isLetter 64 ≡ false) × (isLetter 65 ≡ true) × (isLetter 90 ≡ true) × (isLetter 91 ≡ false) × (isLetter 97 ≡ false)
@@ -13,6 +13,11 @@ letters = (refl, refl, refl, refl, refl)
 digits : (isDigit 47 ≡ false) × (isDigit 48 ≡ true) × (isDigit 57 ≡ true) × (isDigit 58 ≡ false)
 digits = (refl, refl, refl, refl)
 
+-- G, Z and 9, a space and a filler
+letters-or-digits : (isLetterOrDigit 71 ≡ true) × (isLetterOrDigit 90 ≡ true) × (isLetterOrDigit 57 ≡ true) × (isLetterOrDigit 32 ≡ false) × (isLetterOrDigit 60 ≡ false)
+letters-or-digits = (refl, refl, refl, refl, refl)
+
+-- of a reference, too
 references : (isReference 71 ≡ true) × (isReference 57 ≡ true) × (isReference 32 ≡ false) × (isReference 60 ≡ false)
 references = (refl, refl, refl, refl)
 

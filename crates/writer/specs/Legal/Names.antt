@@ -19,7 +19,7 @@ use Rattle.grammar.specs.Legal.{Letter, Filler, Country, Signer, ReferenceChara
 use Rattle.grammar.specs.Pins.{filled-three}
 use Rattle.dates.specs.Days.Laws.{within-true, within-both}
 use Rattle.format.specs.Table.Laws.{both-true, both-are, either-true, either-left, either-right}
-use Rattle.letters.specs.Characters.Grammar.{letter, reference-passes, all-pass, reference-of, all-of, signer-of}
+use Rattle.letters.specs.Characters.Grammar.{letter, reference-passes, all-pass, signer-passes, reference-of, all-of, signer-of}
 use Rattle.letters.specs.Characters.{isLetter, isReference, all, isSigner, isCountry}
 use Rattle.items.specs.Cases.{versionOf}
 use Rattle.items.specs.declared.Header.{Header}
@@ -82,14 +82,6 @@ country-passes (a ∷ b ∷ c ∷ []) l =
     (λ x. either-left two none (both-are (isLetter b) (either (isLetter c) (eqb c 60)) (letter b x) third))
     (λ f. either-right two none (both-are (eqb b 60) (eqb c 60) (eq-eqb b 60 f) (eq-eqb c 60 (l .filled 1 (omega arith) f))))
     (l .letters .1 .0))
-
-signer-passes : (t : List ℕ) → Signer t → isSigner t ≡ true
-signer-passes [] l = let e = l .size in absurd (omega arith)
-signer-passes (a ∷ []) l = let e = l .size in absurd (omega arith)
-signer-passes (a ∷ b ∷ []) l = let e = l .size in absurd (omega arith)
-signer-passes (a ∷ b ∷ c ∷ []) l = let e = l .size in absurd (omega arith)
-signer-passes (a ∷ b ∷ c ∷ d ∷ []) l = rw (letter a (l .first), letter b (l .second), reference-passes c (l .third), reference-passes d (l .fourth)) refl
-signer-passes (a ∷ b ∷ c ∷ d ∷ e ∷ t) l = let f = l .size in absurd (omega arith)
 
 -- the size of the text, by the version
 

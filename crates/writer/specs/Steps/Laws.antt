@@ -23,7 +23,10 @@ use Rattle.grammar.specs.Content.{three, four}
 use Rattle.grammar.specs.Publish.{carried, hexDigit, hexDigits, lengthOf}
 use Rattle.dates.specs.Days.Laws.{within-both}
 use Rattle.format.specs.Table.Laws.{both-true}
-use Rattle.letters.specs.Characters.{isLetter, isDigit, isReference, isSigner, all, isCountry}
+use Rattle.grammar.specs.Legal.{ReferenceCharacter}
+use Rattle.grammar.specs.Parts.{reference-text as text-of}
+use Rattle.letters.specs.Characters.{isLetter, isDigit, isLetterOrDigit, isReference, isSigner, all, isCountry}
+use Rattle.letters.specs.Characters.Grammar.{reference-of, all-of}
 use Rattle.items.specs.Cases.{versionOf}
 use Rattle.given.specs.Tests.{isVersion}
 use Rattle.writer.specs.Steps.{Named, spelled, sixOf}
@@ -36,8 +39,8 @@ either-is false b e f g = g e
 letter-text : (c : ℕ) → isLetter c ≡ true → InChart c
 letter-text c e = let w = within-both 65 90 c e in letter-in c (w .0) (w .1)
 
-digit-text : (c : ℕ) → isReference c ≡ true → InChart c
-digit-text c e =
+letter-or-digit-text : (c : ℕ) → isLetterOrDigit c ≡ true → InChart c
+letter-or-digit-text c e =
     by-test (isLetter c)
     (λ l. letter-text c l)
     (λ l. let w = within-both 48 57 c (sym (ap (λ b. either b (isDigit c)) l) ∙ e) in digit-in c (w .0) (w .1))
@@ -71,11 +74,14 @@ country-text a b c e =
 pub signer-text : (t : List ℕ) → isSigner t ≡ true → Text t
 signer-text t e =
     let b = both-true (all isLetter (take 2 t)) _ e in
-    subst Text (take-append-drop 2 t) (all-append InChart (take 2 t) (drop 2 t) (all-text isLetter letter-text (take 2 t) (b .0)) (all-text isReference digit-text (drop 2 t) (b .1)))
+    subst Text (take-append-drop 2 t) (all-append InChart (take 2 t) (drop 2 t) (all-text isLetter letter-text (take 2 t) (b .0)) (all-text isLetterOrDigit letter-or-digit-text (drop 2 t) (b .1)))
+
+pub reference-text : (v : ℕ) (t : List ℕ) → Named v t → Text (drop 4 t)
+reference-text v t n = text-of (drop 4 t) (all-of ReferenceCharacter isReference reference-of (drop 4 t) (n .reference))
 
 pub named-text : (v : ℕ) (t : List ℕ) → Named v t → Text t
 named-text v t n =
-    subst Text (take-append-drop 4 t) (all-append InChart (take 4 t) (drop 4 t) (signer-text (take 4 t) (n .signer)) (all-text isReference digit-text (drop 4 t) (n .reference)))
+    subst Text (take-append-drop 4 t) (all-append InChart (take 4 t) (drop 4 t) (signer-text (take 4 t) (n .signer)) (reference-text v t n))
 
 hex-digit-in : (n : ℕ) → n < 16 → InChart (hexDigit n)
 hex-digit-in n h =
@@ -103,9 +109,6 @@ six-text v t n low h =
     let k = length (drop 4 t) in
     let hex : Text (hexDigits k) = (hex-digit-in (k / 16) (omega arith), (hex-digit-in (k % 16) (omega arith), tt)) in
     subst Text (six-is t low) (all-append InChart (take 4 t) (hexDigits k) (signer-text (take 4 t) (n .signer)) hex)
-
-pub reference-text : (v : ℕ) (t : List ℕ) → Named v t → Text (drop 4 t)
-reference-text v t n = all-text isReference digit-text (drop 4 t) (n .reference)
 
 -- the version of a number
 pub version-three : (v : ℕ) → v ≡ 3 → versionOf v ≡ three
