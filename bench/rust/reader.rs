@@ -18,11 +18,15 @@ struct Feature {
 }
 
 fn is_signer(t: &[u8]) -> bool {
-    t[..2].iter().all(u8::is_ascii_uppercase) && t[2..4].iter().all(is_reference)
+    t[..2].iter().all(u8::is_ascii_uppercase) && t[2..4].iter().all(is_letter_or_digit)
+}
+
+fn is_letter_or_digit(c: &u8) -> bool {
+    c.is_ascii_uppercase() || c.is_ascii_digit()
 }
 
 fn is_reference(c: &u8) -> bool {
-    c.is_ascii_uppercase() || c.is_ascii_digit()
+    is_letter_or_digit(c)
 }
 
 fn is_country(t: &[u8; 3]) -> bool {

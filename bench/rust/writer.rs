@@ -2,8 +2,12 @@
 use crate::face::{refusal, Date, Header, Refusal};
 use crate::text;
 
-fn is_reference(c: &u8) -> bool {
+fn is_letter_or_digit(c: &u8) -> bool {
     c.is_ascii_uppercase() || c.is_ascii_digit()
+}
+
+fn is_reference(c: &u8) -> bool {
+    is_letter_or_digit(c)
 }
 
 fn is_country(t: &[u8; 3]) -> bool {
@@ -21,7 +25,8 @@ fn are_names(header: &Header, names: &[u8]) -> bool {
         && fits
         && header.length == n - 4
         && names[..2].iter().all(u8::is_ascii_uppercase)
-        && names[2..].iter().all(is_reference)
+        && names[2..4].iter().all(is_letter_or_digit)
+        && names[4..].iter().all(is_reference)
 }
 
 fn is_last(x: usize) -> bool {

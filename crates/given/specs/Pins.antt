@@ -4,17 +4,18 @@ use mathlib.Core.Path.{_≡_, refl}
 use mathlib.Core.Bool.{true, false}
 use Prim.Native.Nat.{ℕ}
 use mathlib.Core.List.{List, [], _∷_, _++_}
+use Rattle.dates.specs.Days.{firstDay}
 use Rattle.grammar.specs.Content.{three}
-use Rattle.grammar.specs.Examples.{uto, utab, ref-00001, d-fillers, spring, first-day}
+use Rattle.grammar.specs.Examples.{uto, utab, ref-00001, d-fillers, spring}
 use Rattle.items.specs.declared.Header.{Header}
 use Rattle.given.specs.Given.{rowsOf, contentOf, given}
 use Rattle.given.specs.Tests.{isVersion, isTextSize, areNames, areRows, isTable, areShort, areValues}
 
 abbrev header : ℕ → List ℕ → ℕ → Header
-header version country l = record { version = version; country = country; length = l; issued = spring; signed = first-day; definition = 1; category = 254 }
+header version country l = record { version = version; country = country; length = l; issued = spring; signed = firstDay; definition = 1; category = 254 }
 
 -- tag 254 before tag 0, as the rows have them
-in-order : contentOf (given (header 3 d-fillers 5) (utab ++ ref-00001) (254 ∷ 1 ∷ 2 ∷ 0 ∷ 0 ∷ 1 ∷ []) (7 ∷ 8 ∷ 9 ∷ []) (0xAA ∷ [])) ≡ record { header = record { version = three; country = d-fillers; signer = utab; reference = ref-00001; issued = spring; signed = first-day; definition = 1; category = 254 }; features = record { tag = 254; value = 8 ∷ 9 ∷ [] } ∷ record { tag = 0; value = 7 ∷ [] } ∷ []; signature = 0xAA ∷ [] }
+in-order : contentOf (given (header 3 d-fillers 5) (utab ++ ref-00001) (254 ∷ 1 ∷ 2 ∷ 0 ∷ 0 ∷ 1 ∷ []) (7 ∷ 8 ∷ 9 ∷ []) (0xAA ∷ [])) ≡ record { header = record { version = three; country = d-fillers; signer = utab; reference = ref-00001; issued = spring; signed = firstDay; definition = 1; category = 254 }; features = record { tag = 254; value = 8 ∷ 9 ∷ [] } ∷ record { tag = 0; value = 7 ∷ [] } ∷ []; signature = 0xAA ∷ [] }
 unfolding contentOf rowsOf
 in-order = refl
 

@@ -1,7 +1,7 @@
 -- The law `Cut` of each part of a header: country, signer and reference.
 -- Assumes nothing.
 use mathlib.Core.Path.{_≡_, refl, ap, ap₂, sym, _∙_}
-use mathlib.Core.Logic.{_⊎_, ⊎-elim}
+use mathlib.Core.Logic.{_⊎_, inl, inr, ⊎-elim}
 use Prim.Native.Nat.{ℕ, _+_, _-_, _*_, _/_, _%_, _<_, _≤_}
 use native.Mathlib.Omega.{arith}
 use borrow.Author.Tests.{lt-ltb, le-ltb, ltb-true, ltb-false, eq-eqb, ne-eqb}
@@ -21,7 +21,7 @@ use Rattle.c40.specs.Text.{Text, TextOf, publish as c40}
 use Rattle.c40.specs.Exact.{three-ahead, cut-text}
 use Rattle.grammar.specs.Content.{Version, three, four}
 use Rattle.grammar.specs.Publish.{carried, hexDigit, hexDigits, names}
-use Rattle.grammar.specs.Legal.{Letter, LetterOrDigit, Filler, Country, Signer, ReferenceCharacter, ReferenceSize}
+use Rattle.grammar.specs.Legal.{Letter, Digit, LetterOrDigit, Filler, Country, Signer, ReferenceCharacter, ReferenceSize}
 
 -- a rule of each element goes through a map
 all-map : (P Q : ℕ → Type 0) (f : ℕ → ℕ) → ((c : ℕ) → P c → Q (f c)) → (t : List ℕ) → All P t → All Q (map f t)
@@ -39,7 +39,14 @@ map-back P f g e (c ∷ t) a = λ i. e c (a .0) i ∷ map-back P f g e t (a .1) 
 letter-or-digit-in : (c : ℕ) → LetterOrDigit c → InChart c
 letter-or-digit-in c h = ⊎-elim (λ l. letter-in c (l .0) (l .1)) (λ d. digit-in c (d .0) (d .1)) h
 
--- a reference's characters are letters and digits: all that is used of them here
+-- Hexadecimal digits, in upper case: 002 gives a reference no other characters.
+abbrev pub Hexadecimal : ℕ → Type 0
+Hexadecimal c = ((65 ≤ c) × (c ≤ 70)) ⊎ Digit c
+
+-- All that laws and examples use of the rule for a reference's characters: hexadecimal digits are among them, and they are letters and digits.
+hexadecimal-reference : (c : ℕ) → Hexadecimal c → ReferenceCharacter c
+hexadecimal-reference c h = ⊎-elim (λ l. inl (l .0, omega (arith, l .1))) inr h
+
 pub reference-letter-or-digit : (c : ℕ) → ReferenceCharacter c → LetterOrDigit c
 reference-letter-or-digit c h = h
 
@@ -84,6 +91,9 @@ signer-text t s = (
   s .size,
   four-of InChart t (s .size) (letter-in _ (s .first .0) (s .first .1)) (letter-in _ (s .second .0) (s .second .1)) (letter-or-digit-in _ (s .third)) (letter-or-digit-in _ (s .fourth)),
 )
+
+pub hexadecimal-references : (t : List ℕ) → All Hexadecimal t → All ReferenceCharacter t
+hexadecimal-references t a = all-to Hexadecimal ReferenceCharacter hexadecimal-reference t a
 
 pub reference-text : (t : List ℕ) → All ReferenceCharacter t → Text t
 reference-text t a = all-to ReferenceCharacter InChart (λ c h. letter-or-digit-in c (reference-letter-or-digit c h)) t a

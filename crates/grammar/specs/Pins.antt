@@ -16,6 +16,7 @@ use Rattle.der.specs.Length.{form}
 use Rattle.grammar.specs.Content.{three, four}
 use Rattle.grammar.specs.Publish.{versionByte, carried, hexDigits, names, headerZone, lengthOf, messageZone, signatureZone, signedBytes, publish}
 use Rattle.grammar.specs.Legal.{Filler, Country, Signer, ReferenceCharacter, ReferenceSize, LastByte, ValueSize, LegalHeader, LegalFeatures, SignatureSize, n28, n32, n48, n64, n66, Legal}
+use Rattle.grammar.specs.Parts.{Hexadecimal, hexadecimal-references}
 use Rattle.grammar.specs.Examples.{uto, utab, ref-00001, d-fillers, header-a, content-a, seal-a}
 
 -- Seal A is the published form of its content
@@ -187,7 +188,11 @@ signer-utab = record {
   fourth = inl (omega arith, omega arith);
 }
 
-zero-digit : ReferenceCharacter 48
+-- a reference may have any letter
+reference-z : ReferenceCharacter 90
+reference-z = inl (omega arith, omega arith)
+
+zero-digit : Hexadecimal 48
 zero-digit = inr (omega arith, omega arith)
 
 header-a-legal : LegalHeader header-a
@@ -195,7 +200,7 @@ unfolding isDay
 header-a-legal = record {
   country = country-uto;
   signer = signer-utab;
-  reference = (zero-digit, (zero-digit, (zero-digit, (zero-digit, (inr (omega arith, omega arith), tt)))));
+  reference = hexadecimal-references ref-00001 (zero-digit, (zero-digit, (zero-digit, (zero-digit, (inr (omega arith, omega arith), tt)))));
   size = refl;
   issued = refl;
   signed = refl;

@@ -16,6 +16,7 @@ use Rattle.der.specs.Length.{form}
 use Rattle.grammar.specs.Content.{three, Feature}
 use Rattle.grammar.specs.Publish.{headerZone, messageZone, signatureZone, signedBytes, publish}
 use Rattle.grammar.specs.Legal.{Country, Unused, LegalHeader, LegalFeatures, n28, n64, n66, Legal}
+use Rattle.grammar.specs.Parts.{hexadecimal-references}
 use Rattle.grammar.specs.Examples.{dk, header-b, content-b, signed-b, header-c, content-c, signed-c, with-features, header-7, sized}
 use Rattle.grammar.specs.Pins.{filled-three, country-uto, country-d, signer-utab, seal-a-legal}
 
@@ -49,7 +50,7 @@ unfolding isDay
 header-b-legal = record {
   country = country-d;
   signer = record { size = refl; first = (omega arith, omega arith); second = (omega arith, omega arith); third = inr (omega arith, omega arith); fourth = inr (omega arith, omega arith) };
-  reference = (inl (omega arith, omega arith), (inr (omega arith, omega arith), (inl (omega arith, omega arith), (inr (omega arith, omega arith), (inl (omega arith, omega arith), (inl (omega arith, omega arith), (inl (omega arith, omega arith), (inl (omega arith, omega arith), (inl (omega arith, omega arith), (inl (omega arith, omega arith), tt))))))))));
+  reference = hexadecimal-references (header-b .reference) (inl (omega arith, omega arith), (inr (omega arith, omega arith), (inl (omega arith, omega arith), (inr (omega arith, omega arith), (inl (omega arith, omega arith), (inl (omega arith, omega arith), (inl (omega arith, omega arith), (inl (omega arith, omega arith), (inl (omega arith, omega arith), (inl (omega arith, omega arith), tt))))))))));
   size = (omega arith, omega arith);
   issued = refl;
   signed = refl;
@@ -62,7 +63,7 @@ unfolding isDay
 header-c-legal = record {
   country = country-dk;
   signer = record { size = refl; first = (omega arith, omega arith); second = (omega arith, omega arith); third = inr (omega arith, omega arith); fourth = inl (omega arith, omega arith) };
-  reference = (inr (omega arith, omega arith), (inl (omega arith, omega arith), (inr (omega arith, omega arith), (inl (omega arith, omega arith), (inl (omega arith, omega arith), tt)))));
+  reference = hexadecimal-references (header-c .reference) (inr (omega arith, omega arith), (inl (omega arith, omega arith), (inr (omega arith, omega arith), (inl (omega arith, omega arith), (inl (omega arith, omega arith), tt)))));
   size = refl;
   issued = refl;
   signed = refl;
@@ -110,7 +111,7 @@ unfolding isDay
 legal-7 = record {
   country = country-uto;
   signer = signer-utab;
-  reference = (inr (omega arith, omega arith), tt);
+  reference = hexadecimal-references (header-7 .reference) (inr (omega arith, omega arith), tt);
   size = (omega arith, omega arith);
   issued = refl;
   signed = refl;

@@ -10,10 +10,10 @@ use Rattle.format.specs.Answers.{done, refused}
 use Rattle.c40.specs.Chart.{theChart, valueOf}
 use Rattle.c40.specs.Text.{triple, publish as c40}
 use Rattle.dates.specs.declared.Date.{Date}
-use Rattle.dates.specs.Days.{isDay, publish as date}
+use Rattle.dates.specs.Days.{isDay, firstDay, lastDay, publish as date}
 use Rattle.der.specs.Length.{form}
 use Rattle.grammar.specs.Publish.{headerZone, messageZone, signatureZone, signedBytes, publish}
-use Rattle.grammar.specs.Examples.{uto, utab, ref-00001, d-fillers, spring, first-day, last-day, content-a, seal-a, content-b, signed-b}
+use Rattle.grammar.specs.Examples.{uto, utab, ref-00001, d-fillers, spring, content-a, seal-a, content-b, signed-b}
 use Rattle.items.specs.declared.Header.{Header}
 use Rattle.given.specs.Tests.{areRows, areShort}
 use Rattle.given.specs.Given.{rowsOf, Given, contentOf, given}
@@ -53,8 +53,8 @@ seal-a-written = refl
 abbrev pub given-b : Given
 given-b =
     given
-    (record { version = 4; country = d-fillers; length = 10; issued = last-day; signed = first-day; definition = 254; category = 1 })
-    (65 ∷ 90 ∷ 48 ∷ 57 ∷ 90 ∷ 57 ∷ 65 ∷ 48 ∷ 65 ∷ 66 ∷ 67 ∷ 68 ∷ 69 ∷ 70 ∷ [])
+    (record { version = 4; country = d-fillers; length = 10; issued = lastDay; signed = firstDay; definition = 254; category = 1 })
+    (65 ∷ 90 ∷ 48 ∷ 57 ∷ 70 ∷ 57 ∷ 65 ∷ 48 ∷ 65 ∷ 66 ∷ 67 ∷ 68 ∷ 69 ∷ 70 ∷ [])
     (254 ∷ 1 ∷ 128 ∷ 0 ∷ 129 ∷ 0 ∷ [])
     (9 ∷ replicate 128 7)
     (replicate 128 0xAA)

@@ -18,8 +18,8 @@ letters-or-digits : (isLetterOrDigit 71 ≡ true) × (isLetterOrDigit 90 ≡ tru
 letters-or-digits = (refl, refl, refl, refl, refl)
 
 -- of a reference, too
-references : (isReference 71 ≡ true) × (isReference 57 ≡ true) × (isReference 32 ≡ false) × (isReference 60 ≡ false)
-references = (refl, refl, refl, refl)
+references : (isReference 71 ≡ true) × (isReference 90 ≡ true) × (isReference 57 ≡ true) × (isReference 32 ≡ false) × (isReference 60 ≡ false)
+references = (refl, refl, refl, refl, refl)
 
 -- UTO, D and two fillers, UT and one; a filler first, a letter after a filler, a space for a filler
 countries : (isCountry 60 (85 ∷ 84 ∷ 79 ∷ []) ≡ true) × (isCountry 60 (68 ∷ 60 ∷ 60 ∷ []) ≡ true) × (isCountry 60 (85 ∷ 84 ∷ 60 ∷ []) ≡ true) × (isCountry 60 (60 ∷ 60 ∷ 60 ∷ []) ≡ false) × (isCountry 60 (68 ∷ 60 ∷ 65 ∷ []) ≡ false) × (isCountry 60 (68 ∷ 32 ∷ 32 ∷ []) ≡ false) × (isCountry 32 (68 ∷ 32 ∷ 32 ∷ []) ≡ true)
