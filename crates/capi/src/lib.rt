@@ -3,6 +3,7 @@
 mod numbers;
 mod seals;
 mod signatures;
+mod telling;
 mod text;
 mod types;
 

@@ -1,4 +1,4 @@
--- Condition 1 for the other entry points: C40 text, dates, INTEGERs, signature forms and the choice of hash.
+-- Condition 1 for the other entry points: C40 text, dates, INTEGERs, signature forms, the choice of hash and the words of the numbers.
 -- Assumes nothing.
 use mathlib.Core.Path.{_≡_, refl, ap}
 use mathlib.Core.Logic.{_⊎_, inl, inr, ⊎-elim}
@@ -25,6 +25,8 @@ use Rattle.integers.specs.Calls as integers
 use Rattle.ecdsa.specs.Signature.{isSize, integers as integersOf, signature}
 use Rattle.ecdsa.specs.Strict.{Raw, raw, none, rawOf}
 use Rattle.ecdsa.specs.Calls as ecdsa
+use Rattle.words.specs.Words.{wordsOf}
+use Rattle.words.specs.Calls as words
 
 -- a number of a list
 abbrev pub OneOf : ℕ → List ℕ → Type 0
@@ -104,6 +106,12 @@ to-raw n bytes room =
 pub integer-writing : (v : ℤ) (room : ℕ) → Answers (63 ∷ []) (integers.writing v room)
 unfolding integers.writing
 integer-writing v room = choose (63 ∷ []) (ltb room (length (integerOf v))) (refused 63 0) (done (integerOf v)) (inr (inl refl, refl)) (inl refl)
+
+-- the words of a number: 63
+pub words-told : (number room : ℕ) → Answers (63 ∷ []) (words.saying number room)
+unfolding words.inRoom
+words-told number room =
+    choose (63 ∷ []) (ltb room (length (wordsOf number))) (refused 63 0) (done (wordsOf number)) (inr (inl refl, refl)) (inl refl)
 
 -- a call that gives a value: done, or refused with this number
 abbrev pub Gives : {A : Type 0} → ℕ → A → Given A → Type 0

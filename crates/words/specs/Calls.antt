@@ -1,0 +1,32 @@
+-- What telling the words of a number answers: 0, or 63 where they do not fit.
+-- Assumes nothing.
+pub mod Laws
+use Prim.Native.Nat.{ℕ, _≤_}
+use mathlib.Core.Path.{_≡_}
+use mathlib.Core.List.{List}
+use lib.Dec.{ltb}
+use lib.ListN.{length}
+use Rattle.format.specs.Choice.{pick}
+use Rattle.format.specs.Answers.{Outcome, Answer, done, refused}
+use Rattle.words.specs.Words.{wordsOf}
+use Rattle.words.specs.declared.Told.{Told}
+use Rattle.words.specs.declared.Told.the-variants.{Done, NoRoom}
+
+-- all of these bytes, where there is room for them
+unfoldable pub inRoom : List ℕ → ℕ → Outcome
+inRoom bytes room = pick (ltb room (length bytes)) (refused 63 0) (done bytes)
+
+-- a number that has no words is told with none
+abbrev pub saying : ℕ → ℕ → Outcome
+saying number room = inRoom (wordsOf number) room
+
+-- number and count of each case
+abbrev pub toldOf : Told → Answer
+toldOf (Done count) = record { number = 0; place = 0; count = count }
+toldOf NoRoom = record { number = 63; place = 0; count = 0 }
+
+-- the length of the longest words: no number has more, and one has as many
+pub record Longest (size : ℕ) : Type 0 where
+  pub most : (n : ℕ) → length (wordsOf n) ≤ size
+  pub one : ℕ
+  pub reached : length (wordsOf one) ≡ size

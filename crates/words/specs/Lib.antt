@@ -1,0 +1,4 @@
+-- What the contract of words cites: the words of the numbers, and what the call answers.
+-- Assumes nothing.
+pub mod Words
+pub mod Calls

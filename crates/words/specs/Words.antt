@@ -1,0 +1,84 @@
+-- The words of the numbers that a call answers: document 01's own, "The numbers a call answers", without the places. THE table: a line a number.
+-- Assumes nothing.
+pub mod Laws
+use Prim.Native.Nat.{ℕ}
+use Prim.Native.String.{String}
+use mathlib.Core.List.{List, [], _∷_, _++_}
+use lib.Dec.{eqb}
+use Rattle.format.specs.Choice.{pick}
+use Rattle.lines.specs.Line.{ascii}
+
+-- a number and its words
+pub record Row : Type 0 where
+  pub number : ℕ
+  pub words : String
+
+abbrev pub row : ℕ → String → Row
+row number words = record { number = number; words = words }
+
+-- the reader
+abbrev pub reader : List Row
+reader =
+    row 0 "done"
+    ∷ row 1 "seal longer than 4,096"
+    ∷ row 2 "the input ends before an item is whole"
+    ∷ row 3 "first byte is not DC"
+    ∷ row 4 "version byte is not 02 or 03"
+    ∷ row 5 "country, signer, L or reference wrongly coded or with a wrong character"
+    ∷ row 6 "no such date"
+    ∷ row 7 "definition reference or category is 0 or 255"
+    ∷ row 8 "DER length malformed or not shortest"
+    ∷ row 9 "tag already used"
+    ∷ row 10 "signature length is not 56, 64, 96, 128 or 132"
+    ∷ row 11 "bytes after the signature"
+    ∷ row 12 "seal good, but the lent table has under 3 numbers a feature, or the text room is under 4 + L"
+    ∷ []
+
+-- the writer
+abbrev pub writer : List Row
+writer =
+    row 20 "writer: version not 3 or 4"
+    ∷ row 21 "writer: country, signer or reference"
+    ∷ row 22 "writer: date"
+    ∷ row 23 "writer: definition reference or category"
+    ∷ row 24 "writer: table not in threes, tag over 254 or used twice, or a value outside the values buffer"
+    ∷ row 25 "writer: value over 255 bytes in version 3"
+    ∷ row 26 "writer: signature length"
+    ∷ row 27 "writer: seal would pass 4,096"
+    ∷ row 28 "writer: no room for the whole seal"
+    ∷ []
+
+-- C40 text
+abbrev pub codecs : List Row
+codecs =
+    row 40 "C40 bytes odd in number"
+    ∷ row 41 "C40 pair wrongly coded"
+    ∷ row 42 "no room for the text"
+    ∷ row 43 "character that is not in the chart"
+    ∷ row 44 "no room for the C40 bytes"
+    ∷ row 45 "text or bytes over the size"
+    ∷ []
+
+-- signatures, INTEGERs and the choice of hash
+abbrev pub signatures : List Row
+signatures =
+    row 60 "n is not one of the five"
+    ∷ row 61 "raw length is not 2n"
+    ∷ row 62 "not strict DER, with bytes left over, negative, or too big for n"
+    ∷ row 63 "no room"
+    ∷ row 64 "writing DER: content would pass 255 bytes"
+    ∷ row 65 "not one whole DER INTEGER of 1 to 8 bytes"
+    ∷ []
+
+-- the words of a number's row; none where it has no row
+unfoldable pub sought : ℕ → List Row → List ℕ
+sought n [] = []
+sought n (r ∷ rs) = pick (eqb n (r .number)) (ascii (r .words)) (sought n rs)
+
+-- all rows
+abbrev pub table : List Row
+table = reader ++ writer ++ codecs ++ signatures
+
+-- the words of a number, as bytes
+abbrev pub wordsOf : ℕ → List ℕ
+wordsOf n = sought n table
