@@ -39,14 +39,10 @@ fields s =
     (λ c at. next (names v at s)
     (λ n at. is (record { version = edition v; country = c; names = measured n }) at))))
 
--- the country, which is read after mark and version whatever the names are
-unfoldable pub countryIn : List ℕ → Item (List ℕ)
-countryIn s =
-    next (mark 0 s)
-    (λ dc at. next (version at s)
-    (λ v at. country at s))
+-- the country of the fields, and their signer and reference
+abbrev pub codeIn : Fields → List ℕ
+codeIn f = f .country
 
--- signer and reference of the fields
 abbrev pub namesIn : Fields → Names
 namesIn f = f .names .names
 

@@ -4,7 +4,7 @@ ghost use mathlib.Core.Path.{_≡_};
 ghost use mathlib.Core.List.{[]};
 ghost use Rattle.items.specs.Cases.{whyOf, through, valueOr};
 ghost use Rattle.names.specs.Cases.{textOver};
-ghost use Rattle.zones.specs.Steps.{fields as fieldsIn, countryIn, namesIn, dated, frontOf, restOf};
+ghost use Rattle.zones.specs.Steps.{fields as fieldsIn, codeIn, namesIn, dated, frontOf, restOf};
 use items::Cursor;
 use items::Day;
 use items::Number;
@@ -57,10 +57,10 @@ impl Rest {
     }
 }
 
-// DC, version, country, signer and reference; `country` stays where it was not read, and `names` on any refusal.
+// DC, version, country, signer and reference; on a refusal `country` and `names` stay.
 pub fn read_front(seal: &[u8], country: &mut [u8; 3], names: &mut [u8; 259]) -> Front
     ensures item { λ r. ⌜ frontOf (now (country .exit)) (now (names .exit)) r ≡ fieldsIn (now (seal .entry)) ⌝ }
-    ensures code { λ r. ⌜ now (country .exit) ≡ valueOr (now (country .entry)) (countryIn (now (seal .entry))) ⌝ }
+    ensures code { λ r. ⌜ now (country .exit) ≡ valueOr (now (country .entry)) (through codeIn (fieldsIn (now (seal .entry)))) ⌝ }
     ensures text { λ r. ⌜ now (names .exit) ≡ textOver (now (names .entry)) (through namesIn (fieldsIn (now (seal .entry)))) ⌝ }
 {
     let start = Cursor { place: 0 };
@@ -72,7 +72,8 @@ pub fn read_front(seal: &[u8], country: &mut [u8; 3], names: &mut [u8; 259]) -> 
     let Number::Is(v, at2) = version else {
         return Front::Not(version.refusal(4, at.place));
     };
-    let code = Field { place: at2.place }.country(seal, country);
+    let mut found = [0u8; 3];
+    let code = Field { place: at2.place }.country(seal, &mut found);
     let Step::Past(at3) = code else {
         return Front::Not(code.refusal(5, at2.place));
     };
@@ -80,6 +81,7 @@ pub fn read_front(seal: &[u8], country: &mut [u8; 3], names: &mut [u8; 259]) -> 
     let Names::Are(size, next) = read else {
         return Front::Not(read.why());
     };
+    *country = found;
     Front::Is(v, size, next)
 }
 

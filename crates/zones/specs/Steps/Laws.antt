@@ -16,7 +16,7 @@ use Rattle.items.specs.Cases.{through, edition, versionOf, valueOr}
 use Rattle.names.specs.Cases.{Measured, measured, textOver}
 use Rattle.items.specs.Cases.Laws.{version-back, Past, judged}
 use Rattle.verdict.specs.Judge.{isSignature, signature, rawIn}
-use Rattle.zones.specs.Steps.{Fields, fields, countryIn, namesIn, dated}
+use Rattle.zones.specs.Steps.{Fields, fields, codeIn, namesIn, dated}
 
 -- an item that is not read through a map is not read itself
 abbrev unreadOf : {A B : Type 0} → Item B → Item A
@@ -48,7 +48,13 @@ names-back : (v : ℕ) (c : List ℕ) (i : Item Names) → i ≡ through namesIn
 names-back v c (is n at) = refl
 names-back v c (not number place) = refl
 
--- a text stays where the fields are not read
+-- the lent country and text stay where the fields are not read, and the country is theirs where they are
+pub code-kept : (s : List ℕ) (number place : ℕ) → not number place ≡ fields s → (code : List ℕ) → code ≡ valueOr code (through codeIn (fields s))
+code-kept s number place e code = ap (λ i. valueOr code (through codeIn i)) e
+
+pub code-given : (s : List ℕ) (f : Fields) (at : ℕ) → is f at ≡ fields s → (code : List ℕ) → f .country ≡ valueOr code (through codeIn (fields s))
+code-given s f at e code = ap (λ i. valueOr code (through codeIn i)) e
+
 pub text-kept : (s : List ℕ) (number place : ℕ) → not number place ≡ fields s → (text : List ℕ) → text ≡ textOver text (through namesIn (fields s))
 text-kept s number place e text = ap (λ i. textOver text (through namesIn i)) e
 
@@ -58,26 +64,14 @@ module _ (s : List ℕ) where
   unfolding fields
   fields-mark number place e0 = rw (sym e0) refl
 
-  pub country-mark : (number place : ℕ) → not number place ≡ mark 0 s → (code : List ℕ) → code ≡ valueOr code (countryIn s)
-  unfolding countryIn
-  country-mark number place e0 code = rw (sym e0) refl
-
   module _ (p0 : ℕ) (e0 : is tt p0 ≡ mark 0 s) where
     pub fields-version : (number place : ℕ) → not number place ≡ through edition (version p0 s) → not number place ≡ fields s
     unfolding fields
     fields-version number place e1 = rw (sym e0, sym (through-unread edition (version p0 s) number place e1)) refl
 
-    pub country-version : (number place : ℕ) → not number place ≡ through edition (version p0 s) → (code : List ℕ) → code ≡ valueOr code (countryIn s)
-    unfolding countryIn
-    country-version number place e1 code = rw (sym e0, sym (through-unread edition (version p0 s) number place e1)) refl
-
     module _ (v p1 : ℕ) (e1 : is v p1 ≡ through edition (version p0 s)) where
       read-version : version p0 s ≡ is (versionOf v) p1
       read-version = sym (version-read (version p0 s) v p1 e1)
-
-      pub country-reached : country p1 s ≡ countryIn s
-      unfolding countryIn
-      country-reached = rw (sym e0, read-version) refl
 
       pub fields-country : (number place : ℕ) → not number place ≡ country p1 s → not number place ≡ fields s
       unfolding fields

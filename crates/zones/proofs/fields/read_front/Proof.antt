@@ -5,11 +5,11 @@ use mathlib.Core.Path.{_≡_, _∙_, ap, sym}
 use mathlib.Core.List.{[]}
 use denote.Ref.{now}
 use Rattle.verdict.specs.Items.{is, not, mark, version, country, names}
-use Rattle.items.specs.Cases.{stepOf, numberOf, whyOf, through, edition, versionOf, valueOr}
+use Rattle.items.specs.Cases.{stepOf, numberOf, whyOf, through, edition, versionOf}
 use Rattle.names.specs.Cases.{namesOf, measured, textOver}
 use Rattle.names.specs.declared.Names.the-variants as read
-use Rattle.zones.specs.Steps.{fields, countryIn, namesIn}
-use Rattle.zones.specs.Steps.Laws.{fields-mark, fields-version, fields-country, fields-names, fields-all, country-mark, country-version, country-reached, names-reached, text-kept}
+use Rattle.zones.specs.Steps.{fields, namesIn}
+use Rattle.zones.specs.Steps.Laws.{fields-mark, fields-version, fields-country, fields-names, fields-all, names-reached, code-kept, code-given, text-kept}
 use Rattle.zones.proofs.Says.{step-says, number-says}
 use Rattle.zones.proofs.fields.read_front.Statement.{statement}
 use Rattle.zones.proofs.fields.read_front.Tie as tie
@@ -48,22 +48,14 @@ returns c =
     let on = c .before .before in
     let e0 = step-says 3 0 tt (on .mark .result) (c .refusal .result) (c .before .match .keys2) (c .refusal .ensures) ∙ on .mark .ensures in
     let item = fields-mark _ _ _ e0 in
-    (item, (country-mark _ _ _ e0 _, text-kept _ _ _ item _))
+    (item, (code-kept _ _ _ item _, text-kept _ _ _ item _))
 
 returns-2 : tie.Need-returns-2
 returns-2 c =
     let on = c .before .before in
     let e1 = number-says 4 _ (on .version .result) (c .refusal2 .result) (c .before .match2 .keys2) (c .refusal2 .ensures) ∙ on .version .ensures in
     let item = fields-version _ _ (read-mark (on .before)) _ _ e1 in
-    (item, (country-version _ _ (read-mark (on .before)) _ _ e1 _, text-kept _ _ _ item _))
-
--- what the country's item left is what the country of the whole leaves
-code-left : (c : tie.After-country) →
-    let start = c .before .before .before .before .before .before .before .before .before .before .before in
-    c .country .last .1 .1 .0 ≡ valueOr (now (start .args .country)) (countryIn (now (start .args .seal)))
-code-left c =
-    let told2 = c .before .before in
-    c .country .ensures .1 ∙ ap (valueOr _) (country-reached _ _ (read-mark (told2 .before .before .before .before)) _ _ (read-version told2))
+    (item, (code-kept _ _ _ item _, text-kept _ _ _ item _))
 
 returns-3 : tie.Need-returns-3
 returns-3 c =
@@ -71,7 +63,7 @@ returns-3 c =
     let told2 = on .before .before in
     let e2 = step-says 5 _ (on .country .last .1 .1 .0) (on .country .result) (c .refusal3 .result) (c .before .match3 .keys2) (c .refusal3 .ensures) ∙ on .country .ensures .0 in
     let item = fields-country _ _ (read-mark (told2 .before .before .before .before)) _ _ (read-version told2) _ _ e2 in
-    (item, (code-left on, text-kept _ _ _ item _))
+    (item, (code-kept _ _ _ item _, text-kept _ _ _ item _))
 
 -- what the names' item left is what the names of the whole leave
 text-left : (c : tie.After-names) →
@@ -91,7 +83,7 @@ returns-4 c =
     let why = c .why .ensures ∙ ap (λ e. whyOf (namesOf [] e)) (c .before .enum-told .given .1) in
     let e3 = ap (λ w. not (w .number) (w .place)) why ∙ sym (ap (namesOf (on .names .last .1 .1 .1 .0)) (c .before .enum-told .given .1)) ∙ on .names .ensures .0 in
     let item = fields-names _ _ (read-mark (told2 .before .before .before .before)) _ _ (read-version told2) _ _ (read-country told3) _ _ e3 in
-    (item, (code-left (told3 .before .before .before), text-left on))
+    (item, (code-kept _ _ _ item _, text-left on))
 
 returns-5 : tie.Need-returns-5
 returns-5 c =
@@ -99,7 +91,7 @@ returns-5 c =
     let told3 = on .before .before in
     let told2 = told3 .before .before .before .before .before in
     let item = fields-all _ _ (read-mark (told2 .before .before .before .before)) _ _ (read-version told2) _ _ (read-country told3) _ _ (read-names c) in
-    (item, (code-left (told3 .before .before .before), text-left on))
+    (item, (code-given _ _ _ item _, text-left on))
 
 mark-requires : tie.Need-mark-requires
 mark-requires c κs = search needs
