@@ -15,6 +15,7 @@ mod integers;
 mod names;
 mod reading;
 mod signatures;
+mod words;
 mod writing;
 
 pub use c40::{c40_read, c40_write};
@@ -22,6 +23,7 @@ pub use dates::{date_from_number, date_to_number};
 pub use integers::{integer_read, integer_write};
 pub use reading::{judge, read};
 pub use signatures::{hash, signature_to_der, signature_to_raw};
+pub use words::{put_words, words};
 pub use writing::write;
 
 /// "Seal: 76 to 4,096 bytes."

@@ -180,3 +180,15 @@ fn days_of_a_seal() {
         assert_eq!(read(&with(&seal_a(), place, "FF FF FF")), (6, place));
     }
 }
+
+#[test]
+fn words_of_the_numbers() {
+    let list: Vec<usize> = (0..=12).chain(20..=28).chain(40..=45).chain(60..=65).collect();
+    let with_words: Vec<usize> = (0..1000).filter(|&number| !words(number).is_empty()).collect();
+    assert_eq!(with_words, list);
+    assert_eq!(words(usize::MAX), "");
+    assert_eq!(list.iter().map(|&number| words(number).len()).max(), Some(93));
+    assert_eq!(filled(16, |out| put_words(9, out)), Ok(b"tag already used".to_vec()));
+    assert_eq!(filled(15, |out| put_words(9, out)), Err((63, 0)));
+    assert_eq!(filled(0, |out| put_words(13, out)), Ok(vec![]));
+}
