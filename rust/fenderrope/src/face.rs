@@ -38,6 +38,7 @@ extern "C" {
     fn fr_signature_to_der(n: usize, raw: *const u8, raw_length: usize, out: *mut u8, out_length: usize) -> Filled;
     fn fr_signature_to_raw(n: usize, der: *const u8, der_length: usize, out: *mut u8, out_length: usize) -> Filled;
     fn fr_hash(n: usize) -> Hashed;
+    fn fr_words(number: usize, out: *mut u8, out_length: usize) -> Filled;
 }
 
 /// Reads a seal; see [`crate::read`].
@@ -112,4 +113,9 @@ pub fn signature_to_raw(n: usize, der: &[u8], out: &mut [u8]) -> Filled {
 /// The hash that goes with size n; see [`crate::hash`].
 pub fn hash(n: usize) -> Hashed {
     unsafe { fr_hash(n) }
+}
+
+/// The words of a number; see [`crate::words`].
+pub fn words(number: usize, out: &mut [u8]) -> Filled {
+    unsafe { fr_words(number, out.as_mut_ptr(), out.len()) }
 }

@@ -71,11 +71,13 @@ mod dates;
 #[allow(unsafe_code)]
 mod face;
 mod layout;
+pub mod numbers;
 pub mod plain;
 mod refusal;
 mod seals;
 mod signatures;
 mod sizes;
+mod words;
 
 pub use codecs::{c40_read, c40_write, integer_read, integer_write};
 pub use layout::{Date, Ends, Header, Part};
@@ -83,3 +85,4 @@ pub use refusal::Refusal;
 pub use seals::{judge, read, write, Feature, Reading};
 pub use signatures::{hash, signature_to_der, signature_to_raw, Hash};
 pub use sizes::*;
+pub use words::{words, Words};

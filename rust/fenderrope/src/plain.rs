@@ -11,6 +11,6 @@
 
 pub use crate::face::{
     c40_read, c40_write, date_from_number, date_to_number, hash, integer_read, integer_write, judge, read,
-    signature_to_der, signature_to_raw, write,
+    signature_to_der, signature_to_raw, words, write,
 };
 pub use crate::layout::{Dated, Filled, Hashed, Integer, Numbered, Reading};

@@ -26,3 +26,6 @@ pub const CHARACTERS_MOST: usize = 6144;
 
 /// Bytes of a DER INTEGER.
 pub const INTEGER_MOST: usize = 10;
+
+/// Bytes of a number's words.
+pub const WORDS_MOST: usize = 93;

@@ -38,7 +38,7 @@ fn a_tag_that_is_not_good_locks_nothing() {
 
 #[test]
 fn no_tag_is_made_of_a_wrong_name_or_signature() {
-    assert_eq!(fault(made("press", &[0; 64])), "refused 43 at 0: character that is not in the C40 chart");
+    assert_eq!(fault(made("press", &[0; 64])), "refused 43 at 0: character that is not in the chart");
     assert_eq!(fault(made("ABCDEFGHIJKLM", &[0; 64])), "refused 44 at 0: no room for the C40 bytes");
     assert!(fault(made("PRESS7", &[0; 63])).starts_with("refused 26 at 0"));
 }

@@ -8,6 +8,7 @@ mod lent;
 mod library;
 mod show;
 mod types;
+mod words;
 mod wrapper;
 mod wrong;
 

@@ -26,7 +26,7 @@ fn reading(answer: Result<fenderrope::Reading, Refusal>) -> Reading {
     }
 }
 
-fn filled(answer: Result<usize, Refusal>) -> Filled {
+pub fn filled(answer: Result<usize, Refusal>) -> Filled {
     match answer {
         Ok(count) => Filled { count, ..Filled::default() },
         Err(Refusal { number, place }) => Filled { number, place, ..Filled::default() },

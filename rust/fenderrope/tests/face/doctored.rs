@@ -100,6 +100,38 @@ fn calls_in_the_sources() {
 }
 
 #[test]
+fn calls_that_give_words() {
+    header_noticed("fr_words(size_t number, uint8_t *out", "fr_words(uint8_t number, uint8_t *out", "fr_words: ");
+    header_noticed("fr_words(size_t number, uint8_t *out", "fr_words(size_t number, const uint8_t *out", "fr_words: ");
+    source_noticed(
+        "fn fr_words(number: usize, out: &mut [u8])",
+        "fn fr_words(number: usize, out: &[u8])",
+        "fr_words: ",
+    );
+    rust_noticed("fn fr_words(number: usize, out: *mut u8", "fn fr_words(number: u32, out: *mut u8", "fr_words: ");
+}
+
+#[test]
+fn numbers_in_the_header() {
+    let text = "int a;\nenum fr_number {\n    FR_DONE = 0, /* done */\n    FR_TAG_USED = 9 /* tag already used */\n};";
+    let numbers = |text: &str| header::numbers(text).map(|numbers| numbers.into_iter().collect::<Vec<_>>());
+    let named = |done: &str, used| vec![(done.to_string(), 0), ("TAG_USED".to_string(), used)];
+    assert_eq!(numbers(text), Ok(named("DONE", 9)));
+    assert_eq!(numbers(&with(text, "FR_TAG_USED = 9", "FR_TAG_USED = 9,")), Ok(named("DONE", 9)));
+    assert_eq!(numbers(&with(text, "= 9", "= 8")), Ok(named("DONE", 8)));
+    assert_eq!(
+        numbers(&with(text, "FR_DONE", "FR_READY")),
+        Ok(vec![("READY".to_string(), 0), ("TAG_USED".to_string(), 9)])
+    );
+    for (old, new) in
+        [("FR_TAG_USED", "FR_DONE"), ("FR_TAG_USED", "TAG_USED"), (" = 9", ""), ("= 9", "= 0x9"), ("};", "}")]
+    {
+        assert!(numbers(&with(text, old, new)).is_err(), "`{new}` for `{old}`");
+    }
+    assert_eq!(numbers("int a;"), Ok(vec![]));
+}
+
+#[test]
 fn declarations_of_this_crate() {
     rust_noticed("fn fr_hash(n: usize)", "fn fr_hash(n: u32)", "fr_hash: ");
     rust_noticed(

@@ -1,8 +1,9 @@
-//! Reads include/fenderrope.h: `typedef struct`s and prototypes, and nothing else.
+//! Reads include/fenderrope.h: `typedef struct`s, prototypes, the enum of the numbers and defined sizes, and nothing
+//! else.
 
 use std::collections::BTreeMap;
 
-use crate::model::{Face, Named};
+use crate::model::{add_number, Face, Named, Numbers};
 use crate::tokens::{without_comments, Tokens};
 
 /// The structs and calls of a header.
@@ -15,6 +16,8 @@ pub fn face(text: &str) -> Result<Face, String> {
             let fields = fields(&mut tokens)?;
             tokens.must(&format!("{name} ;"))?;
             face.add_struct(word(name), fields)?;
+        } else if tokens.take("enum") {
+            enumerated(&mut tokens)?;
         } else {
             let (name, result) = declared(&mut tokens)?;
             let parameters = parameters(&mut tokens)?;
@@ -22,6 +25,38 @@ pub fn face(text: &str) -> Result<Face, String> {
         }
     }
     Ok(face)
+}
+
+/// The numbers that the header names, without the front `FR_`; none where it has no enum.
+pub fn numbers(text: &str) -> Result<Numbers, String> {
+    let text = declarations(&without_comments(text));
+    let mut tokens = Tokens::of(&text);
+    while !tokens.done() {
+        if tokens.take("enum") {
+            return enumerated(&mut tokens);
+        }
+        tokens.next()?;
+    }
+    Ok(Numbers::new())
+}
+
+/// An enum's name and its numbers, each written out: `fr_number { FR_DONE = 0, FR_TAG_USED = 9 };`.
+fn enumerated(tokens: &mut Tokens) -> Result<Numbers, String> {
+    let mut numbers = Numbers::new();
+    tokens.next()?;
+    tokens.must("{")?;
+    while !tokens.take("}") {
+        let name = tokens.next()?;
+        tokens.must("=")?;
+        let bare = name.strip_prefix("FR_").ok_or(format!("{name} does not begin with FR_"))?;
+        add_number(&mut numbers, bare, tokens.next()?)?;
+        if !tokens.take(",") {
+            tokens.must("}")?;
+            break;
+        }
+    }
+    tokens.must(";")?;
+    Ok(numbers)
 }
 
 /// The text without preprocessor lines and without what is for C++ alone.
@@ -92,10 +127,10 @@ fn word(name: &str) -> String {
     }
 }
 
-/// The numbers that the header defines, by name.
-pub fn sizes(text: &str) -> BTreeMap<String, usize> {
+/// What the header defines, by name: `FR_SEAL_MOST` is 4096.
+pub fn defined(text: &str) -> BTreeMap<String, String> {
     let text = without_comments(text);
     let lines = text.lines().filter_map(|line| line.strip_prefix("#define "));
     let pairs = lines.filter_map(|line| line.trim().split_once(' '));
-    pairs.map(|(name, size)| (name.to_string(), size.trim().parse().expect("a number"))).collect()
+    pairs.map(|(name, what)| (name.to_string(), what.trim().to_string())).collect()
 }

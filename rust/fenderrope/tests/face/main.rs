@@ -1,5 +1,6 @@
 //! The face in three texts: include/fenderrope.h, the Rattle sources of the calls, and this crate's declarations of
 //! them. They agree in every name, in the order and width of fields and parameters, and in what is lent for writing.
+//! The sizes and the numbers' names are compared too.
 //! The layout in memory is asserted where the structs stand, in src/layout.rs and in the C test, by the same numbers.
 
 mod doctored;
@@ -9,6 +10,7 @@ mod model;
 mod source;
 mod tokens;
 
+use std::collections::BTreeSet;
 use std::fs;
 use std::path::{Path, PathBuf};
 
@@ -52,7 +54,7 @@ fn differences(left: Result<Face, String>, right: Result<Face, String>) -> Vec<S
 #[test]
 fn the_header_says_what_the_rattle_sources_say() {
     let header = header::face(&header_text()).expect("a header that is understood");
-    assert_eq!((header.structs.len(), header.calls.len()), (10, 12));
+    assert_eq!((header.structs.len(), header.calls.len()), (10, 13));
     let none: Vec<String> = Vec::new();
     assert_eq!(differences(Ok(header), source::face(&rattle_text(), "Fr")), none);
 }
@@ -75,9 +77,26 @@ fn the_sizes_are_those_of_the_header() {
         ("FR_C40_MOST", fenderrope::C40_MOST),
         ("FR_CHARACTERS_MOST", fenderrope::CHARACTERS_MOST),
         ("FR_INTEGER_MOST", fenderrope::INTEGER_MOST),
+        ("FR_WORDS_MOST", fenderrope::WORDS_MOST),
     ];
-    let ours = ours.map(|(name, size)| (name.to_string(), size));
-    assert_eq!(header::sizes(&header_text()), ours.into());
+    let ours = ours.map(|(name, size)| (name.to_string(), size.to_string()));
+    let mut defined = header::defined(&header_text());
+    let version = defined.remove("FR_VERSION");
+    assert_eq!(defined, ours.into());
+    assert_eq!(
+        version.unwrap_or(format!("{:?}", env!("CARGO_PKG_VERSION"))),
+        format!("{:?}", env!("CARGO_PKG_VERSION"))
+    );
+}
+
+#[test]
+fn the_numbers_have_the_names_of_the_header() {
+    let ours = source::numbers(&text_of(&in_repository("rust/fenderrope/src/numbers.rs")));
+    let ours = ours.expect("a source that is understood");
+    let listed = (0..=200).filter(|&number| !reference::words(number).is_empty());
+    assert_eq!(ours.values().copied().collect::<BTreeSet<_>>(), listed.collect());
+    let names = header::numbers(&header_text()).expect("a header that is understood");
+    assert!(names.is_empty() || names == ours, "{names:?} is not {ours:?}");
 }
 
 #[test]

@@ -8,6 +8,18 @@ pub type Named = (String, String);
 /// The parameters of a call, and its result.
 pub type Call = (Vec<Named>, String);
 
+/// The numbers that a call answers, by name.
+pub type Numbers = BTreeMap<String, usize>;
+
+/// Adds a number as it stands in a text.
+pub fn add_number(numbers: &mut Numbers, name: &str, digits: &str) -> Result<(), String> {
+    let number = digits.parse().map_err(|_| format!("{name}: {digits} is no number"))?;
+    match numbers.insert(name.to_string(), number) {
+        Some(_) => Err(format!("number {name} twice")),
+        None => Ok(()),
+    }
+}
+
 /// What a text says of the face: structs with their fields, and calls, by name.
 #[derive(Debug, Default)]
 pub struct Face {

@@ -1,6 +1,6 @@
 //! Reads the structs and calls of the face out of Rattle's sources, or out of this crate's own.
 
-use crate::model::{Call, Face, Named};
+use crate::model::{add_number, Call, Face, Named, Numbers};
 use crate::tokens::{without_comments, Tokens};
 
 /// The face that a source declares: each `pub struct`, each `pub extern "C" fn`, each function of an `extern "C"`
@@ -35,6 +35,23 @@ pub fn face(text: &str, prefix: &str) -> Result<Face, String> {
         }
     }
     Ok(face)
+}
+
+/// The numbers that this crate names: each `pub const NAME: usize = 9;`.
+pub fn numbers(text: &str) -> Result<Numbers, String> {
+    let text = without_comments(text);
+    let (mut tokens, mut numbers) = (Tokens::of(&text), Numbers::new());
+    while !tokens.done() {
+        if tokens.take("pub const") {
+            let name = tokens.next()?;
+            tokens.must(": usize =")?;
+            add_number(&mut numbers, name, tokens.next()?)?;
+            tokens.must(";")?;
+        } else {
+            tokens.next()?;
+        }
+    }
+    Ok(numbers)
 }
 
 fn fields(tokens: &mut Tokens, prefix: &str) -> Result<Vec<Named>, String> {
