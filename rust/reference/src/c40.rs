@@ -19,8 +19,8 @@ fn value(character: u8) -> Option<usize> {
     (3..CHART.len()).find(|&value| CHART[value] == character)
 }
 
-/// The text of one pair, or nothing if it is wrongly coded. "Values 1 and 2 never occur; 0 only as the third of the last
-/// pair; FE only at the start of the last pair."
+/// The text of one pair, or nothing if it is wrongly coded. "Values 1 and 2 never occur; 0 only as the third of the
+/// last pair; FE only at the start of the last pair."
 fn pair(first: u8, second: u8, last: bool, text: &mut Vec<u8>) -> Option<()> {
     if first == 0xFE {
         // "One left over is FE and its ASCII code plus 1."

@@ -20,8 +20,8 @@ pub(crate) fn length_bytes(length: usize) -> Vec<u8> {
     bytes
 }
 
-/// The length at the front, and the bytes after it. "80 and 85 to FF are malformed", and "the first byte of a DER length is
-/// judged before its rest is looked for". A long form is the shortest if it is what `length_bytes` gives.
+/// The length at the front, and the bytes after it. "80 and 85 to FF are malformed", and "the first byte of a DER
+/// length is judged before its rest is looked for". A long form is the shortest if it is what `length_bytes` gives.
 pub(crate) fn length(rest: &[u8]) -> Result<(usize, &[u8]), Fault> {
     let (&first, after) = rest.split_first().ok_or(Fault::Cut)?;
     let more = match first {

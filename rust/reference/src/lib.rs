@@ -1,8 +1,9 @@
 //! A second, independent reading of document 01, in plain Rust.
 //!
-//! It was written from the document, docs/NUMBERS.md and the decisions, without sight of the proved code or its specs, and in
-//! another structure: the reader is a set of small parsers over the bytes that are left, the writer builds the seal and only then looks for room,
-//! and "the shortest form" is "what the writer would have written". Where the two programs differ, one of them misreads.
+//! It was written from the document, docs/NUMBERS.md and the decisions, without sight of the proved code or its specs,
+//! and in another structure: the reader is a set of small parsers over the bytes that are left, the writer builds the
+//! seal and only then looks for room, and "the shortest form" is "what the writer would have written". Where the two
+//! programs differ, one of them misreads.
 //!
 //! Every call takes every input. "On any other number all lent memory stays and every field but number and place is 0."
 #![forbid(unsafe_code)]

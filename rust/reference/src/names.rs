@@ -8,7 +8,8 @@ fn letter_or_digit(character: u8) -> bool {
     letter(character) || character.is_ascii_digit()
 }
 
-/// "Letters and fillers only, a letter first; short codes are filled on the right with `<`. A letter never follows a filler."
+/// "Letters and fillers only, a letter first; short codes are filled on the right with `<`. A letter never follows a
+/// filler."
 pub(crate) fn is_country(country: &[u8; 3]) -> bool {
     let letters = country.iter().take_while(|&&character| letter(character)).count();
     letters > 0 && country[letters..].iter().all(|&character| character == b'<')

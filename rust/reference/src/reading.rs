@@ -1,7 +1,7 @@
 //! The reader (document 01, "Layout" and "The numbers a call answers").
 //!
-//! A parser takes the bytes that are left and gives what it read and the bytes left after it. A refusal remembers how many
-//! bytes were left where its item began; its place is then the seal's length less that.
+//! A parser takes the bytes that are left and gives what it read and the bytes left after it. A refusal remembers how
+//! many bytes were left where its item began; its place is then the seal's length less that.
 
 use std::collections::BTreeSet;
 
@@ -118,8 +118,8 @@ fn feature_length(version: usize, rest: &[u8]) -> Parsed<'_, usize> {
     }
 }
 
-/// The message zone: "tag, length, value, in any order, and that order is kept". It ends where FF stands for a tag, and FF is
-/// left. "A repeated tag is judged at the tag."
+/// The message zone: "tag, length, value, in any order, and that order is kept". It ends where FF stands for a tag, and
+/// FF is left. "A repeated tag is judged at the tag."
 fn features(version: usize, mut rest: &[u8]) -> Parsed<'_, Vec<Feature>> {
     let mut used = BTreeSet::new();
     let mut found = Vec::new();

@@ -74,7 +74,8 @@ fn the_nine_character_field_has_full_triples() {
             assert_eq!(read(&with(&good, place, &new)), (5, 4), "{place} {new}");
         }
     }
-    // The signer's first two are letters, its last two and the reference letters or digits: Z of the reference is no fault.
+    // The signer's first two are letters, its last two and the reference letters or digits: Z of the reference is no
+    // fault.
     assert_eq!(read(&with(&good, 4, &pair(5, 20, 20))), (5, 4));
     assert_eq!(read(&with(&good, 4, &pair(20, 5, 20))), (5, 4));
     assert_eq!(read(&with(&good, 4, &pair(20, 20, 5))), (0, 0));

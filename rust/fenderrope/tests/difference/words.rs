@@ -1,5 +1,5 @@
-//! The words of the numbers: numbers 0 to 200 and the greatest, in every room from none to past the longest, through the
-//! plain call with guards, through the crate's call, and as a refusal shows them.
+//! The words of the numbers: numbers 0 to 200 and the greatest, in every room from none to past the longest, through
+//! the plain call with guards, through the crate's call, and as a refusal shows them.
 
 use fenderrope::{plain, Refusal, Words, WORDS_MOST};
 use reference::inputs::lent;

@@ -1,4 +1,5 @@
-//! The numbers that the compiler holds the structs to: tests/c/layout.h for C, src/layout.rs for Rust. They are the same.
+//! The numbers that the compiler holds the structs to: tests/c/layout.h for C, src/layout.rs for Rust. They are the
+//! same.
 
 use std::collections::BTreeMap;
 

@@ -1,11 +1,12 @@
 //! Inputs for a differential test: the same calls are put to two programs and the outcomes are compared.
 //!
-//! The calls are drawn from a seed, so that a run can be repeated. Legal contents are drawn first and then damaged in one
-//! place or a few, as bytes drawn blindly hardly ever come past the country. The weights see to it that every answer the base
-//! can give is frequent, and that a call is cheap on average.
+//! The calls are drawn from a seed, so that a run can be repeated. Legal contents are drawn first and then damaged in
+//! one place or a few, as bytes drawn blindly hardly ever come past the country. The weights see to it that every
+//! answer the base can give is frequent, and that a call is cheap on average.
 //!
-//! A program is compared by answering the calls of [`Base`] in the types of this crate; for each call of [`Inputs`] then
-//! `run(&Reference, &call)` and `run(&program, &call)` must be equal: number, place, every field and every lent byte.
+//! A program is compared by answering the calls of [`Base`] in the types of this crate; for each call of [`Inputs`]
+//! then `run(&Reference, &call)` and `run(&program, &call)` must be equal: number, place, every field and every lent
+//! byte.
 
 mod codecs;
 mod damage;
