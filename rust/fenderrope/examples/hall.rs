@@ -17,7 +17,7 @@ const PRESS: usize = 11;
 pub fn locked(seal: &[u8]) -> Result<String, Box<dyn Error>> {
     let (mut table, mut text, mut name) = ([0; TABLE_MOST], [0; TEXT_MOST], [0; 12]);
     let reading = read(seal, &mut table, &mut text)?;
-    let press = reading.features(&table, seal).find(|one| one.tag == PRESS).ok_or("the tag names no press")?;
+    let press = reading.feature(PRESS).ok_or("the tag names no press")?;
     let count = c40_read(press.value, &mut name)?;
     if count == 0 || name[..count].contains(&b' ') {
         return Err("the tag's press is no name of letters and digits".into());

@@ -5,8 +5,10 @@ use crate::refusal::Refusal;
 
 /// Text from C40 bytes, from the start of `out`; gives how many characters were written.
 ///
-/// Refusals, in order: 45 over 4,096 bytes; 40 odd in number, place their length; 41 pair wrongly coded, place the
-/// first such pair's first byte; 42 no room for the text.
+/// # Errors
+///
+/// 45 `C40_TOO_LONG`, 40 `C40_ODD` at the number of bytes, 41 `C40_PAIR` at the first wrong pair's first byte, 42
+/// `C40_TEXT_ROOM`, judged in this order ([`crate::numbers`]). All of `out` stays.
 ///
 /// ```
 /// let mut text = [0; 12];
@@ -20,8 +22,10 @@ pub fn c40_read(bytes: &[u8], out: &mut [u8]) -> Result<usize, Refusal> {
 
 /// C40 bytes from text (space, `0` to `9`, `A` to `Z`), from the start of `out`; gives how many bytes were written.
 ///
-/// Refusals, in order: 45 over 6,144 characters; 43 character that is not in the chart, place the first one's index; 44
-/// no room for the bytes.
+/// # Errors
+///
+/// 45 `C40_TOO_LONG`, 43 `C40_CHARACTER` at the first wrong character's index, 44 `C40_BYTES_ROOM`, judged in this
+/// order ([`crate::numbers`]). All of `out` stays.
 ///
 /// ```
 /// let mut bytes = [0; 8];
@@ -35,7 +39,11 @@ pub fn c40_write(text: &[u8], out: &mut [u8]) -> Result<usize, Refusal> {
     Refusal::unless_filled(face::c40_write(text, out))
 }
 
-/// The value of one whole DER INTEGER; 65 where the bytes are not one of 1 to 8 content bytes.
+/// The value of one whole DER INTEGER.
+///
+/// # Errors
+///
+/// 65 `NOT_INTEGER` ([`crate::numbers`]): it has 1 to 8 content bytes, in the shortest form, and nothing after it.
 ///
 /// ```
 /// assert_eq!(fenderrope::integer_read(&[0x02, 0x02, 0xFF, 0x7F]), Ok(-129));
@@ -46,8 +54,11 @@ pub fn integer_read(bytes: &[u8]) -> Result<i64, Refusal> {
     Refusal::unless(answer.number, answer.place, answer.value)
 }
 
-/// The DER INTEGER of a value, 3 to 10 bytes from the start of `out`; gives how many were written; 63 where there is no
-/// room.
+/// The DER INTEGER of a value, 3 to 10 bytes from the start of `out`; gives how many were written.
+///
+/// # Errors
+///
+/// 63 `NO_ROOM` ([`crate::numbers`]). All of `out` stays.
 ///
 /// ```
 /// let mut bytes = [0; fenderrope::INTEGER_MOST];

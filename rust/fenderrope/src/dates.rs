@@ -1,6 +1,6 @@
 //! Dates and their numbers.
 
-use std::fmt;
+use core::fmt;
 
 use crate::face;
 use crate::layout::Date;
@@ -13,7 +13,11 @@ impl Date {
     /// 31 December of year 9999.
     pub const LAST: Date = Date { month: 12, day: 31, year: 9999 };
 
-    /// The date whose number MMDDYYYY this is; 6 where there is no such date.
+    /// The date whose number MMDDYYYY this is.
+    ///
+    /// # Errors
+    ///
+    /// 6 `NO_DATE` ([`crate::numbers`]).
     ///
     /// ```
     /// use fenderrope::Date;
@@ -25,7 +29,11 @@ impl Date {
         Refusal::unless(answer.number, answer.place, answer.date)
     }
 
-    /// The date's number MMDDYYYY; 22 where there is no such date.
+    /// The date's number MMDDYYYY.
+    ///
+    /// # Errors
+    ///
+    /// 22 `WRITE_DATE` ([`crate::numbers`]): there is no such date.
     ///
     /// ```
     /// use fenderrope::Date;

@@ -3,7 +3,7 @@
 //! [`Date`], [`Header`], [`Ends`] and [`Part`] serve everywhere in this crate; the others are the answers of
 //! [`crate::plain`].
 
-use std::mem::{align_of, offset_of, size_of};
+use core::mem::{align_of, offset_of, size_of};
 
 /// A date: month 1 to 12, day 1 to 31, year 1 to 9999. A call refuses a date outside these.
 #[derive(Debug, Clone, Copy, PartialEq, Eq, Hash, Default)]
@@ -61,6 +61,7 @@ pub struct Part {
 
 /// What a reading answers.
 #[derive(Debug, Clone, Copy, PartialEq, Eq, Hash, Default)]
+#[must_use]
 #[repr(C)]
 pub struct Reading {
     /// 0 when done, else the refusal.
@@ -79,6 +80,7 @@ pub struct Reading {
 
 /// What a call answers that fills a buffer.
 #[derive(Debug, Clone, Copy, PartialEq, Eq, Hash, Default)]
+#[must_use]
 #[repr(C)]
 pub struct Filled {
     /// 0 when done, else the refusal.
@@ -91,6 +93,7 @@ pub struct Filled {
 
 /// What a number answers that is asked for its date.
 #[derive(Debug, Clone, Copy, PartialEq, Eq, Hash, Default)]
+#[must_use]
 #[repr(C)]
 pub struct Dated {
     /// 0 when done, else the refusal.
@@ -103,6 +106,7 @@ pub struct Dated {
 
 /// What a date answers that is asked for its number.
 #[derive(Debug, Clone, Copy, PartialEq, Eq, Hash, Default)]
+#[must_use]
 #[repr(C)]
 pub struct Numbered {
     /// 0 when done, else the refusal.
@@ -115,6 +119,7 @@ pub struct Numbered {
 
 /// What a DER INTEGER answers that is read.
 #[derive(Debug, Clone, Copy, PartialEq, Eq, Hash, Default)]
+#[must_use]
 #[repr(C)]
 pub struct Integer {
     /// 0 when done, else the refusal.
@@ -127,6 +132,7 @@ pub struct Integer {
 
 /// The hash that goes with a size.
 #[derive(Debug, Clone, Copy, PartialEq, Eq, Hash, Default)]
+#[must_use]
 #[repr(C)]
 pub struct Hashed {
     /// 0 when done, else the refusal.

@@ -1,14 +1,14 @@
 //! Visible digital seals (ICAO Doc 9303-13) on visa stickers and lock tags, versions 3 and 4: read and written by a
 //! library that is proved, called from safe Rust.
 //!
-//! Every call takes every input. What is lent is slices; nothing is allocated. A call that is not done gives a
-//! [`Refusal`] with the number and the place, and no lent byte has changed. Signatures are carried and converted, not
-//! verified.
+//! Every call takes every input. What is lent is slices; nothing is allocated, and `std` is not needed. A call that is
+//! not done gives a [`Refusal`] with the number and the place, and no lent byte has changed. Signatures are carried and
+//! converted, not verified.
 //!
 //! Seal A of the tender, read, listed as the listing program lists it, and written back:
 //!
 //! ```
-//! use fenderrope::{read, write, Refusal, SEAL_MOST, TABLE_MOST, TEXT_MOST};
+//! use fenderrope::{judge, read, Refusal, SEAL_MOST, TABLE_MOST, TEXT_MOST};
 //! use std::fmt::Write;
 //!
 //! let mut seal = b"\xDC\x02\xD9\xC5\xD9\xB7\x5E\x65\x19\xA6\x31\x9E\xF5\x31\x9E\xF5\x01\x02".to_vec();
@@ -17,19 +17,19 @@
 //!
 //! let (mut table, mut text) = ([0; TABLE_MOST], [0; TEXT_MOST]);
 //! let reading = read(&seal, &mut table, &mut text)?;
-//! let header = reading.header;
+//! let (header, signature) = (reading.header(), reading.verdict().signature);
 //!
 //! let mut list = String::new();
 //! writeln!(list, "version {}", header.version)?;
 //! writeln!(list, "country {}", String::from_utf8_lossy(&header.country))?;
-//! let (signer, reference) = reading.names(&text).unwrap();
+//! let (signer, reference) = reading.names();
 //! writeln!(list, "signer {signer}\nreference {reference}")?;
 //! writeln!(list, "issued {}\nsigned {}", header.issued_on, header.signed_on)?;
 //! writeln!(list, "definition {}\ncategory {}", header.definition, header.category)?;
-//! for feature in reading.features(&table, &seal) {
+//! for feature in reading.features() {
 //!     writeln!(list, "feature {} at {} length {}", feature.tag, feature.place, feature.value.len())?;
 //! }
-//! writeln!(list, "signature at {} length {}", reading.signature.place, reading.signature.length)?;
+//! writeln!(list, "signature at {} length {}", signature.place, signature.length)?;
 //! assert_eq!(
 //!     list.lines().collect::<Vec<_>>(),
 //!     [
@@ -46,16 +46,15 @@
 //!     ]
 //! );
 //!
-//! // The rows are over the seal's own bytes, so the seal serves as the values.
-//! let (rows, names) = (&table[..3 * reading.count], &text[..4 + header.length]);
-//! let signature = reading.signature.of(&seal).unwrap();
 //! let mut again = [0; SEAL_MOST];
-//! let length = write(&header, names, rows, &seal, signature, &mut again)?;
+//! let length = reading.write(reading.signature(), &mut again)?;
 //! assert_eq!(again[..length], seal);
 //!
-//! // One byte more is refused: 11, bytes after the signature, at 82.
+//! // One byte more is refused.
 //! seal.push(0);
-//! assert_eq!(read(&seal, &mut table, &mut text), Err(Refusal { number: 11, place: 82 }));
+//! let refusal = judge(&seal).unwrap_err();
+//! assert_eq!(refusal, Refusal { number: 11, place: 82 });
+//! assert_eq!(refusal.to_string(), "refused 11 at 82: bytes after the signature");
 //! # Ok::<(), Box<dyn std::error::Error>>(())
 //! ```
 //!
@@ -63,8 +62,10 @@
 //! repository's `target/lib`, where `make lib` puts it.
 
 // `forbid` could not be lifted for the one module that makes the calls, so it is `deny`, with `allow` on `face` alone.
+#![no_std]
 #![deny(unsafe_code)]
 #![warn(missing_docs)]
+#![warn(clippy::missing_errors_doc, clippy::missing_panics_doc, clippy::must_use_candidate)]
 
 mod codecs;
 mod dates;
@@ -73,16 +74,20 @@ mod face;
 mod layout;
 pub mod numbers;
 pub mod plain;
+mod reading;
 mod refusal;
 mod seals;
 mod signatures;
 mod sizes;
+mod verdict;
 mod words;
 
 pub use codecs::{c40_read, c40_write, integer_read, integer_write};
 pub use layout::{Date, Ends, Header, Part};
+pub use reading::{Feature, Reading};
 pub use refusal::Refusal;
-pub use seals::{judge, read, write, Feature, Reading};
+pub use seals::{judge, read, write};
 pub use signatures::{hash, signature_to_der, signature_to_raw, Hash};
 pub use sizes::*;
+pub use verdict::Verdict;
 pub use words::{words, Words};

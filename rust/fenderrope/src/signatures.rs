@@ -1,14 +1,16 @@
 //! ECDSA signatures, raw and DER, and the hash that goes with a size.
 
-use std::fmt;
+use core::fmt;
 
 use crate::face;
 use crate::refusal::Refusal;
 
 /// A raw signature (r, then s, n bytes each) as DER, from the start of `out`; gives how many bytes were written.
 ///
-/// Refusals, in order: 60 n is not 28, 32, 48, 64 or 66; 61 raw length is not 2n; 64 content would pass 255 bytes, which
-/// no input of these sizes does; 63 no room.
+/// # Errors
+///
+/// 60 `NO_SIZE` where n is not 28, 32, 48, 64 or 66, 61 `RAW_LENGTH`, 63 `NO_ROOM`, judged in this order
+/// ([`crate::numbers`]); 64 `DER_TOO_LONG` is given by no input of these sizes. All of `out` stays.
 ///
 /// ```
 /// let mut raw = [0; 56];
@@ -24,8 +26,10 @@ pub fn signature_to_der(n: usize, raw: &[u8], out: &mut [u8]) -> Result<usize, R
 
 /// A DER signature as 2n raw bytes, from the start of `out`; gives how many bytes were written.
 ///
-/// Refusals, in order: 60 n is not 28, 32, 48, 64 or 66; 62 not strict DER, with bytes left over, negative, or too big
-/// for n; 63 no room.
+/// # Errors
+///
+/// 60 `NO_SIZE` where n is not 28, 32, 48, 64 or 66, 62 `NOT_DER`, 63 `NO_ROOM`, judged in this order
+/// ([`crate::numbers`]). All of `out` stays.
 ///
 /// ```
 /// let der = [0x30, 0x07, 0x02, 0x01, 0x01, 0x02, 0x02, 0x00, 0x80];
@@ -53,6 +57,7 @@ pub enum Hash {
 
 impl Hash {
     /// The length of the digest in bits.
+    #[must_use]
     pub fn bits(self) -> usize {
         match self {
             Hash::Sha224 => 224,
@@ -81,7 +86,11 @@ impl fmt::Display for Hash {
     }
 }
 
-/// The hash that goes with signatures of size n; 60 where n is not 28, 32, 48, 64 or 66.
+/// The hash that goes with signatures of size n.
+///
+/// # Errors
+///
+/// 60 `NO_SIZE` where n is not 28, 32, 48, 64 or 66 ([`crate::numbers`]).
 ///
 /// ```
 /// use fenderrope::Hash;

@@ -1,6 +1,18 @@
-//! What the crate adds to the calls: parts of a seal, and words for people.
+//! What the crate adds to the calls: a reading and its parts, and words for people.
 
-use fenderrope::{judge, read, Date, Hash, Part, Reading, Refusal};
+use fenderrope::{judge, numbers, read, write, Date, Feature, Hash, Refusal, SEAL_MOST, TABLE_MOST, TEXT_MOST};
+
+/// A version 3 seal with these features, and 56 bytes of signature.
+fn made(features: &[(usize, &[u8])]) -> Vec<u8> {
+    let header = judge(&seal_a()).expect("Seal A is good").header;
+    let (mut rows, mut values, mut out) = (Vec::new(), Vec::new(), [0; SEAL_MOST]);
+    for (tag, value) in features {
+        rows.extend([*tag, values.len(), value.len()]);
+        values.extend_from_slice(value);
+    }
+    let length = write(&header, b"UTAB00001", &rows, &values, &[0xAA; 56], &mut out).expect("a legal content");
+    out[..length].to_vec()
+}
 
 /// Seal A of the tender.
 fn seal_a() -> Vec<u8> {
@@ -10,43 +22,69 @@ fn seal_a() -> Vec<u8> {
     seal
 }
 
-fn read_a() -> (Vec<u8>, Reading, [usize; 3], [u8; 9]) {
-    let (seal, mut table, mut text) = (seal_a(), [0; 3], [0; 9]);
-    let reading = read(&seal, &mut table, &mut text).expect("Seal A is good");
-    (seal, reading, table, text)
-}
-
 #[test]
 fn parts_are_those_of_the_seal() {
-    let (seal, reading, table, text) = read_a();
-    let features: Vec<_> = reading.features(&table, &seal).map(|f| (f.tag, f.place, f.value)).collect();
+    let (seal, mut table, mut text) = (seal_a(), [7; 5], [7; 11]);
+    let reading = read(&seal, &mut table, &mut text).expect("Seal A is good");
+    let features: Vec<_> = reading.features().map(|f| (f.tag, f.place, f.value)).collect();
     assert_eq!(features, [(10, 20, &seal[20..24])]);
-    assert_eq!(reading.names(&text), Some(("UTAB", "00001")));
-    assert_eq!(reading.signed(&seal), Some(&seal[..24]));
-    assert_eq!(reading.signature.of(&seal), Some(&[0xAA; 56][..]));
+    assert_eq!(reading.names(), ("UTAB", "00001"));
+    assert_eq!(reading.signed(), &seal[..24]);
+    assert_eq!(reading.signature(), [0xAA; 56]);
+    assert_eq!(reading.seal(), seal);
+    assert_eq!((reading.header(), reading.verdict()), (judge(&seal).unwrap().header, judge(&seal).unwrap()));
 }
 
 #[test]
-fn numbers_past_the_rows_are_no_features() {
-    let (seal, reading, table, _) = read_a();
-    let longer = [&table[..], &[11, 0, 2]].concat();
-    assert_eq!(reading.features(&longer, &seal).count(), 1);
+fn features_by_tag_and_in_the_seals_order() {
+    let seal = made(&[(200, b"last"), (11, b""), (0, b"first"), (254, b"\xFF\xFF")]);
+    let (mut table, mut text) = ([0; TABLE_MOST], [0; TEXT_MOST]);
+    let reading = read(&seal, &mut table, &mut text).expect("a good seal");
+    let tags: Vec<_> = reading.features().map(|feature| feature.tag).collect();
+    assert_eq!((tags, reading.features().len()), (vec![200, 11, 0, 254], 4));
+    assert_eq!(reading.features().next_back(), reading.feature(254));
+    let value = |tag| reading.feature(tag).map(|feature: Feature| feature.value);
+    assert_eq!((value(0), value(11), value(254)), (Some(&b"first"[..]), Some(&[][..]), Some(&[0xFF; 2][..])));
+    assert_eq!((value(1), value(255), value(256), value(456), value(usize::MAX)), (None, None, None, None, None));
 }
 
 #[test]
-fn what_was_not_lent_gives_no_parts() {
-    let (seal, reading, table, text) = read_a();
-    assert_eq!(reading.features(&table[..2], &seal).count(), 0);
-    assert_eq!(reading.features(&[10, 80, 4], &seal).count(), 0);
-    assert_eq!(reading.features(&[10, usize::MAX, 4], &seal).count(), 0);
-    assert_eq!(reading.features(&table, &seal[..23]).count(), 0);
-    assert_eq!(reading.names(&text[..8]), None);
-    assert_eq!(reading.names(&[0xFF; 9]), None);
-    assert_eq!(reading.names("ABCé0000".as_bytes()), None);
-    assert_eq!(reading.signed(&seal[..23]), None);
-    assert_eq!(reading.signature.of(&seal[..81]), None);
-    assert_eq!(Part { place: 82, length: 0 }.of(&seal), Some(&[][..]));
-    assert_eq!(Part { place: 83, length: 0 }.of(&seal), None);
+fn a_seal_without_features_has_none() {
+    let (seal, mut text) = (made(&[]), [0; 9]);
+    let reading = read(&seal, &mut [], &mut text).expect("a good seal");
+    assert_eq!((reading.features().count(), reading.feature(0)), (0, None));
+}
+
+#[test]
+fn the_verdict_says_what_room_a_reading_needs() {
+    for seal in [seal_a(), made(&[]), made(&[(1, b"a"), (2, b"b")])] {
+        let verdict = judge(&seal).expect("a good seal");
+        let (rows, names) = (verdict.table_room(), verdict.text_room());
+        assert_eq!((rows, names), (3 * verdict.count, 4 + verdict.header.length));
+        let enough = |rows, names| match read(&seal, &mut vec![0; rows], &mut vec![0; names]) {
+            Ok(reading) => reading.verdict() == verdict,
+            Err(refusal) => panic!("{refusal}"),
+        };
+        assert!(enough(rows, names) && enough(rows + 1, names + 1));
+        let no_room = Refusal { number: numbers::READ_ROOM, place: 0 };
+        assert_eq!(read(&seal, &mut vec![0; rows], &mut vec![0; names - 1]), Err(no_room));
+        if rows > 0 {
+            assert_eq!(read(&seal, &mut vec![0; rows - 1], &mut vec![0; names]), Err(no_room));
+        }
+    }
+}
+
+#[test]
+fn what_was_read_is_written_with_another_signature() {
+    let (seal, mut table, mut text, mut out) = (seal_a(), [0; 3], [0; 9], [7; 100]);
+    let reading = read(&seal, &mut table, &mut text).expect("Seal A is good");
+    assert_eq!(reading.write(&[0xBB; 64], &mut out), Ok(90));
+    assert_eq!(out[..90], [&seal[..25], &[64], &[0xBB; 64]].concat());
+    assert_eq!(out[90..], [7; 10]);
+    let (short, mut none) = ([0; 55], [7; 81]);
+    assert_eq!(reading.write(&short, &mut out), Err(Refusal { number: numbers::WRITE_SIGNATURE, place: 0 }));
+    assert_eq!(reading.write(reading.signature(), &mut none), Err(Refusal { number: numbers::WRITE_ROOM, place: 0 }));
+    assert_eq!(none, [7; 81]);
 }
 
 #[test]

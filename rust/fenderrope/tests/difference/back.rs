@@ -1,6 +1,6 @@
 //! There and back through the library: an accepted seal is written anew, a written seal is read.
 
-use fenderrope::{judge, read, write, Reading};
+use fenderrope::{judge, read, Feature, Reading, Refusal};
 use reference::inputs::{lent, Answer, Call, Outcome};
 use reference::Header;
 
@@ -30,25 +30,33 @@ fn expect(good: bool, fault: &str) -> Result<(), String> {
     }
 }
 
-/// Reads a seal that was accepted, in rooms that just suffice; the judge and the reader agree.
-fn read_again(seal: &[u8]) -> Result<(Reading, Vec<usize>, Vec<u8>), String> {
+/// Reads a seal that was accepted, in the rooms that the judge says; whatever is wrong with that, or with what `good`
+/// finds in the reading, is told.
+fn read_again(seal: &[u8], good: impl Fn(Reading) -> Result<(), String>) -> Result<(), String> {
     let verdict = judge(seal).map_err(|refusal| refusal.to_string())?;
-    let (mut table, mut text) = (numbers(&vec![0; 3 * verdict.count]), bytes(&vec![0; 4 + verdict.header.length]));
+    let (mut table, mut text) = (numbers(&vec![0; verdict.table_room()]), bytes(&vec![0; verdict.text_room()]));
     let reading = read(seal, table.content_mut(), text.content_mut()).map_err(|refusal| refusal.to_string())?;
-    expect(table.guards_stay() && text.guards_stay(), "memory was touched that was not lent")?;
-    expect(reading == verdict, "judge and read differ")?;
-    Ok((reading, table.content().to_vec(), text.content().to_vec()))
+    expect(reading.verdict() == verdict && reading.seal() == seal, "judge and read differ")?;
+    expect(reading.features().len() == verdict.count, "another count of features")?;
+    expect(reading.features().all(|feature| reading.feature(feature.tag) == Some(feature)), "a feature is not found")?;
+    good(reading)?;
+    expect(table.guards_stay() && text.guards_stay(), "memory was touched that was not lent")
 }
 
-/// What the reader accepts writes back, given room, as the same bytes.
+/// What the reader accepts writes back, given room, as the same bytes; and a room that is one short is refused.
 fn accepted(seal: &[u8]) -> Result<(), String> {
-    let (reading, table, text) = read_again(seal)?;
-    let signature = reading.signature.of(seal).ok_or("no signature")?;
-    let mut again = bytes(&vec![0; seal.len()]);
-    let count = write(&reading.header, &text, &table, seal, signature, again.content_mut());
-    expect(again.guards_stay(), "memory was touched that was not lent")?;
-    expect(count == Ok(seal.len()), "an accepted seal is not written back")?;
-    expect(again.content() == seal, "an accepted seal is written back otherwise")
+    read_again(seal, |reading| {
+        let mut again = bytes(&vec![0; seal.len()]);
+        let count = reading.write(reading.signature(), again.content_mut());
+        expect(again.guards_stay(), "memory was touched that was not lent")?;
+        expect(count == Ok(seal.len()), "an accepted seal is not written back")?;
+        expect(again.content() == seal, "an accepted seal is written back otherwise")?;
+        let short = reading.write(reading.signature(), &mut again.content_mut()[1..]);
+        expect(short == Err(Refusal { number: 28, place: 0 }), "a seal is written where there is no room")?;
+        let mark = &seal[reading.signed().len()..seal.len() - reading.signature().len()];
+        expect(mark[0] == 0xFF, "the signed bytes do not end at the mark")?;
+        expect([reading.signed(), mark, reading.signature()].concat() == seal, "zones that are not the seal's")
+    })
 }
 
 /// What is written reads back as the fields, tags, value bytes and signature given.
@@ -60,12 +68,15 @@ fn written(
     values: &[u8],
     signature: &[u8],
 ) -> Result<(), String> {
-    let (reading, table, names) = read_again(seal)?;
-    expect(reading.header == header_in(header), "another header is read back")?;
-    expect(names == text, "other names are read back")?;
-    expect(3 * reading.count == rows.len(), "another count is read back")?;
-    expect(reading.signature.of(seal) == Some(signature), "another signature is read back")?;
-    let given = rows.chunks_exact(3).map(|row| (row[0], &values[row[1]..row[1] + row[2]]));
-    let found = reading.features(&table, seal).map(|feature| (feature.tag, feature.value));
-    expect(given.eq(found), "other features are read back")
+    read_again(seal, |reading| {
+        let (signer, reference) = reading.names();
+        expect(reading.header() == header_in(header), "another header is read back")?;
+        expect([signer, reference].concat().as_bytes() == text, "other names are read back")?;
+        expect(reading.signature() == signature, "another signature is read back")?;
+        let given = rows.chunks_exact(3).map(|row| (row[0], &values[row[1]..row[1] + row[2]]));
+        let found = reading.features().map(|feature| (feature.tag, feature.value));
+        expect(given.eq(found), "other features are read back")?;
+        let at_its_place = |feature: Feature| seal[feature.place..].starts_with(feature.value);
+        expect(reading.features().all(at_its_place), "a value that is not at its place")
+    })
 }

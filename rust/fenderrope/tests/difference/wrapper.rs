@@ -1,6 +1,6 @@
 //! The crate's `Result`s as a program to compare: what a refusal does not carry is 0, as in the plain answers.
 
-use fenderrope::Refusal;
+use fenderrope::{Refusal, Verdict};
 use reference::inputs::{run, Base, Call, Outcome};
 use reference::{Date, Dated, Filled, Hashed, Header, Integer, Numbered, Reading};
 
@@ -13,9 +13,9 @@ pub fn wrapper(call: &Call) -> Result<Outcome, String> {
     Ok(run(&Wrapper, call))
 }
 
-fn reading(answer: Result<fenderrope::Reading, Refusal>) -> Reading {
+fn reading(answer: Result<Verdict, Refusal>) -> Reading {
     match answer {
-        Ok(fenderrope::Reading { header, ends, signature, count }) => Reading {
+        Ok(Verdict { header, ends, signature, count }) => Reading {
             header: header_out(header),
             ends: ends_out(ends),
             signature: part_out(signature),
@@ -35,7 +35,7 @@ pub fn filled(answer: Result<usize, Refusal>) -> Filled {
 
 impl Base for Wrapper {
     fn read(&self, seal: &[u8], table: &mut [usize], text: &mut [u8]) -> Reading {
-        reading(fenderrope::read(seal, table, text))
+        reading(fenderrope::read(seal, table, text).map(|read| read.verdict()))
     }
 
     fn judge(&self, seal: &[u8]) -> Reading {
