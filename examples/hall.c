@@ -1,58 +1,114 @@
 /*
  * What a hall's program can start from. Build it with: cc hall.c $(pkg-config --cflags --libs fenderrope) -o hall
- *   hall FILE             prints the press that the lock tag in FILE names (feature 11, a name in C40), or why it is none; status 1 then
- *   hall make NAME FILE   builds a version 4 lock tag for the press NAME (A to Z and 0 to 9) and writes it to FILE
- * Signing is the signing unit's work: make gives the signed bytes on standard output and takes the raw signature, 64 bytes, from standard input.
- * So is verifying: what is printed is what the tag says, not that it is genuine.
+ *
+ *   hall FILE             says which press the lock tag in FILE locks, or why it is no lock tag
+ *   hall make NAME FILE   makes a version 4 lock tag for the press NAME and writes it to FILE
+ *
+ * The press is named by feature 11: 1 to 12 upper-case letters and digits, in C40. The status is 0 where a press is
+ * locked or a tag made, 1 where FILE is refused or is no lock tag, and 2 where something else is wrong; standard error
+ * then says what.
+ *
+ * Signing is the signing unit's work: make gives it the signed bytes on standard output and takes the raw signature, 64
+ * bytes, from standard input. So is verifying: what is printed is what the tag says, not that it is genuine.
  */
+#include <errno.h>
 #include <fenderrope.h>
+#include <stdarg.h>
 #include <stdio.h>
 #include <string.h>
 #include <time.h>
 
-enum { PRESS = 11, SIGNATURE = 64 };
+enum { PRESS = 11, NAME_MOST = 12, VALUE_MOST = 8, SIGNATURE = 64 };
 
-/* Text in C40 is a press's name if it is not empty and has no space. */
-static int named(fr_filled r, const void *name, size_t length) { return r.number == 0 && length != 0 && !memchr(name, ' ', length); }
+/* Something that is not the tag's is wrong. */
+static int wrong(const char *words) {
+    fprintf(stderr, "hall: %s\n", words);
+    return 2;
+}
+
+/* A file cannot be opened, read or written; errno says why. */
+static int failed(const char *what) {
+    fprintf(stderr, "hall: %s: %s\n", what, strerror(errno));
+    return 2;
+}
+
+/* Prints on standard output and gives the status; a line that did not get there is no answer. */
+static int say(int status, const char *format, ...) {
+    va_list list;
+    va_start(list, format);
+    int printed = vprintf(format, list);
+    va_end(list);
+    return printed < 0 || fflush(stdout) != 0 ? failed("standard output") : status;
+}
+
+/* What a number means, with an end mark. */
+static const char *words_of(size_t number) {
+    static char words[FR_WORDS_MOST + 1];
+    words[fr_words(number, (uint8_t *)words, FR_WORDS_MOST).count] = '\0';
+    return words;
+}
+
+/* Text that went through C40 is a press's name if it is not empty and has no space. */
+static int is_name(fr_filled c40, const void *text, size_t length) {
+    return c40.number == 0 && length != 0 && !memchr(text, ' ', length);
+}
 
 static int show(const char *path) {
-    static uint8_t seal[FR_SEAL_MOST + 1], text[FR_TEXT_MOST], name[FR_CHARACTERS_MOST]; /* one byte more than a seal, so that a longer file is refused */
+    static uint8_t seal[FR_SEAL_MOST + 1], text[FR_TEXT_MOST]; /* a byte more than a seal: a longer file is refused */
     static size_t table[FR_TABLE_MOST];
     FILE *file = fopen(path, "rb");
-    if (!file) return perror(path), 1;
+    if (!file) return failed(path);
     size_t length = fread(seal, 1, sizeof seal, file);
-    if (ferror(file)) return perror(path), 1;
+    if (ferror(file)) return failed(path);
     fclose(file);
     fr_reading r = fr_read(seal, length, table, FR_TABLE_MOST, text, sizeof text);
-    if (r.number != 0) return printf("refused %zu at %zu\n", r.number, r.place), 1;
-    for (const size_t *row = table; row < table + 3 * r.count; row += 3) {
-        if (row[0] != PRESS) continue;
-        fr_filled n = fr_c40_read(seal + row[1], row[2], name, sizeof name);
-        if (!named(n, name, n.count)) return printf("no lock tag: no name of a press at %zu\n", row[1]), 1;
-        return printf("locked %.*s, signer %.4s, reference %.*s\n", (int)n.count, name, text, (int)r.header.length, text + 4) < 0;
-    }
-    return puts("no lock tag: no press is named"), 1;
+    if (r.number != 0) return say(1, "refused %zu at %zu: %s\n", r.number, r.place, words_of(r.number));
+    const size_t *row = table, *end = table + 3 * r.count;
+    while (row < end && row[0] != PRESS) row += 3;
+    if (row == end) return say(1, "no lock tag: no press is named\n");
+    char name[NAME_MOST];
+    fr_filled n = fr_c40_read(seal + row[1], row[2], (uint8_t *)name, sizeof name);
+    if (!is_name(n, name, n.count)) return say(1, "no lock tag: no name of a press at %zu\n", row[1]);
+    return say(0, "locked %.*s, signer %.4s, reference %.*s\n", (int)n.count, name, (const char *)text,
+               (int)r.header.length, (const char *)text + 4);
+}
+
+/* Today by UTC; no date, which the writer refuses, where the clock has none. */
+static fr_date today(void) {
+    time_t now = time(NULL);
+    struct tm *day = now < 0 ? NULL : gmtime(&now);
+    if (!day) return (fr_date){0, 0, 0};
+    return (fr_date){(size_t)day->tm_mon + 1, (size_t)day->tm_mday, (size_t)day->tm_year + 1900};
 }
 
 static int make(const char *name, const char *path) {
-    static uint8_t value[FR_C40_MOST], seal[FR_SEAL_MOST], signature[SIGNATURE + 1];
+    static uint8_t value[VALUE_MOST], signature[SIGNATURE + 1], seal[FR_SEAL_MOST];
     const uint8_t *text = (const uint8_t *)"UTAB00001"; /* the signer, and the reference of its certificate */
-    struct tm *day = gmtime(&(time_t){time(NULL)});
-    fr_date today = {(size_t)day->tm_mon + 1, (size_t)day->tm_mday, (size_t)day->tm_year + 1900};
-    fr_header header = {4, {'U', 'T', 'O'}, 5, today, today, 1, 2};
+    fr_date day = today();
+    fr_header header = {4, {'U', 'T', 'O'}, 5, day, day, 1, 2};
     fr_filled v = fr_c40_write((const uint8_t *)name, strlen(name), value, sizeof value);
-    if (!named(v, name, strlen(name))) return fprintf(stderr, "%s: no name of a press\n", name), 1;
+    if (!is_name(v, name, strlen(name))) return wrong("a press's name is 1 to 12 upper-case letters and digits");
     size_t row[3] = {PRESS, 0, v.count};
-    fr_filled s = fr_write(header, text, 9, row, 3, value, v.count, signature, SIGNATURE, seal, sizeof seal); /* the signature is still zeros */
-    if (s.number != 0) return fprintf(stderr, "%s: not written, %zu\n", name, s.number), 1;
-    if (fwrite(seal, 1, fr_judge(seal, s.count).ends.message, stdout) == 0 || fflush(stdout) != 0) return perror("signed bytes"), 1;
-    if (fread(signature, 1, SIGNATURE + 1, stdin) != SIGNATURE) return fprintf(stderr, "the raw signature is not 64 bytes\n"), 1;
+    /* the signature is still zeros */
+    fr_filled s = fr_write(header, text, 9, row, 3, value, v.count, signature, SIGNATURE, seal, sizeof seal);
+    if (s.number != 0) {
+        fprintf(stderr, "hall: refused %zu at %zu: %s\n", s.number, s.place, words_of(s.number));
+        return 1;
+    }
+    size_t signed_bytes = fr_judge(seal, s.count).ends.message;
+    if (fwrite(seal, 1, signed_bytes, stdout) != signed_bytes || fflush(stdout) != 0) return failed("standard output");
+    size_t taken = fread(signature, 1, sizeof signature, stdin);
+    if (ferror(stdin)) return failed("standard input");
+    if (taken != SIGNATURE) return wrong("the raw signature is not 64 bytes");
     s = fr_write(header, text, 9, row, 3, value, v.count, signature, SIGNATURE, seal, sizeof seal);
     FILE *file = fopen(path, "wb");
-    return !file || fwrite(seal, 1, s.count, file) != s.count || fclose(file) != 0 ? (perror(path), 1) : 0;
+    if (!file) return failed(path);
+    if (fwrite(seal, 1, s.count, file) != s.count || fflush(file) != 0 || fclose(file) != 0) return failed(path);
+    return 0;
 }
 
 int main(int count, char **words) {
+    if (count == 2) return show(words[1]);
     if (count == 4 && strcmp(words[1], "make") == 0) return make(words[2], words[3]);
-    return count == 2 ? show(words[1]) : (fprintf(stderr, "usage: hall FILE, or hall make NAME FILE\n"), 2);
+    return wrong("usage: hall FILE, or hall make NAME FILE");
 }

@@ -1,59 +1,167 @@
-//! What a hall's program starts from: reads the tag in a file and says which press is locked, or makes such a tag.
+//! What a hall's program can start from: examples/hall.c in Rust, with the same options, words and answers.
 //!
-//!     hall FILE                          reads
-//!     hall --make NAME FILE              makes, with a signature of 64 zero bytes, and says which bytes to sign
-//!     hall --make NAME FILE SIGNATURE    makes, with the signing unit's 64 raw bytes (r, then s) out of that file
+//!     hall FILE             says which press the lock tag in FILE locks, or why it is no lock tag
+//!     hall make NAME FILE   makes a version 4 lock tag for the press NAME and writes it to FILE
 //!
-//! Whether a signature is good is the signing unit's to say: no press starts on what is printed here alone.
+//! The press is named by feature 11: 1 to 12 upper-case letters and digits, in C40. The status is 0 where a press is
+//! locked or a tag made, 1 where FILE is refused or is no lock tag, and 2 where something else is wrong; standard error
+//! then says what.
+//!
+//! Signing is the signing unit's work: make gives it the signed bytes on standard output and takes the raw signature,
+//! 64 bytes, from standard input. So is verifying: what is printed is what the tag says, not that it is genuine.
 
-use std::{env, error::Error, fs, process::exit};
+use std::ffi::{OsStr, OsString};
+use std::fs::{self, File};
+use std::io::{self, Read, Write};
+use std::os::unix::ffi::OsStrExt;
+use std::process::ExitCode;
+use std::time::{SystemTime, UNIX_EPOCH};
 
-use fenderrope::{c40_read, c40_write, judge, read, write, Date, Header, SEAL_MOST, TABLE_MOST, TEXT_MOST};
+use fenderrope::{c40_read, c40_write, read, write, Date, Header, Refusal, SEAL_MOST, TABLE_MOST, TEXT_MOST};
 
-/// The feature of a tag that holds the locked press, as C40 text.
 const PRESS: usize = 11;
+const NAME_MOST: usize = 12;
+const VALUE_MOST: usize = 8;
+const SIGNATURE: usize = 64;
 
-/// The locked press by its name: 1 to 12 upper-case letters and digits.
-pub fn locked(seal: &[u8]) -> Result<String, Box<dyn Error>> {
-    let (mut table, mut text, mut name) = ([0; TABLE_MOST], [0; TEXT_MOST], [0; 12]);
-    let reading = read(seal, &mut table, &mut text)?;
-    let press = reading.feature(PRESS).ok_or("the tag names no press")?;
-    let count = c40_read(press.value, &mut name)?;
-    if count == 0 || name[..count].contains(&b' ') {
-        return Err("the tag's press is no name of letters and digits".into());
+/// Why the program ends without its answer: the status, and what standard error says.
+#[derive(Debug)]
+pub struct Fault(pub u8, pub Vec<u8>);
+
+impl Fault {
+    /// Something that is not the tag's is wrong.
+    fn wrong(words: &str) -> Fault {
+        Fault(2, words.into())
     }
-    Ok(String::from_utf8(name[..count].to_vec())?)
+
+    /// A file cannot be opened, read or written: the system's words, without the number that Rust puts behind them.
+    fn failed(what: impl AsRef<OsStr>) -> impl FnOnce(io::Error) -> Fault {
+        move |error| {
+            let words = error.to_string();
+            let why = words.split(" (os error ").next().unwrap_or(&words);
+            Fault(2, [what.as_ref().as_bytes(), b": ", why.as_bytes()].concat())
+        }
+    }
 }
 
-/// A tag for the press. Country, signer, reference, day, definition and category are the hall's to fill in.
-pub fn made(press: &str, signature: &[u8]) -> Result<Vec<u8>, Box<dyn Error>> {
-    let (mut value, mut seal) = ([0; 8], [0; SEAL_MOST]);
-    let day = Date { month: 3, day: 25, year: 2026 };
+impl From<Refusal> for Fault {
+    fn from(refusal: Refusal) -> Fault {
+        Fault(1, refusal.to_string().into())
+    }
+}
+
+/// Puts bytes on standard output; a line that did not get there is no answer.
+fn say(bytes: &[u8]) -> Result<(), Fault> {
+    let mut out = io::stdout().lock();
+    out.write_all(bytes).and_then(|()| out.flush()).map_err(Fault::failed("standard output"))
+}
+
+/// At most so many bytes, and all that there are if they are no more.
+fn bytes_of(from: impl Read, most: usize) -> io::Result<Vec<u8>> {
+    let mut bytes = Vec::new();
+    from.take(most as u64).read_to_end(&mut bytes)?;
+    Ok(bytes)
+}
+
+/// Text that went through C40 is a press's name if it is not empty and has no space.
+fn is_name(text: &[u8]) -> bool {
+    !text.is_empty() && !text.contains(&b' ')
+}
+
+/// The press's name in a feature's value.
+fn name_in(value: &[u8]) -> Option<String> {
+    let mut name = [0; NAME_MOST];
+    let count = c40_read(value, &mut name).ok()?;
+    is_name(&name[..count]).then(|| String::from_utf8_lossy(&name[..count]).into_owned())
+}
+
+/// What is said of the bytes of a file, and the status.
+pub fn told(seal: &[u8]) -> (u8, String) {
+    let (mut table, mut text) = ([0; TABLE_MOST], [0; TEXT_MOST]);
+    let reading = match read(seal, &mut table, &mut text) {
+        Ok(reading) => reading,
+        Err(refusal) => return (1, refusal.to_string()),
+    };
+    let Some(press) = reading.feature(PRESS) else {
+        return (1, "no lock tag: no press is named".to_string());
+    };
+    let Some(name) = name_in(press.value) else {
+        return (1, format!("no lock tag: no name of a press at {}", press.place));
+    };
+    let (signer, reference) = reading.names();
+    (0, format!("locked {name}, signer {signer}, reference {reference}"))
+}
+
+fn show(path: &OsStr) -> Result<u8, Fault> {
+    // A byte more than a seal: a longer file is refused.
+    let seal = File::open(path).and_then(|file| bytes_of(file, SEAL_MOST + 1)).map_err(Fault::failed(path))?;
+    let (status, line) = told(&seal);
+    say((line + "\n").as_bytes())?;
+    Ok(status)
+}
+
+/// The date so many days after 1 January 1970.
+pub fn date_after(mut days: u64) -> Date {
+    let leap = |year| u64::from(year % 4 == 0 && (year % 100 != 0 || year % 400 == 0));
+    let mut year = 1970;
+    while days >= 365 + leap(year) {
+        days -= 365 + leap(year);
+        year += 1;
+    }
+    let lengths = [31, 28 + leap(year), 31, 30, 31, 30, 31, 31, 30, 31, 30, 31];
+    let mut month = 0;
+    while days >= lengths[month] {
+        days -= lengths[month];
+        month += 1;
+    }
+    Date { month: month + 1, day: days as usize + 1, year }
+}
+
+/// Today by UTC; no date, which the writer refuses, where the clock has none.
+fn today() -> Date {
+    let since = SystemTime::now().duration_since(UNIX_EPOCH);
+    since.map_or(Date::default(), |time| date_after(time.as_secs() / 86_400))
+}
+
+/// A tag for the press whose signature is still zeros.
+pub fn unsigned(name: &[u8], day: Date) -> Result<Vec<u8>, Fault> {
+    let (mut value, mut seal) = ([0; VALUE_MOST], [0; SEAL_MOST]);
+    let count = match c40_write(name, &mut value) {
+        Ok(count) if is_name(name) => count,
+        _ => return Err(Fault::wrong("a press's name is 1 to 12 upper-case letters and digits")),
+    };
     let (version, country, definition, category) = (4, *b"UTO", 1, 2);
     let header = Header { version, country, length: 5, issued_on: day, signed_on: day, definition, category };
-    let count = c40_write(press.as_bytes(), &mut value)?;
-    let length = write(&header, b"UTAB00001", &[PRESS, 0, count], &value, signature, &mut seal)?;
+    // The text is the signer, and the reference of its certificate.
+    let length = write(&header, b"UTAB00001", &[PRESS, 0, count], &value, &[0; SIGNATURE], &mut seal)?;
     Ok(seal[..length].to_vec())
 }
 
-/// Does what is asked for, and gives what there is to say of it.
-fn run(arguments: &[&str]) -> Result<String, Box<dyn Error>> {
-    let (press, file, signature) = match arguments[..] {
-        [file] => return Ok(format!("locked {}", locked(&fs::read(file)?)?)),
-        ["--make", press, file] => (press, file, vec![0; 64]),
-        ["--make", press, file, signature] => (press, file, fs::read(signature)?),
-        _ => return Err("use: hall FILE, or hall --make NAME FILE [SIGNATURE]".into()),
-    };
-    let seal = made(press, &signature)?;
-    let said = format!("locks {}; the signed bytes are the first {}", locked(&seal)?, judge(&seal)?.ends.message);
-    fs::write(file, seal)?;
-    Ok(said)
+fn make(name: &OsStr, path: &OsStr) -> Result<u8, Fault> {
+    let unsigned = unsigned(name.as_bytes(), today())?;
+    let (mut table, mut text, mut seal) = ([0; TABLE_MOST], [0; TEXT_MOST], [0; SEAL_MOST]);
+    let reading = read(&unsigned, &mut table, &mut text)?;
+    say(reading.signed())?;
+    let signature = bytes_of(io::stdin(), SIGNATURE + 1).map_err(Fault::failed("standard input"))?;
+    if signature.len() != SIGNATURE {
+        return Err(Fault::wrong("the raw signature is not 64 bytes"));
+    }
+    let length = reading.write(&signature, &mut seal)?;
+    fs::write(path, &seal[..length]).map_err(Fault::failed(path))?;
+    Ok(0)
 }
 
-fn main() {
-    let arguments: Vec<String> = env::args().skip(1).collect();
-    let said = run(&arguments.iter().map(String::as_str).collect::<Vec<_>>());
-    let status = i32::from(said.is_err());
-    println!("{}", said.unwrap_or_else(|why| why.to_string()));
-    exit(status);
+fn main() -> ExitCode {
+    let words: Vec<OsString> = std::env::args_os().skip(1).collect();
+    let ended = match &words[..] {
+        [path] => show(path),
+        [verb, name, path] if verb == "make" => make(name, path),
+        _ => Err(Fault::wrong("usage: hall FILE, or hall make NAME FILE")),
+    };
+    let status = ended.unwrap_or_else(|Fault(status, words)| {
+        // Where standard error takes nothing the status still tells.
+        let _ = io::stderr().write_all(&[b"hall: ", &words[..], b"\n"].concat());
+        status
+    });
+    ExitCode::from(status)
 }

@@ -1,44 +1,63 @@
-//! The example as a hall's programmer finds it: what it makes, it reads.
+//! The parts of the hall's program; tests/hall runs it as a whole, beside the same program in C.
 
 #[allow(dead_code)]
 #[path = "../examples/hall.rs"]
 mod hall;
 
-use hall::{locked, made};
+use fenderrope::Date;
+use hall::{date_after, told, unsigned, Fault};
 
-/// What is said of a tag or of a name that is not good.
-fn fault<T: std::fmt::Debug>(answer: Result<T, Box<dyn std::error::Error>>) -> String {
-    answer.expect_err("a fault").to_string()
+const DAY: Date = Date { month: 3, day: 25, year: 2026 };
+
+fn tag(name: &str) -> Vec<u8> {
+    unsigned(name.as_bytes(), DAY).expect("a good name")
 }
 
 #[test]
 fn a_tag_that_was_made_locks_its_press() {
-    for press in ["A", "7", "PRESS7", "ABCDEFGHIJKL"] {
-        let seal = made(press, &[0xAA; 64]).expect("a good name");
-        assert_eq!(locked(&seal).expect("a good tag"), press);
+    for name in ["A", "7", "PRESS7", "ABCDEFGHIJKL", "000000000000"] {
+        assert_eq!(told(&tag(name)), (0, format!("locked {name}, signer UTAB, reference 00001")));
     }
 }
 
 #[test]
 fn a_tag_that_is_not_good_locks_nothing() {
-    let seal = made("PRESS7", &[0xAA; 64]).expect("a good name");
-    assert_eq!(fault(locked(&seal[..30])), "refused 2 at 28: the input ends before an item is whole");
-    assert_eq!(
-        fault(locked(&made("A B", &[0; 64]).expect("C40 text"))),
-        "the tag's press is no name of letters and digits"
-    );
-    assert_eq!(
-        fault(locked(&made("", &[0; 64]).expect("C40 text"))),
-        "the tag's press is no name of letters and digits"
-    );
+    let seal = tag("PRESS7");
+    assert_eq!(told(&seal[..30]), (1, "refused 2 at 28: the input ends before an item is whole".to_string()));
+    assert_eq!(told(&[0xDC; 4097]), (1, "refused 1 at 4096: seal longer than 4,096".to_string()));
     let mut other = seal;
     other[20] = 12;
-    assert_eq!(fault(locked(&other)), "the tag names no press");
+    assert_eq!(told(&other), (1, "no lock tag: no press is named".to_string()));
 }
 
 #[test]
-fn no_tag_is_made_of_a_wrong_name_or_signature() {
-    assert_eq!(fault(made("press", &[0; 64])), "refused 43 at 0: character that is not in the chart");
-    assert_eq!(fault(made("ABCDEFGHIJKLM", &[0; 64])), "refused 44 at 0: no room for the C40 bytes");
-    assert!(fault(made("PRESS7", &[0; 63])).starts_with("refused 26 at 0"));
+fn no_tag_is_made_of_a_wrong_name_or_day() {
+    for name in ["", "press7", "PRESS 7", " ", "PRESS-7", "ABCDEFGHIJKLM", "PRESS7\n"] {
+        let Err(Fault(status, words)) = unsigned(name.as_bytes(), DAY) else { panic!("{name} is no name") };
+        assert_eq!((status, &words[..]), (2, &b"a press's name is 1 to 12 upper-case letters and digits"[..]));
+    }
+    let Err(Fault(status, words)) = unsigned(b"PRESS7", Date::default()) else { panic!("there is no such day") };
+    assert_eq!((status, &words[..]), (1, &b"refused 22 at 0: writer: date"[..]));
+}
+
+#[test]
+fn days_after_the_first_of_1970() {
+    let cases = [
+        (0, "1970-01-01"),
+        (30, "1970-01-31"),
+        (31, "1970-02-01"),
+        (364, "1970-12-31"),
+        (365, "1971-01-01"),
+        (789, "1972-02-29"),
+        (790, "1972-03-01"),
+        (11_016, "2000-02-29"),
+        (11_322, "2000-12-31"),
+        (19_782, "2024-02-29"),
+        (47_540, "2100-02-28"),
+        (47_541, "2100-03-01"),
+        (2_932_896, "9999-12-31"),
+    ];
+    for (days, date) in cases {
+        assert_eq!(date_after(days).to_string(), date);
+    }
 }
