@@ -13,6 +13,7 @@
  */
 #include <errno.h>
 #include <fenderrope.h>
+#include <signal.h>
 #include <stdarg.h>
 #include <stdio.h>
 #include <string.h>
@@ -108,6 +109,7 @@ static int make(const char *name, const char *path) {
 }
 
 int main(int count, char **words) {
+    signal(SIGPIPE, SIG_IGN); /* output that nobody takes any more is told as any other that fails */
     if (count == 2) return show(words[1]);
     if (count == 4 && strcmp(words[1], "make") == 0) return make(words[2], words[3]);
     return wrong("usage: hall FILE, or hall make NAME FILE");
