@@ -61,8 +61,8 @@
 //! The library is `libfenderrope.a`: the build looks for it in the folder that `FENDERROPE_LIB_DIR` names, else in the
 //! repository's `target/lib`, where `make lib` puts it.
 
-// `forbid` could not be lifted for the one module that makes the calls, so it is `deny`, with `allow` on `face` alone.
 #![no_std]
+// `forbid` could not be lifted for the one module that makes the calls, so it is `deny`, with `allow` on `face` alone.
 #![deny(unsafe_code)]
 #![warn(missing_docs)]
 #![warn(clippy::missing_errors_doc, clippy::missing_panics_doc, clippy::must_use_candidate)]
