@@ -23,9 +23,9 @@ static void broken(const char *what, int line) {
  * How often each number was answered and each call done; and the counters that the fuzzer follows, for each number, or call where it is 0, and a byte of
  * the place.
  */
-enum call { READ, WRITE, C40_READ, C40_WRITE, FROM_NUMBER, TO_NUMBER, INTEGER_READ, INTEGER_WRITE, TO_DER, TO_RAW, HASH, CALLS };
-static const char *const names[CALLS] = {"read", "write", "c40_read", "c40_write", "date_from_number", "date_to_number",
-                                         "integer_read", "integer_write", "signature_to_der", "signature_to_raw", "hash"};
+enum call { READ, WRITE, C40_READ, C40_WRITE, FROM_NUMBER, TO_NUMBER, INTEGER_READ, INTEGER_WRITE, TO_DER, TO_RAW, HASH, SAY, CALLS };
+static const char *const names[CALLS] = {"read", "write", "c40_read", "c40_write", "date_from_number", "date_to_number", "integer_read",
+                                         "integer_write", "signature_to_der", "signature_to_raw", "hash", "words"};
 enum { NUMBERS = 66 };
 static unsigned long answers[NUMBERS + CALLS];
 __attribute__((used, section("__libfuzzer_extra_counters"))) static volatile uint8_t counters[(NUMBERS + CALLS) * 256];
@@ -341,6 +341,27 @@ static void dates(size_t number) {
     MUST(d.number == 0 ? n.number == 0 && n.value == number : d.number == 6 && d.date.month == 0 && d.date.day == 0 && d.date.year == 0 && n.number == 22);
 }
 
+/* A number's words in any room: all of them or none, in ASCII; the same in just their room, and refused in one byte less. */
+static void say(size_t number, size_t room) {
+    uint8_t words[FR_WORDS_MOST];
+    uint8_t *out = (uint8_t *)lend(OUT, NULL, room);
+    fr_filled f = fr_words(number, out, room);
+    filled(SAY, f, room);
+    MUST(f.number == 0 ? f.count <= FR_WORDS_MOST && (number < NUMBERS || f.count == 0) : f.number == 63 && f.place == 0 && room < FR_WORDS_MOST);
+    if (f.count == 0) return;
+    for (size_t i = 0; i < f.count; i++) MUST(out[i] >= ' ' && out[i] <= '~');
+    memcpy(words, out, f.count);
+    size_t count = f.count;
+    out = (uint8_t *)lend(OUT, NULL, count);
+    f = fr_words(number, out, count);
+    filled(SAY, f, count);
+    MUST(f.number == 0 && f.count == count && memcmp(out, words, count) == 0);
+    out = (uint8_t *)lend(OUT, NULL, count - 1);
+    f = fr_words(number, out, count - 1);
+    filled(SAY, f, count - 1);
+    MUST(f.number == 63);
+}
+
 static void codecs(const uint8_t *data, size_t size) {
     static const size_t sizes[] = {28, 32, 48, 64, 66};
     next = data, rest = size;
@@ -357,6 +378,8 @@ static void codecs(const uint8_t *data, size_t size) {
     fr_hashed h = fr_hash(n);
     seen(HASH, h.number, h.bits / 2);
     MUST(h.number == 0 ? h.bits >= 224 && h.bits <= 512 : h.number == 60 && h.bits == 0);
+    number = most(80);
+    say(number, rarely() ? room : take(1) % (FR_WORDS_MOST + 2));
 }
 
 int LLVMFuzzerTestOneInput(const uint8_t *data, size_t size) {

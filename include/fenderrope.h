@@ -1,15 +1,23 @@
 /*
  * Fenderrope: visible digital seals (ICAO Doc 9303-13) on visa stickers and lock tags, versions 3 and 4.
  *
- * Every call takes every input and answers by value. `number` is 0 when the call is done; any other number is a refusal from the list in docs/NUMBERS.md,
- * and `place` says where. On a refusal no lent memory changes and every field but number and place is 0. On 0 a call that fills a buffer writes from its
- * start, gives the count written, and leaves the memory past it as it was.
+ * Every call takes every input and answers by value. `number` is 0 when the call is done; any other number is a
+ * refusal from the list below, and `place` says where: it is 0 where the call names no other. On a refusal no lent
+ * memory changes and every field but number and place is 0. On 0 a call that fills a buffer writes from its start,
+ * gives the count written, and leaves the memory past it as it was. docs/NUMBERS.md has the numbers with their order
+ * and places.
  *
- * A buffer is a pointer and a length. The pointer is not null unless the length is 0, points to as many elements as the length says, and a buffer that is
- * written overlaps no other buffer of the same call. No call keeps a pointer, takes a lock or memory, or fails in another way than by its number; calls may
- * run at the same time on different buffers.
+ * A buffer is a pointer and a length. The pointer is not null unless the length is 0, points to as many elements as
+ * the length says, and a buffer that is written overlaps no other buffer of the same call. No call keeps a pointer,
+ * takes a lock or memory, or fails in another way than by its number; calls may run at the same time on different
+ * buffers.
  *
- * Link with libfenderrope.a (x86-64): pkg-config --cflags --libs fenderrope
+ * Structs have padding (fr_header has, after its country), which is not written: compare, hash and send their fields,
+ * and not their bytes.
+ *
+ * Link with libfenderrope.a (x86-64): pkg-config --cflags --libs fenderrope. It needs memcpy and memset and nothing
+ * else. It has no data that it writes to, and takes no lock. It has no unwinding tables: no exception passes through
+ * it, as it calls nobody back; a backtrace may end in it.
  */
 #ifndef FENDERROPE_H
 #define FENDERROPE_H
@@ -17,9 +25,17 @@
 #include <stddef.h>
 #include <stdint.h>
 
+/* The library is compiled for numbers of 64 bits. */
+#if SIZE_MAX != UINT64_MAX
+#error "fenderrope.h: size_t must have 64 bits"
+#endif
+
 #ifdef __cplusplus
 extern "C" {
 #endif
+
+/* The version of this header and its library. */
+#define FR_VERSION "0.1.0"
 
 /* Sizes that hold for every legal seal (document 01, "Sizes"). */
 #define FR_SEAL_MOST 4096      /* bytes of a seal */
@@ -31,6 +47,58 @@ extern "C" {
 #define FR_C40_MOST 4096       /* bytes of C40 */
 #define FR_CHARACTERS_MOST 6144 /* characters of text in C40 */
 #define FR_INTEGER_MOST 10     /* bytes of a DER INTEGER */
+#define FR_WORDS_MOST 93       /* bytes of the longest words that fr_words gives */
+
+/*
+ * The numbers that a call answers, each with its words, which fr_words gives too. L is header.length, the length of
+ * the reference; the five sizes n are 28, 32, 48, 64 and 66.
+ */
+enum fr_number {
+    FR_DONE = 0, /* done */
+
+    /* fr_read and fr_judge, item by item from the left; fr_date_from_number gives 6 */
+    FR_TOO_LONG = 1,          /* seal longer than 4,096 */
+    FR_CUT = 2,               /* the input ends before an item is whole */
+    FR_FIRST_BYTE = 3,        /* first byte is not DC */
+    FR_VERSION_BYTE = 4,      /* version byte is not 02 or 03 */
+    FR_NAMES = 5,             /* country, signer, L or reference wrongly coded or with a wrong character */
+    FR_NO_DATE = 6,           /* no such date */
+    FR_LAST_BYTES = 7,        /* definition reference or category is 0 or 255 */
+    FR_DER_LENGTH = 8,        /* DER length malformed or not shortest */
+    FR_TAG_USED = 9,          /* tag already used */
+    FR_SIGNATURE_LENGTH = 10, /* signature length is not 56, 64, 96, 128 or 132 */
+    FR_BYTES_AFTER = 11,      /* bytes after the signature */
+    FR_READ_ROOM = 12,        /* seal good, but the lent table has under 3 numbers a feature, or the text room is under
+                                 4 + L */
+
+    /* fr_write, in this order; fr_date_to_number gives 22 */
+    FR_WRITE_VERSION = 20,    /* writer: version not 3 or 4 */
+    FR_WRITE_NAMES = 21,      /* writer: country, signer or reference */
+    FR_WRITE_DATE = 22,       /* writer: date */
+    FR_WRITE_LAST_BYTES = 23, /* writer: definition reference or category */
+    FR_WRITE_ROWS = 24,       /* writer: table not in threes, tag over 254 or used twice, or a value outside the values
+                                 buffer */
+    FR_WRITE_VALUE = 25,      /* writer: value over 255 bytes in version 3 */
+    FR_WRITE_SIGNATURE = 26,  /* writer: signature length */
+    FR_WRITE_TOO_LONG = 27,   /* writer: seal would pass 4,096 */
+    FR_WRITE_ROOM = 28,       /* writer: no room for the whole seal */
+
+    /* fr_c40_read and fr_c40_write */
+    FR_C40_ODD = 40,          /* C40 bytes odd in number */
+    FR_C40_PAIR = 41,         /* C40 pair wrongly coded */
+    FR_C40_TEXT_ROOM = 42,    /* no room for the text */
+    FR_C40_CHARACTER = 43,    /* character that is not in the chart */
+    FR_C40_BYTES_ROOM = 44,   /* no room for the C40 bytes */
+    FR_C40_TOO_LONG = 45,     /* text or bytes over the size */
+
+    /* signatures, INTEGERs and the hash; fr_words gives 63 */
+    FR_NO_SIZE = 60,          /* n is not one of the five */
+    FR_RAW_LENGTH = 61,       /* raw length is not 2n */
+    FR_NOT_DER = 62,          /* not strict DER, with bytes left over, negative, or too big for n */
+    FR_NO_ROOM = 63,          /* no room */
+    FR_DER_TOO_LONG = 64,     /* writing DER: content would pass 255 bytes */
+    FR_NOT_INTEGER = 65       /* not one whole DER INTEGER of 1 to 8 bytes */
+};
 
 /* A date: month 1 to 12, day 1 to 31, year 1 to 9999. */
 typedef struct fr_date {
@@ -43,14 +111,17 @@ typedef struct fr_date {
 typedef struct fr_header {
     size_t version;     /* 3 or 4 */
     uint8_t country[3]; /* letters, filled on the right with '<' */
-    size_t length;      /* of the reference; 5 in version 3 */
+    size_t length;      /* L, of the reference, so text_length - 4; 5 in version 3 */
     fr_date issued_on;
     fr_date signed_on;
     size_t definition;  /* feature definition reference, 1 to 254 */
     size_t category;    /* document category, 1 to 254 */
 } fr_header;
 
-/* The ends of the three zones, each one past the zone's last byte. The signed bytes are the first `message` bytes of the seal. */
+/*
+ * The ends of the three zones, each one past the zone's last byte. The signed bytes are the first `message` bytes of
+ * the seal.
+ */
 typedef struct fr_ends {
     size_t header;
     size_t message;
@@ -63,6 +134,7 @@ typedef struct fr_part {
     size_t length;
 } fr_part;
 
+/* What fr_read and fr_judge answer. */
 typedef struct fr_reading {
     size_t number;
     size_t place;
@@ -72,12 +144,14 @@ typedef struct fr_reading {
     size_t count;      /* of features */
 } fr_reading;
 
+/* What a call that fills a buffer answers. */
 typedef struct fr_filled {
     size_t number;
     size_t place;
     size_t count; /* written */
 } fr_filled;
 
+/* A date, its number, an INTEGER's value, a hash: what the calls answer that give one. */
 typedef struct fr_dated {
     size_t number;
     size_t place;
@@ -103,83 +177,70 @@ typedef struct fr_hashed {
 } fr_hashed;
 
 /*
- * Reads a seal. On 0 a row of three numbers for each feature stands in `table`, in the seal's order: tag, place of the value in the seal, length of the
- * value; and signer and reference stand in `text`, 4 + header.length characters without an end mark.
+ * Reads a seal: 0, or the first of 1 to 12 that holds. On 0 a row of three numbers for each feature stands in `table`,
+ * in the seal's order: tag, place of the value in the seal, length of the value; and signer and reference stand in
+ * `text`, 4 + header.length characters without an end mark. 12 asks for 3 * count numbers and 4 + header.length bytes,
+ * which fr_judge gives of the same seal; FR_TABLE_MOST and FR_TEXT_MOST are enough for every seal.
  *
- *  0 done
- *  1 longer than 4,096 bytes; place 4,096
- *  2 ends before an item is whole
- *  3 first byte is not DC
- *  4 version byte is not 02 or 03
- *  5 country, signer, length or reference wrongly coded or with a wrong character
- *  6 no such date
- *  7 definition reference or category is 0 or 255
- *  8 DER length malformed or not shortest
- *  9 tag already used
- * 10 signature length is not 56, 64, 96, 128 or 132
- * 11 bytes after the signature
- * 12 seal good, but the table has under 3 numbers a feature, or the text under 4 + header.length bytes; place 0
- *
- * Place is the first byte of the item that was not read; for 10 the first byte of the length, for 11 the first extra byte.
+ * The place is the first byte of the item that was not read; for 1 it is 4,096, for 10 the first byte of the length,
+ * for 11 the first extra byte, for 12 it is 0.
  */
-fr_reading fr_read(const uint8_t *seal, size_t seal_length, size_t *table, size_t table_length, uint8_t *text, size_t text_length);
+fr_reading fr_read(const uint8_t *seal, size_t seal_length, size_t *table, size_t table_length, uint8_t *text,
+                   size_t text_length);
 
 /* The same verdict and fields with nothing lent; 12 is not given. */
 fr_reading fr_judge(const uint8_t *seal, size_t seal_length);
 
 /*
- * Writes a seal. `text` is signer and reference; `rows` are rows as fr_read gives them, over `values`; the seal's own bytes can be lent as `values` with the
- * rows that fr_read gave. Place is 0.
- *
- *  0 done
- * 20 version not 3 or 4
- * 21 country, signer or reference
- * 22 a date
- * 23 definition reference or category
- * 24 rows not in threes, tag over 254 or used twice, or a value outside `values`
- * 25 value over 255 bytes in version 3
- * 26 signature length is not 56, 64, 96, 128 or 132
- * 27 seal would pass 4,096 bytes
- * 28 no room for the whole seal
+ * Writes a seal: 0, or the first of 20 to 28 that holds, with place 0. `text` is signer and reference, and
+ * header.length must be text_length - 4, else 21; in version 3 it is 5. `rows` are rows as fr_read gives them, over
+ * `values`; the seal's own bytes can be lent as `values` with the rows that fr_read gave.
  */
-fr_filled fr_write(fr_header header, const uint8_t *text, size_t text_length, const size_t *rows, size_t rows_length, const uint8_t *values,
-                   size_t values_length, const uint8_t *signature, size_t signature_length, uint8_t *out, size_t out_length);
+fr_filled fr_write(fr_header header, const uint8_t *text, size_t text_length,
+                   const size_t *rows, size_t rows_length, const uint8_t *values, size_t values_length,
+                   const uint8_t *signature, size_t signature_length, uint8_t *out, size_t out_length);
 
 /*
- * Text from C40 bytes. 0 done; 45 over 4,096 bytes; 40 odd in number, place their length; 41 pair wrongly coded, place the first such pair's first byte;
- * 42 no room for the text.
+ * Text from at most 4,096 C40 bytes: 0, or the first of 45, 40, 41 and 42 that holds. The place of 40 is the number of
+ * bytes, of 41 the first byte of the first wrong pair.
  */
 fr_filled fr_c40_read(const uint8_t *bytes, size_t bytes_length, uint8_t *out, size_t out_length);
 
 /*
- * C40 bytes from text: space, 0 to 9 and A to Z. 0 done; 45 over 6,144 characters; 43 character that is not in the chart, place the first one's index;
- * 44 no room for the bytes.
+ * C40 bytes from at most 6,144 characters of text, space, 0 to 9 and A to Z: 0, or the first of 45, 43 and 44 that
+ * holds. The place of 43 is the index of the first wrong character.
  */
 fr_filled fr_c40_write(const uint8_t *text, size_t text_length, uint8_t *out, size_t out_length);
 
-/* A date from its number MMDDYYYY. 0 done; 6 no such date. */
+/* A date from its number MMDDYYYY: 0 or 6. */
 fr_dated fr_date_from_number(size_t number);
 
-/* A date's number MMDDYYYY. 0 done; 22 no such date. */
+/* A date's number MMDDYYYY: 0 or 22. */
 fr_numbered fr_date_to_number(fr_date date);
 
-/* The value of one whole DER INTEGER. 0 done; 65 not one whole DER INTEGER of 1 to 8 bytes. */
+/* The value of one whole DER INTEGER: 0 or 65. */
 fr_integer fr_integer_read(const uint8_t *bytes, size_t bytes_length);
 
-/* The DER INTEGER of a value, 3 to 10 bytes. 0 done; 63 no room. */
+/* The DER INTEGER of a value, 3 to 10 bytes: 0 or 63. */
 fr_filled fr_integer_write(int64_t value, uint8_t *out, size_t out_length);
 
 /*
- * A raw signature as DER; n is the size of r and of s. 0 done; 60 n is not 28, 32, 48, 64 or 66; 61 raw length is not 2n; 64 content would pass 255 bytes,
- * which no input of these sizes does; 63 no room.
+ * A raw signature as DER; n is the size of r and of s: 0, or the first of 60, 61, 64 and 63 that holds. No input of
+ * these sizes gives 64.
  */
 fr_filled fr_signature_to_der(size_t n, const uint8_t *raw, size_t raw_length, uint8_t *out, size_t out_length);
 
-/* A DER signature as 2n raw bytes. 0 done; 60 n is not one of the five; 62 not strict DER, with bytes left over, negative, or too big for n; 63 no room. */
+/* A DER signature as 2n raw bytes: 0, or the first of 60, 62 and 63 that holds. */
 fr_filled fr_signature_to_raw(size_t n, const uint8_t *der, size_t der_length, uint8_t *out, size_t out_length);
 
-/* The hash for signatures of size n. 0 done; 60 n is not one of the five. */
+/* The hash for signatures of size n: 0 or 60. */
 fr_hashed fr_hash(size_t n);
+
+/*
+ * The words of a number in ASCII, without an end mark: 0, or 63 where there is not room for all of them. A number that
+ * is not in the list above has no words: 0, with count 0.
+ */
+fr_filled fr_words(size_t number, uint8_t *out, size_t out_length);
 
 #ifdef __cplusplus
 }

@@ -1,12 +1,13 @@
 /*
- * The C face as a C or C++ program sees it. When compiled: layout.h. When run: every call for 0 and for its refusals, with guard elements around all lent
- * memory. Prints one line and ends with status 0 only if every check held.
+ * The C face as a C or C++ program sees it. When compiled: layout.h. When run: every call for 0 and for its refusals,
+ * with guard elements around all lent memory. Prints one line and ends with status 0 only if every check held.
  */
 #include "layout.h"
 #include "lent.h"
 
 #include "codecs.h"
 #include "reading.h"
+#include "words.h"
 #include "writing.h"
 
 int main(void) {
@@ -24,6 +25,7 @@ int main(void) {
     test_integers();
     test_signatures();
     test_hash();
+    test_words();
     printf("face: %lu checks, %lu failed\n", checks, failures);
     return failures != 0;
 }

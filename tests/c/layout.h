@@ -1,6 +1,6 @@
 /*
- * Sizes, alignments and offsets of the structs, for x86-64, and the types of the calls: checked when compiled, against plain numbers that the Rust tests hold
- * too.
+ * Sizes, alignments and offsets of the structs, for x86-64, the types of the calls and the numbers' constants: checked
+ * when compiled, against plain numbers, of which the Rust tests hold those of the structs too.
  */
 #ifndef LAYOUT_H
 #define LAYOUT_H
@@ -83,5 +83,44 @@ fr_filled (*call_integer_write)(int64_t, uint8_t *, size_t) = fr_integer_write;
 fr_filled (*call_signature_to_der)(size_t, bytes_in, size_t, uint8_t *, size_t) = fr_signature_to_der;
 fr_filled (*call_signature_to_raw)(size_t, bytes_in, size_t, uint8_t *, size_t) = fr_signature_to_raw;
 fr_hashed (*call_hash)(size_t) = fr_hash;
+fr_filled (*call_words)(size_t, uint8_t *, size_t) = fr_words;
+
+/* The numbers by name, in the order of document 01. */
+#define NUMBER(name, number) static_assert(name == (number), #name)
+
+NUMBER(FR_DONE, 0);
+NUMBER(FR_TOO_LONG, 1);
+NUMBER(FR_CUT, 2);
+NUMBER(FR_FIRST_BYTE, 3);
+NUMBER(FR_VERSION_BYTE, 4);
+NUMBER(FR_NAMES, 5);
+NUMBER(FR_NO_DATE, 6);
+NUMBER(FR_LAST_BYTES, 7);
+NUMBER(FR_DER_LENGTH, 8);
+NUMBER(FR_TAG_USED, 9);
+NUMBER(FR_SIGNATURE_LENGTH, 10);
+NUMBER(FR_BYTES_AFTER, 11);
+NUMBER(FR_READ_ROOM, 12);
+NUMBER(FR_WRITE_VERSION, 20);
+NUMBER(FR_WRITE_NAMES, 21);
+NUMBER(FR_WRITE_DATE, 22);
+NUMBER(FR_WRITE_LAST_BYTES, 23);
+NUMBER(FR_WRITE_ROWS, 24);
+NUMBER(FR_WRITE_VALUE, 25);
+NUMBER(FR_WRITE_SIGNATURE, 26);
+NUMBER(FR_WRITE_TOO_LONG, 27);
+NUMBER(FR_WRITE_ROOM, 28);
+NUMBER(FR_C40_ODD, 40);
+NUMBER(FR_C40_PAIR, 41);
+NUMBER(FR_C40_TEXT_ROOM, 42);
+NUMBER(FR_C40_CHARACTER, 43);
+NUMBER(FR_C40_BYTES_ROOM, 44);
+NUMBER(FR_C40_TOO_LONG, 45);
+NUMBER(FR_NO_SIZE, 60);
+NUMBER(FR_RAW_LENGTH, 61);
+NUMBER(FR_NOT_DER, 62);
+NUMBER(FR_NO_ROOM, 63);
+NUMBER(FR_DER_TOO_LONG, 64);
+NUMBER(FR_NOT_INTEGER, 65);
 
 #endif
