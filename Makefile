@@ -2,18 +2,23 @@
 # make list   prove and build the listing program alone: target/bin/list
 # make seal-a the same, and list Seal A
 # make lib    prove and build the library for C and Rust alone: target/lib/libfenderrope.a
-# make test   the gate: the tests in C and Rust and of the installing; then prove everything from nothing, try the must-fail edits, run the programs
+#             (does nothing where nothing changed)
+# make checker  the same, and build the program over it: target/bin/fenderrope-check
+# make test   the gate: looks for its tools; the tests in C and Rust, of the programs and of the installing; then prove
+#             everything from nothing, try the must-fail edits, run the programs
 # make face   the C tests alone, in C and C++, with each compiler that is there
 # make rust   the Rust tests alone; the differential test has GATE_INPUTS inputs
 # make difference  the differential test at its full size (FR_INPUTS, FR_SEED in the environment change it)
 # make peers  end to end with openssl, zint and dmtxread
 # make fuzz   fuzz the library for FUZZ_SECONDS (needs clang)
 # make fmt    lay out every .rt and .antt file
-# make bench  instructions and nanoseconds of each call beside plain C and Rust (BLOCKS=1: the C with memcpy and memchr)
+# make bench  instructions and nanoseconds of each call beside plain C and Rust (BLOCKS=1: the C with memcpy, memchr)
 # make vectors  reckon the files of cases anew from document 01 (needs python3)
-# make install    put what was made under PREFIX (below DESTDIR): program, library, header, pkg-config file, man pages, docs
+# make install    put what was made under PREFIX (below DESTDIR): programs, library, header, pkg-config file, man pages,
+#                 docs, example
 # make uninstall  remove what make install put there
 # make clean  remove what was made
+# What rt prints while it proves and builds stands in target/log/make-*; it is shown where rt fails.
 
 VERSION := 0.1.0
 PREFIX ?= /usr/local
@@ -23,28 +28,54 @@ GATE_INPUTS ?= 400000
 RT := $(shell command -v rt 2>/dev/null)
 LIST := target/bin/list
 LIB := target/lib/libfenderrope.a
+MADE := target/lib/made
+CHECKER := target/bin/fenderrope-check
+STRICT := -std=c11 -O2 -Wall -Wextra -Wpedantic -Werror
 CARGO := cd rust && CARGO_TARGET_DIR=$(CURDIR)/target/rust cargo
+CALLS := $(shell sed -n 's/^fr_[a-z]* \(fr_[a-z0-9_]*\).*/\1/p' include/fenderrope.h)
 TO = $(DESTDIR)$(PREFIX)
 DOC = $(TO)/share/doc/fenderrope
+MAN = $(TO)/share/man
 
-.PHONY: all list seal-a lib test face rust difference peers fuzz fmt bench vectors install uninstall clean kit
+# Runs a command of the kit, with what it prints in target/log/make-NAME; where it fails that is shown, and its status
+# kept: $(call logged,NAME,COMMAND)
+logged = mkdir -p target/log && echo "$(2): what it prints is in target/log/make-$(1)" && \
+	{ $(2) >target/log/make-$(1) 2>&1 || { status=$$?; cat target/log/make-$(1) >&2; exit $$status; }; }
+
+# Whether no source is younger than the library, and the kit is the one that it was made with.
+unchanged = test -f $(LIB) && rt version | cmp -s - $(MADE) && \
+	test -z "$$(find crates/*/src crates/*/specs crates/*/proofs crates.txt -newer $(MADE) | head -n 1)"
+
+.PHONY: all base list seal-a lib checker test face rust difference peers fuzz fmt bench vectors install uninstall clean
+.PHONY: kit
+.NOTPARALLEL:
 
 all: kit
-	@rt check
-	@$(MAKE) --no-print-directory lib
+	@$(call logged,all,rt check)
+	@$(MAKE) --no-print-directory checker
+
+# What the gate's tests stand on, proved at once.
+base: kit
+	@$(call logged,base,rt check list capi)
 
 list: kit
-	@rt check list
+	@$(call logged,list,rt check list)
 
 seal-a: list
 	@$(LIST) <examples/seal-a
 
+# The stamp is as old as the beginning of the work, so that a source that changes meanwhile is younger.
 lib: kit
-	@rt staticlib capi
-	@mkdir -p target/lib
-	@cmp -s target/staticlib/libcapi.a $(LIB) || cp target/staticlib/libcapi.a $(LIB)
+	@$(unchanged) || { mkdir -p target/lib && rt version >$(MADE).new && $(call logged,lib,rt staticlib capi) && \
+		{ cmp -s target/staticlib/libcapi.a $(LIB) || cp target/staticlib/libcapi.a $(LIB); } && mv $(MADE).new $(MADE); }
 
-test: kit
+checker: lib
+	@mkdir -p target/bin
+	@$(CC) $(STRICT) $(CFLAGS) -Iinclude programs/check.c $(LIB) -o $(CHECKER)
+
+test:
+	@tests/tools
+	@$(MAKE) --no-print-directory kit
 	@tests/run
 	@rt ci
 
@@ -76,27 +107,38 @@ vectors:
 	@python3 -B vectors/seal_cases.py crates/vectors_seals
 	@python3 -B vectors/write_cases.py crates/vectors_writing
 
-# Builds nothing, so that it can be run by another user than the one who built.
+# Builds nothing, so that it can be run by another user than the one who built. Each call has a page that leads to the
+# library's.
 install:
 	@test -f $(LIST) || { echo "missing: $(LIST); run make list" >&2; exit 1; }
 	@test -f $(LIB) || { echo "missing: $(LIB); run make lib" >&2; exit 1; }
-	install -d "$(TO)/bin" "$(TO)/include" "$(TO)/lib/pkgconfig" "$(TO)/share/man/man1" "$(TO)/share/man/man3" "$(DOC)"
+	@test -f $(CHECKER) || { echo "missing: $(CHECKER); run make checker" >&2; exit 1; }
+	install -d "$(TO)/bin" "$(TO)/include" "$(TO)/lib/pkgconfig" "$(MAN)/man1" "$(MAN)/man3" "$(DOC)/examples"
 	install -m 755 $(LIST) "$(TO)/bin/fenderrope-list"
+	install -m 755 $(CHECKER) "$(TO)/bin/fenderrope-check"
 	install -m 644 include/fenderrope.h "$(TO)/include/fenderrope.h"
 	install -m 644 $(LIB) "$(TO)/lib/libfenderrope.a"
 	sed -e 's|@PREFIX@|$(PREFIX)|' -e 's|@VERSION@|$(VERSION)|' fenderrope.pc.in >"$(TO)/lib/pkgconfig/fenderrope.pc"
 	chmod 644 "$(TO)/lib/pkgconfig/fenderrope.pc"
-	install -m 644 man/fenderrope-list.1 "$(TO)/share/man/man1/fenderrope-list.1"
-	install -m 644 man/fenderrope.3 "$(TO)/share/man/man3/fenderrope.3"
+	install -m 644 man/fenderrope-list.1 man/fenderrope-check.1 "$(MAN)/man1"
+	install -m 644 man/fenderrope.3 "$(MAN)/man3"
+	for call in $(CALLS); do echo '.so man3/fenderrope.3' >"$(MAN)/man3/$$call.3" || exit; done
+	chmod 644 $(CALLS:%="$(MAN)/man3/%.3")
 	install -m 644 README.md docs/*.md "$(DOC)"
+	install -m 644 examples/hall.c examples/seal-a "$(DOC)/examples"
 
 uninstall:
-	rm -f "$(TO)/bin/fenderrope-list" "$(TO)/include/fenderrope.h" "$(TO)/lib/libfenderrope.a" "$(TO)/lib/pkgconfig/fenderrope.pc"
-	rm -f "$(TO)/share/man/man1/fenderrope-list.1" "$(TO)/share/man/man3/fenderrope.3"
+	rm -f "$(TO)/bin/fenderrope-list" "$(TO)/bin/fenderrope-check" "$(TO)/include/fenderrope.h"
+	rm -f "$(TO)/lib/libfenderrope.a" "$(TO)/lib/pkgconfig/fenderrope.pc"
+	rm -f "$(MAN)/man1/fenderrope-list.1" "$(MAN)/man1/fenderrope-check.1" "$(MAN)/man3/fenderrope.3"
+	rm -f $(CALLS:%="$(MAN)/man3/%.3")
 	rm -rf "$(DOC)"
 
 clean:
 	@rm -rf target
 
 kit:
-	@test -n "$(RT)" || { echo "missing: rt, the command of the Rattle kit; put the kit's bin folder on the PATH" >&2; exit 1; }
+	@test -n "$(RT)" || \
+		{ echo "missing: rt, the command of the Rattle kit; put the kit's bin folder on the PATH" >&2; exit 1; }
+	@rt version | cmp -s - kit.txt || \
+		echo "warning: the kit is '$$(rt version)', and this was proved with '$$(cat kit.txt)' (kit.txt)" >&2
