@@ -71,7 +71,7 @@ lib: kit
 
 checker: lib
 	@mkdir -p target/bin
-	@$(CC) $(STRICT) $(CFLAGS) -Iinclude programs/check.c $(LIB) -o $(CHECKER)
+	@$(CC) $(STRICT) $(CFLAGS) -Iinclude programs/check.c $(LIB) $(LDFLAGS) -o $(CHECKER)
 
 test:
 	@tests/tools
