@@ -18,7 +18,8 @@
 #                 docs, example
 # make uninstall  remove what make install put there
 # make clean  remove what was made
-# What rt prints while it proves and builds stands in target/log/make-*; it is shown where rt fails.
+# What rt prints stands in target/log/make-*: its last line is shown, and all of it where it fails. The gate's rt ci
+# prints as it goes.
 
 VERSION := 0.1.0
 PREFIX ?= /usr/local
@@ -37,10 +38,11 @@ TO = $(DESTDIR)$(PREFIX)
 DOC = $(TO)/share/doc/fenderrope
 MAN = $(TO)/share/man
 
-# Runs a command of the kit, with what it prints in target/log/make-NAME; where it fails that is shown, and its status
-# kept: $(call logged,NAME,COMMAND)
+# Runs a command of the kit, with what it prints in target/log/make-NAME. Shows its last line, or all of it where it
+# fails, and keeps its status: $(call logged,NAME,COMMAND)
 logged = mkdir -p target/log && echo "$(2): what it prints is in target/log/make-$(1)" && \
-	{ $(2) >target/log/make-$(1) 2>&1 || { status=$$?; cat target/log/make-$(1) >&2; exit $$status; }; }
+	{ $(2) >target/log/make-$(1) 2>&1 || { status=$$?; cat target/log/make-$(1) >&2; exit $$status; }; } && \
+	tail -n 1 target/log/make-$(1)
 
 # Whether no source is younger than the library, and the kit is the one that it was made with.
 unchanged = test -f $(LIB) && rt version | cmp -s - $(MADE) && \
