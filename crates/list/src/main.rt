@@ -1,8 +1,11 @@
-// The listing program (document 01, "A whole seal and its listing"): a seal on standard input, its listing on standard output.
+// The listing program (document 01, "A whole seal and its listing"): a seal on standard input, its listing on standard output. What it prints is what
+// `listing::list` promises.
 ghost use Rattle.list.specs.Input.{Given};
 use libc::STDERR_FILENO;
 use libc::STDIN_FILENO;
 use libc::STDOUT_FILENO;
+use listing::READ;
+use listing::ROOM;
 
 // What standard input gave.
 enum Input {
@@ -31,20 +34,27 @@ fn read_input(buffer: &mut [u8]) -> Input
     Input::Bytes(n)
 }
 
-// One byte more than the longest seal is read, so that a longer one is refused; table and text have room for every seal.
+// Reads, lists and writes; it takes no arguments.
 fn main() {
-    let mut seal = [0u8; 4097];
+    if 1 < os::arg_count() {
+        io::write_all(STDERR_FILENO, b"usage: fenderrope-list <seal\n");
+        return;
+    }
+    let mut seal = [0u8; READ];
     let input = read_input(&mut seal);
     let Input::Bytes(size) = input else {
-        io::write_all(STDERR_FILENO, b"list: standard input cannot be read\n");
+        io::write_all(
+            STDERR_FILENO,
+            b"fenderrope-list: standard input cannot be read\n",
+        );
         return;
     };
-    let mut table = [0usize; 765];
-    let mut text = [0u8; 259];
-    let reading = reader::read(&seal[..size], &mut table, &mut text);
-    let mut out = [0u8; 32768];
-    let count = listing::put_listing(reading, &table, &text, &mut out);
+    let mut out = [0u8; ROOM];
+    let count = listing::list(&seal[..size], &mut out);
     if !io::write_all(STDOUT_FILENO, &out[..count]) {
-        io::write_all(STDERR_FILENO, b"list: standard output cannot be written\n");
+        io::write_all(
+            STDERR_FILENO,
+            b"fenderrope-list: standard output cannot be written\n",
+        );
     }
 }

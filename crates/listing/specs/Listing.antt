@@ -1,45 +1,15 @@
--- The listing (document 01, "A whole seal and its listing"): what the program prints for a reading, with the rows of the table and the text.
+-- What the code puts down for a reading, with the rows of the table and the text: of a seal with room enough it is the listing (Listed.antt).
 -- Assumes nothing.
 pub mod Laws
 use Prim.Native.Nat.{ℕ, zero, suc}
-use Prim.Native.String.{String}
 use mathlib.Core.List.{List, [], _∷_}
-use lib.Dec.{ltb, eqb}
+use lib.Dec.{eqb}
 use lib.ListN.{take, drop}
 use Rattle.format.specs.Choice.{pick}
-use Rattle.dates.specs.declared.Date.{Date}
 use Rattle.lines.specs.Line.{decimalOf, ascii, _then_}
 use Rattle.items.specs.declared.Header.{Header}
 use Rattle.reader.specs.declared.Reading.{Reading}
-
--- a line: a name, what it says, a newline
-abbrev pub lineOf : List ℕ → List ℕ → List ℕ
-lineOf name words = name then words then ascii "\n"
-
-abbrev pub line : String → List ℕ → List ℕ
-line name words = lineOf (ascii name) words
-
--- a zero in front of a number below a limit
-abbrev pub zeroBelow : ℕ → ℕ → List ℕ
-zeroBelow limit n = pick (ltb n limit) (ascii "0") []
-
--- a number with at least two digits, and with at least four
-abbrev pub two : ℕ → List ℕ
-two n = zeroBelow 10 n then decimalOf n
-
-abbrev pub four : ℕ → List ℕ
-four n = zeroBelow 1000 n then zeroBelow 100 n then two n
-
--- YYYY-MM-DD
-abbrev pub day : Date → List ℕ
-day d = four (d .year) then ascii "-" then two (d .month) then ascii "-" then two (d .day)
-
--- where a part of the seal stands
-abbrev pub part : ℕ → ℕ → List ℕ
-part place size = ascii " at " then decimalOf place then ascii " length " then decimalOf size
-
-abbrev pub feature : ℕ → ℕ → ℕ → List ℕ
-feature tag place size = line "feature " (decimalOf tag then part place size)
+use Rattle.listing.specs.Listed.{line, day, part, feature}
 
 -- a line for each of so many rows (tag, value place, value length), as far as the table has them
 unfoldable pub features : ℕ → List ℕ → List ℕ

@@ -1,30 +1,33 @@
--- How long a listing can be: a buffer of 32,768 bytes has room for the whole one of every reading, whatever a table of 765 numbers and a text of 259
--- bytes hold, so the program never cuts one.
+-- How long a listing can be: 8,562 bytes are room for every one. 255 features of at most 32 bytes, and 402 for the other lines.
 -- Assumes nothing.
 use Prim.Native.Nat.{ℕ, zero, suc, _+_, _*_, _/_, _^_, _≤_, _<_}
 use native.Mathlib.Omega.{arith}
 use native.Mathlib.Nat.{pow-suc}
 use native.Mathlib.Decide.{decLe}
 use borrow.Author.Tests.{lt-ltb, le-ltb}
-use mathlib.Core.Path.{_≡_, ap, _∙_}
-use mathlib.Core.Bool.{Bool, true, false}
+use mathlib.Core.Path.{_≡_, refl, ap, sym, subst, _∙_}
 use mathlib.Core.List.{List, [], _∷_, _++_}
-use lib.Dec.{ltb, eqb}
-use lib.ListN.{length, getD, take, drop, length-append, length-take, length-drop}
-use lib.Seq.{take-at}
-use Rattle.format.specs.Buffer.Laws.{over-start}
-use Rattle.format.specs.Choice.{pick}
+use lib.ListN.{length, length-append}
+use Rattle.format.specs.Bytes.{Bytes}
 use Rattle.dates.specs.declared.Date.{Date}
-use Rattle.lines.specs.Line.{Put, digits, decimalOf, ascii}
-use Rattle.lines.specs.Line.Laws.{put-whole}
-use Rattle.items.specs.declared.Header.{Header}
-use Rattle.reader.specs.declared.Reading.{Reading}
-use Rattle.listing.specs.Listing.{line, lineOf, zeroBelow, two, four, day, part, feature, features, nameLines, dateLines, accepted, refused, listing}
+use Rattle.dates.specs.Days.{Day}
+use Rattle.dates.specs.Days.Laws.{day-bounds}
+use Rattle.der.specs.Length.{form}
+use Rattle.grammar.specs.Content.{Version, three, four, Feature, Content}
+use Rattle.grammar.specs.Publish.{lengthOf, headerZone, messageZone, signatureZone}
+use Rattle.grammar.specs.Legal.{ReferenceSize, LegalFeatures, Legal}
+use Rattle.grammar.specs.Sizes.{features-most}
+use Rattle.grammar.specs.Theorems.{zones-add-up}
+use Rattle.items.specs.Cases.{edition}
+use Rattle.verdict.specs.Judge.{Verdict, accepted, refused, judge}
+use Rattle.verdict.specs.Judge.Complete.{reportOf, size-small}
+use Rattle.verdict.specs.Judge.Features.{rowsOf, feature-parts}
+use Rattle.verdict.specs.Judge.Numbers.{FromList, from-list}
+use Rattle.verdict.specs.Judge.Seals.{accepted-only}
+use Rattle.lines.specs.Line.{digits, decimalOf, ascii}
+use Rattle.listing.specs.Listed.{line, lineOf, zeroBelow, two, four as fourDigits, day, part, feature, featureLines, listed}
 
--- a number of 64 bits
-abbrev pub Word : ℕ → Type 0
-Word n = n < 18446744073709551616
-
+-- a number below 10 ^ k has at most k digits
 digits-turn : (k j n : ℕ) → n < 10 ^ suc (suc k) → length (digits j (n / 10)) ≤ suc k → Dec (10 ≤ n) → length (digits (suc j) n) ≤ suc (suc k)
 unfolding digits
 digits-turn k j n h ih (yes p) = simp (le-ltb n 10 p, length-append) (omega arith)
@@ -38,116 +41,113 @@ digits-size (suc k) (suc j) n h =
     let e : 10 ^ suc (suc k) ≡ 10 ^ suc k * 10 = pow-suc 10 (suc k) in
     digits-turn k j n h (digits-size k j (n / 10) (omega arith)) (decLe 10 n)
 
-decimal-size : (n : ℕ) → Word n → length (decimalOf n) ≤ 20
+decimal-size : (k n : ℕ) → n < 10 ^ suc k → length (decimalOf n) ≤ suc k
 unfolding decimalOf
-decimal-size n h = digits-size 19 (suc n) n (omega arith)
+decimal-size k n h = digits-size k (suc n) n h
 
-choice-size : (b : Bool) → length (pick b (ascii "0") []) ≤ 1
-choice-size true = omega arith
-choice-size false = omega arith
+-- two digits, and four
+two-cases : (n : ℕ) → n < 100 → Dec (10 ≤ n) → length (two n) ≤ 2
+two-cases n h (yes p) = simp (le-ltb n 10 p) (decimal-size 1 n h)
+two-cases n h (no p) = let g : n < 10 = omega arith in simp (lt-ltb n 10 g) (omega (arith, decimal-size 0 n g))
 
-zero-size : (limit n : ℕ) → length (zeroBelow limit n) ≤ 1
-zero-size limit n = choice-size (ltb n limit)
+two-size : (n : ℕ) → n < 100 → length (two n) ≤ 2
+two-size n h = two-cases n h (decLe 10 n)
 
-two-size : (n : ℕ) → Word n → length (two n) ≤ 21
-two-size n h = simp length-append (omega (arith, zero-size 10 n, decimal-size n h))
+four-cases : (n : ℕ) → n < 10000 → Dec (1000 ≤ n) → Dec (100 ≤ n) → Dec (10 ≤ n) → length (fourDigits n) ≤ 4
+four-cases n h (yes p) q r = simp (le-ltb n 1000 p, le-ltb n 100 (omega arith), le-ltb n 10 (omega arith)) (decimal-size 3 n h)
+four-cases n h (no p) (yes q) r =
+    let g : n < 1000 = omega arith in
+    simp (lt-ltb n 1000 g, le-ltb n 100 q, le-ltb n 10 (omega arith)) (omega (arith, decimal-size 2 n g))
+four-cases n h (no p) (no q) (yes r) =
+    let g : n < 100 = omega arith in
+    simp (lt-ltb n 1000 (omega arith), lt-ltb n 100 g, le-ltb n 10 r) (omega (arith, decimal-size 1 n g))
+four-cases n h (no p) (no q) (no r) =
+    let g : n < 10 = omega arith in
+    simp (lt-ltb n 1000 (omega arith), lt-ltb n 100 (omega arith), lt-ltb n 10 g) (omega (arith, decimal-size 0 n g))
 
-four-size : (n : ℕ) → Word n → length (four n) ≤ 23
-four-size n h = simp length-append (omega (arith, zero-size 1000 n, zero-size 100 n, zero-size 10 n, decimal-size n h))
+four-size : (n : ℕ) → n < 10000 → length (fourDigits n) ≤ 4
+four-size n h = four-cases n h (decLe 1000 n) (decLe 100 n) (decLe 10 n)
 
-part-size : (place size : ℕ) → Word place → Word size → length (part place size) ≤ 52
-part-size place size h g = simp length-append (omega (arith, decimal-size place h, decimal-size size g))
+-- YYYY-MM-DD
+joined : (y m d : List ℕ) → length y ≤ 4 → length m ≤ 2 → length d ≤ 2 → length (y ++ (ascii "-" ++ (m ++ (ascii "-" ++ d)))) ≤ 10
+joined y m d p q r = simp length-append (omega arith)
 
-feature-size : (tag place size : ℕ) → Word tag → Word place → Word size → length (feature tag place size) ≤ 81
-feature-size tag place size h g f = simp length-append (omega (arith, decimal-size tag h, decimal-size place g, decimal-size size f))
+day-size : (d : Date) → Day d → length (day d) ≤ 10
+day-size d h =
+    let b = day-bounds d h in
+    joined (fourDigits (d .year)) (two (d .month)) (two (d .day)) (four-size (d .year) (omega arith)) (two-size (d .month) (omega arith)) (two-size (d .day) (omega arith))
 
--- 81 bytes a row
-rows-size : (k : ℕ) (t : List ℕ) → ((i : ℕ) → Word (getD t i 0)) → 3 * length (features k t) ≤ 81 * length t
-unfolding features
-rows-size zero t h = omega arith
-rows-size (suc k) [] h = omega arith
-rows-size (suc k) (a ∷ []) h = omega arith
-rows-size (suc k) (a ∷ b ∷ []) h = omega arith
-rows-size (suc k) (a ∷ b ∷ c ∷ t) h =
-    let ih = rows-size k t (λ i. h (suc (suc (suc i)))) in
-    let one = feature-size a b c (h 0) (h 1) (h 2) in
-    let both = length-append (feature a b c) (features k t) in
+-- where a part stands, by the digits of its length, and the line of a feature
+part-size : (k place size : ℕ) → place < 10000 → size < 10 ^ suc k → length (part place size) ≤ 16 + suc k
+part-size k place size h g = simp length-append (omega (arith, decimal-size 3 place h, decimal-size k size g))
+
+feature-size : (tag place size : ℕ) → tag < 1000 → place < 10000 → size < 10000 → length (feature tag place size) ≤ 32
+feature-size tag place size h g f = simp length-append (omega (arith, decimal-size 2 tag h, decimal-size 3 place g, decimal-size 3 size f))
+
+rows-size : (v : Version) (fs : List Feature) (tags t : List ℕ) (at : ℕ) → LegalFeatures v tags fs → at + length (messageZone v fs ++ t) ≤ 4096 → length (featureLines (rowsOf v at fs)) ≤ 32 * length fs
+unfolding featureLines rowsOf
+rows-size v [] tags t at l h = omega arith
+rows-size v (f ∷ fs) tags t at l h =
+    let n = length (f .value) in
+    let w = lengthOf v n in
+    let rest = messageZone v fs ++ t in
+    let place = at + 1 + length w in
+    let long = ap length (feature-parts v f fs t) in
+    let one = length-append w (f .value ++ rest) in
+    let two = length-append (f .value) rest in
+    let ih = rows-size v fs (f .tag ∷ tags) t (place + n) (l .4) (omega arith) in
+    let here = feature-size (f .tag) place n (omega (arith, l .0)) (omega arith) (omega arith) in
+    let both = length-append (feature (f .tag) place n) (featureLines (rowsOf v (place + n) fs)) in
     omega arith
 
--- the fields of a date, a header and a reading are numbers of 64 bits, and a country has three bytes
-pub record Dated (d : Date) : Type 0 where
-  pub month : Word (d .month)
-  pub day : Word (d .day)
-  pub year : Word (d .year)
+version-size : (v : Version) → length (decimalOf (edition v)) ≤ 1
+version-size three = decimal-size 0 3 (omega arith)
+version-size four = decimal-size 0 4 (omega arith)
 
-pub record Headed (h : Header) : Type 0 where
-  pub version : Word (h .version)
-  pub country : length (h .country) ≤ 3
-  pub issued : Dated (h .issued)
-  pub signed : Dated (h .signed)
-  pub definition : Word (h .definition)
-  pub category : Word (h .category)
+reference-size : (v : Version) (n : ℕ) → ReferenceSize v n → n ≤ 255
+reference-size three n h = omega arith
+reference-size four n h = h .1
 
-pub record Machine (r : Reading) : Type 0 where
-  pub number : Word (r .number)
-  pub place : Word (r .place)
-  pub header : Headed (r .header)
-  pub signature-place : Word (r .signature .place)
-  pub signature-length : Word (r .signature .length)
+-- the eleven parts of a listing
+eleven : (v c s r i g d k f z : List ℕ) → length v ≤ 1 → length c ≤ 3 → length s ≤ 4 → length r ≤ 255 → length i ≤ 10 → length g ≤ 10 → length d ≤ 3 → length k ≤ 3 → length f ≤ 8160 → length z ≤ 19 → length (line "accepted" [] ++ (line "version " v ++ (line "country " c ++ (line "signer " s ++ (line "reference " r ++ (line "issued " i ++ (line "signed " g ++ (line "definition " d ++ (line "category " k ++ (f ++ line "signature" z)))))))))) ≤ 8562
+eleven v c s r i g d k f z p0 p1 p2 p3 p4 p5 p6 p7 p8 p9 = simp length-append (omega arith)
 
-day-size : (d : Date) → Dated d → length (day d) ≤ 67
-day-size d h = simp length-append (omega (arith, zero-size 1000 (d .year), zero-size 100 (d .year), zero-size 10 (d .year), decimal-size (d .year) (h .year), zero-size 10 (d .month), decimal-size (d .month) (h .month), zero-size 10 (d .day), decimal-size (d .day) (h .day)))
+accepted-size : (c : Content) → Legal c → length (listed (accepted (reportOf c))) ≤ 8562
+unfolding listed reportOf signatureZone
+accepted-size c l =
+    let h = c .header in
+    let at = length (headerZone h) in
+    let zone = messageZone (h .version) (c .features) in
+    let start = at + length zone + 1 + length (form (length (c .signature))) in
+    let whole = zones-add-up c in
+    let z = length-append (form (length (c .signature))) (c .signature) in
+    let none = length-append zone [] in
+    let size = l .size in
+    let few = features-most c l in
+    let rows = rows-size (h .version) (c .features) [] [] at (l .features) (omega arith) in
+    eleven (decimalOf (edition (h .version))) (h .country) (h .signer) (h .reference) (day (h .issued)) (day (h .signed)) (decimalOf (h .definition)) (decimalOf (h .category)) (featureLines (rowsOf (h .version) at (c .features))) (part start (length (c .signature)))
+    (version-size (h .version))
+    (omega (arith, l .header .country .size))
+    (omega (arith, l .header .signer .size))
+    (reference-size (h .version) (length (h .reference)) (l .header .size))
+    (day-size (h .issued) (l .header .issued))
+    (day-size (h .signed) (l .header .signed))
+    (decimal-size 2 (h .definition) (omega (arith, l .header .definition .1)))
+    (decimal-size 2 (h .category) (omega (arith, l .header .category .1)))
+    (omega arith)
+    (part-size 2 start (length (c .signature)) (omega arith) (omega (arith, size-small (length (c .signature)) (l .signature))))
 
-names-size : (h : Header) (text : List ℕ) → Headed h → length (nameLines h text) ≤ 64 + length text
-unfolding nameLines
-names-size h text w =
-    let c = w .country in
-    simp (length-append, length-take, length-drop) (omega (arith, decimal-size (h .version) (w .version)))
+-- the place of a refusal is a number of 64 bits, as the code's answer is
+abbrev pub Word : Verdict → Type 0
+Word (accepted r) = Unit
+Word (refused number place) = place < 18446744073709551616
 
-line-most : (name words : List ℕ) (k : ℕ) → length words ≤ k → length (lineOf name words) ≤ length name + k + 1
-line-most name words k h = simp length-append (omega arith)
+verdict-size : (s : List ℕ) → Bytes s → (v : Verdict) → judge s ≡ v → FromList v → Word v → length (listed v) ≤ 8562
+unfolding listed
+verdict-size s bytes (accepted r) e l w =
+    let seal = accepted-only s bytes r e in
+    subst (λ q. length (listed (accepted q)) ≤ 8562) (sym (seal .report-is)) (accepted-size (seal .content) (seal .legal))
+verdict-size s bytes (refused number place) e l w = simp length-append (omega (arith, decimal-size 1 number (omega (arith, l .1)), decimal-size 19 place (omega arith)))
 
-four-most : (a b c d : List ℕ) (i j k l : ℕ) → length a ≤ i → length b ≤ j → length c ≤ k → length d ≤ l → length (a ++ (b ++ (c ++ d))) ≤ i + j + k + l
-four-most a b c d i j k l p q r s = simp length-append (omega arith)
-
-dates-size : (h : Header) → Headed h → length (dateLines h) ≤ 212
-unfolding dateLines
-dates-size h w =
-    four-most (line "issued " (day (h .issued))) (line "signed " (day (h .signed))) (line "definition " (decimalOf (h .definition))) (line "category " (decimalOf (h .category))) 75 75 32 30
-    (line-most (ascii "issued ") (day (h .issued)) 67 (day-size (h .issued) (w .issued)))
-    (line-most (ascii "signed ") (day (h .signed)) 67 (day-size (h .signed) (w .signed)))
-    (line-most (ascii "definition ") (decimalOf (h .definition)) 20 (decimal-size (h .definition) (w .definition)))
-    (line-most (ascii "category ") (decimalOf (h .category)) 20 (decimal-size (h .category) (w .category)))
-
-module _ (r : Reading) (table text : List ℕ) (machine : Machine r) (words : (i : ℕ) → Word (getD table i 0)) (rows : length table ≤ 765) (names : length text ≤ 259) where
-  accepted-size : length (accepted r table text) ≤ 32768
-  unfolding accepted
-  accepted-size =
-      let f = rows-size (r .count) table words in
-      let most : length (features (r .count) table) ≤ 20655 = omega arith in
-      let n = names-size (r .header) text (machine .header) in
-      let all =
-      four-most (nameLines (r .header) text) (dateLines (r .header)) (features (r .count) table) (line "signature" (part (r .signature .place) (r .signature .length))) 323 212 20655 62
-      (omega arith)
-      (dates-size (r .header) (machine .header))
-      most
-      (line-most (ascii "signature") (part (r .signature .place) (r .signature .length)) 52 (part-size (r .signature .place) (r .signature .length) (machine .signature-place) (machine .signature-length))) in
-      omega arith
-
-  refused-size : length (refused (r .number) (r .place)) ≤ 32768
-  refused-size = simp length-append (omega (arith, decimal-size (r .number) (machine .number), decimal-size (r .place) (machine .place)))
-
-  either : (b : Bool) → length (pick b (accepted r table text) (refused (r .number) (r .place))) ≤ 32768
-  either true = accepted-size
-  either false = refused-size
-
-  pub room : length (listing r table text) ≤ 32768
-  room = either (eqb (r .number) 0)
-
-  -- so what stands in such a buffer, up to the count, is the whole listing
-  pub whole : (old new : List ℕ) (count : ℕ) → length old ≡ 32768 → Put old 0 (listing r table text) new count → take count new ≡ listing r table text
-  whole old new count e p =
-      let bytes : List ℕ = listing r table text in
-      let held = put-whole old 0 bytes new count p (omega (arith, room)) in
-      let size : length bytes ≡ count = omega (arith, held .1) in
-      ap (take count) (held .0 ∙ over-start old bytes) ∙ take-at bytes (drop (length bytes) old) count size
+pub room : (s : List ℕ) → Bytes s → Word (judge s) → length (listed (judge s)) ≤ 8562
+room s bytes w = verdict-size s bytes (judge s) refl (from-list s) w

@@ -1,5 +1,10 @@
-// The listing of a reading (document 01, "A whole seal and its listing"), put as text into a lent buffer.
-ghost use Rattle.lines.specs.Line.{Put, Counts};
+// The listing of a seal (document 01, "A whole seal and its listing"), put as text into a lent buffer.
+ghost use mathlib.Core.Path.{_≡_};
+ghost use lib.ListN.{length};
+ghost use Rattle.format.specs.Answers.{done, filled};
+ghost use Rattle.verdict.specs.Judge.{judge};
+ghost use Rattle.lines.specs.Line.{Put};
+ghost use Rattle.listing.specs.Listed.{listed, Enough};
 ghost use Rattle.listing.specs.Listing.{accepted, refused, listing};
 
 mod header;
@@ -10,6 +15,17 @@ use lines::put;
 use lines::put_number;
 use lines::put_text;
 use reader::Reading;
+
+// How much of its input a program must read: one byte more than the longest seal, so that one that is too long is known.
+pub const READ: usize = 4097;
+
+// Room for every listing (specs/Room.antt).
+pub const ROOM: usize = 8562;
+
+// Room for the rows of every seal, and for its signer and reference: 12 is never listed.
+const NUMBERS: usize = 765;
+
+const NAMES: usize = 259;
 
 // The lines of an accepted seal.
 fn put_accepted(out: &mut [u8], at: usize, reading: Reading, table: &[usize], text: &[u8]) -> usize
@@ -35,13 +51,24 @@ fn put_refused(out: &mut [u8], at: usize, number: usize, place: usize) -> usize
     put(out, o, b'\n')
 }
 
-// Puts the listing of a reading at the start of `out`, as far as there is room, and gives the count of bytes put there. `table` and `text` are what
-// `reader::read` filled.
-pub fn put_listing(reading: Reading, table: &[usize], text: &[u8], out: &mut [u8]) -> usize
-    ensures { λ r. ⌜ Counts r (now (out .exit)) × Put (now (out .entry)) 0 (listing reading (now (table .entry)) (now (text .entry))) (now (out .exit)) r ⌝ }
+// The listing of a reading at the start of `out`, as far as there is room, and the count of bytes put there. `table` and `text` are what `reader::read` filled.
+fn put_listing(reading: Reading, table: &[usize], text: &[u8], out: &mut [u8]) -> usize
+    ensures { λ r. ⌜ Put (now (out .entry)) 0 (listing reading (now (table .entry)) (now (text .entry))) (now (out .exit)) r ⌝ }
 {
     if reading.number == 0 {
         return put_accepted(out, 0, reading, table, text);
     }
     put_refused(out, 0, reading.number, reading.place)
+}
+
+// Puts the listing of the verdict on `seal` at the start of `out` and gives the count of its bytes; past it `out` stays.
+pub fn list(seal: &[u8], out: &mut [u8; ROOM]) -> usize
+    ensures count { λ r. ⌜ r ≡ length (listed (judge (now (seal .entry)))) ⌝ }
+    ensures text { λ r. ⌜ now (out .exit) ≡ filled (done (listed (judge (now (seal .entry))))) (now (out .entry)) ⌝ }
+    ensures enough { λ r. do ⌜ Enough (← ⟦READ⟧ .entry) ⌝ }
+{
+    let mut table = [0usize; NUMBERS];
+    let mut text = [0u8; NAMES];
+    let reading = reader::read(seal, &mut table, &mut text);
+    put_listing(reading, &table, &text, out)
 }

@@ -1,7 +1,7 @@
 // What the lines of a listing say: a name before a text, a number or a day.
 ghost use lib.ListN.{take, drop};
 ghost use Rattle.lines.specs.Line.{Put, decimalOf};
-ghost use Rattle.listing.specs.Listing.{lineOf, zeroBelow, two, four, day};
+ghost use Rattle.listing.specs.Listed.{lineOf, zeroBelow, two, four, day};
 use dates::Date;
 use lines::put;
 use lines::put_number;

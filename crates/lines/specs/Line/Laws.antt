@@ -8,8 +8,9 @@ use native.Mathlib.Decide.{decLe}
 use mathlib.Core.Path.{_≡_, refl, ap, ap₂, sym, _∙_}
 use mathlib.Core.List.{List, [], _∷_, _++_}
 use native.Mathlib.Numerals.{add-one}
-use lib.ListN.{length, getD, set, take, length-set}
+use lib.ListN.{length, getD, set, take, drop, length-set, length-append}
 use lib.Seq.{take-suc, length-take-le}
+use Rattle.format.specs.Answers.{done, filled}
 use Rattle.format.specs.Buffer.{over}
 use Rattle.format.specs.Buffer.Laws.{over-none, set-over, over-over}
 use Rattle.lines.specs.Line.{Line, line, with, withAll, Within, Counts, Put, digits, decimalOf}
@@ -26,6 +27,10 @@ within-more old mid at m r p e q = omega arith
 
 pub counts : (n : ℕ) (s : List ℕ) → n ≤ length s → Counts n s
 counts n s h = (h, sym (length-take-le n s h))
+
+-- as many as a text has that stands at the start
+pub counts-filled : (n : ℕ) (text out after : List ℕ) → n ≡ length text → after ≡ filled (done text) out → Counts n after
+counts-filled n text out after e f = counts n after (omega (arith, ap length f, length-append text (drop (length text) out)))
 
 pub put-none : (old : List ℕ) (at : ℕ) → Put old at [] old at
 unfolding withAll

@@ -1,12 +1,10 @@
 -- `listing::put_listing` meets its contract: the seal is accepted, or it is refused.
 -- Assumes nothing.
 use borrow.Author.Needs.{needs}
-use native.Mathlib.Omega.{arith}
 use borrow.Author.Tests.{eq-eqb, ne-eqb}
 use mathlib.Core.Path.{_≡_}
 use mathlib.Core.Bool.{true, false}
 use lib.Dec.{eqb}
-use Rattle.lines.specs.Line.Laws.{counts}
 use Rattle.listing.proofs.put_listing.Statement.{statement}
 use Rattle.listing.proofs.put_listing.Tie as tie
 
@@ -19,10 +17,8 @@ same-length c = search needs
 returns : tie.Need-returns
 returns c =
     let call = c .before .before in
-    let within = call .put-accepted .ensures .within in
-    let long = call .put-accepted .kept .0 in
     let zero : eqb (call .before .before .before .before .before .before .before .args .reading .number) 0 ≡ true = eq-eqb _ _ (call .before .before .if1 .taken) in
-    (counts _ _ (omega arith), rw zero (call .put-accepted .ensures))
+    rw zero (call .put-accepted .ensures)
 
 put-refused-requires : tie.Need-put-refused-requires
 put-refused-requires c κs = search needs
@@ -33,10 +29,8 @@ same-length-2 c = search needs
 returns-2 : tie.Need-returns-2
 returns-2 c =
     let call = c .before .before in
-    let within = call .put-refused .ensures .within in
-    let long = call .put-refused .kept .0 in
     let other : eqb (call .before .before .before .before .before .before .before .args .reading .number) 0 ≡ false = ne-eqb _ _ (call .before .before .if1 .left) in
-    (counts _ _ (omega arith), rw other (call .put-refused .ensures))
+    rw other (call .put-refused .ensures)
 
 pub put-listing-spec : {M : Type 1} → statement M
 put-listing-spec =

@@ -8,7 +8,8 @@ use mathlib.Core.List.{List, [], _∷_, _++_, append-assoc, append-nil}
 use lib.ListN.{length, getD}
 use Rattle.lines.specs.Line.{Put}
 use Rattle.lines.specs.Line.Laws.{put-more}
-use Rattle.listing.specs.Listing.{feature, features}
+use Rattle.listing.specs.Listed.{feature}
+use Rattle.listing.specs.Listing.{features}
 
 -- three numbers a row
 unfoldable pub start : ℕ → ℕ

@@ -1,0 +1,68 @@
+-- The listing of a verdict (document 01, "A whole seal and its listing"), line by line as the example there has it.
+-- Assumes nothing.
+pub mod Laws
+use mathlib.Core.Path.{_≡_}
+use Prim.Native.Nat.{ℕ}
+use Prim.Native.String.{String}
+use mathlib.Core.List.{List, [], _∷_}
+use lib.Dec.{ltb}
+use lib.ListN.{take}
+use Rattle.format.specs.Choice.{pick}
+use Rattle.dates.specs.declared.Date.{Date}
+use Rattle.items.specs.Cases.{edition}
+use Rattle.verdict.specs.Judge.{Row, Verdict, accepted, refused, judge}
+use Rattle.lines.specs.Line.{decimalOf, ascii, _then_}
+
+-- a line: a name, what it says, a newline
+abbrev pub lineOf : List ℕ → List ℕ → List ℕ
+lineOf name words = name then words then ascii "\n"
+
+abbrev pub line : String → List ℕ → List ℕ
+line name words = lineOf (ascii name) words
+
+-- a zero in front of a number below a limit
+abbrev pub zeroBelow : ℕ → ℕ → List ℕ
+zeroBelow limit n = pick (ltb n limit) (ascii "0") []
+
+-- a number with at least two digits, and with at least four
+abbrev pub two : ℕ → List ℕ
+two n = zeroBelow 10 n then decimalOf n
+
+abbrev pub four : ℕ → List ℕ
+four n = zeroBelow 1000 n then zeroBelow 100 n then two n
+
+-- YYYY-MM-DD
+abbrev pub day : Date → List ℕ
+day d = four (d .year) then ascii "-" then two (d .month) then ascii "-" then two (d .day)
+
+-- where a part of the seal stands
+abbrev pub part : ℕ → ℕ → List ℕ
+part place size = ascii " at " then decimalOf place then ascii " length " then decimalOf size
+
+abbrev pub feature : ℕ → ℕ → ℕ → List ℕ
+feature tag place size = line "feature " (decimalOf tag then part place size)
+
+-- a line a feature, in the seal's order
+unfoldable pub featureLines : List Row → List ℕ
+featureLines [] = []
+featureLines (r ∷ rows) = feature (r .tag) (r .place) (r .size) then featureLines rows
+
+-- an accepted seal's lines, or the one line of a refusal
+unfoldable pub listed : Verdict → List ℕ
+listed (accepted r) =
+    line "accepted" []
+    then line "version " (decimalOf (edition (r .header .version)))
+    then line "country " (r .header .country)
+    then line "signer " (r .header .signer)
+    then line "reference " (r .header .reference)
+    then line "issued " (day (r .header .issued))
+    then line "signed " (day (r .header .signed))
+    then line "definition " (decimalOf (r .header .definition))
+    then line "category " (decimalOf (r .header .category))
+    then featureLines (r .rows)
+    then line "signature" (part (r .signature-place) (r .signature-size))
+listed (refused number place) = line "refused " (decimalOf number then ascii " at " then decimalOf place)
+
+-- reading so many bytes of an input is enough: what is listed of them is what is listed of all
+abbrev pub Enough : ℕ → Type 0
+Enough n = (s : List ℕ) → listed (judge (take n s)) ≡ listed (judge s)
