@@ -1,7 +1,7 @@
 -- Document 01, "At the edges": the date and the INTEGERs, in both directions.
 -- Assumes nothing.
 use mathlib.Core.List.{List, [], _∷_}
-use Prim.Native.Nat.{ℕ}
+use Prim.Native.Nat.{ℕ, suc}
 use lib.IntN.{ℤ, pos, negsuc}
 use Rattle.format.specs.Numbers.{val}
 use Rattle.format.specs.Answers.{Outcome, Given, done}
@@ -11,12 +11,16 @@ use Rattle.dates.specs.declared.Date.{Date}
 use Rattle.integers.specs.Calls.{reading, writing}
 use Rattle.cases.specs.Case.{Case}
 
--- a number that is given, shown as its date's fields, and an INTEGER as its bytes written anew
+-- a number that is given, shown as its date's fields; and an INTEGER, shown as its sign (1 for a number below 0) and how far it is from 0
 abbrev pub fields : Given Date → Outcome
 fields g = record { number = g .number; place = g .place; written = g .value .month ∷ g .value .day ∷ g .value .year ∷ [] }
 
-abbrev pub again : Given ℤ → Outcome
-again g = record { number = g .number; place = g .place; written = writing (g .value) 10 .written }
+abbrev pub signed : ℤ → List ℕ
+signed (pos n) = 0 ∷ n ∷ []
+signed (negsuc n) = 1 ∷ suc n ∷ []
+
+abbrev pub value : Given ℤ → Outcome
+value g = record { number = g .number; place = g .place; written = signed (g .value) }
 
 -- 25 March 1957
 abbrev pub spring : Date
@@ -25,8 +29,8 @@ spring = record { month = 3; day = 25; year = 1957 }
 abbrev pub writes : ℤ → List ℕ → Case
 writes v bytes = record { found = writing v 10; expected = done bytes }
 
-abbrev pub reads : List ℕ → Case
-reads bytes = record { found = again (reading bytes); expected = done bytes }
+abbrev pub reads : List ℕ → ℤ → Case
+reads bytes v = record { found = value (reading bytes); expected = done (signed v) }
 
 abbrev pub number-cases : List Case
 number-cases =
@@ -37,9 +41,9 @@ number-cases =
     writes (pos 128) (0x02 ∷ 0x02 ∷ 0x00 ∷ 0x80 ∷ []) ∷
     writes (negsuc 128) (0x02 ∷ 0x02 ∷ 0xFF ∷ 0x7F ∷ []) ∷
     writes (negsuc 25356) (0x02 ∷ 0x02 ∷ 0x9C ∷ 0xF3 ∷ []) ∷
-    reads (0x02 ∷ 0x01 ∷ 0x00 ∷ []) ∷
-    reads (0x02 ∷ 0x01 ∷ 0x7F ∷ []) ∷
-    reads (0x02 ∷ 0x02 ∷ 0x00 ∷ 0x80 ∷ []) ∷
-    reads (0x02 ∷ 0x02 ∷ 0xFF ∷ 0x7F ∷ []) ∷
-    reads (0x02 ∷ 0x02 ∷ 0x9C ∷ 0xF3 ∷ []) ∷
+    reads (0x02 ∷ 0x01 ∷ 0x00 ∷ []) (pos 0) ∷
+    reads (0x02 ∷ 0x01 ∷ 0x7F ∷ []) (pos 127) ∷
+    reads (0x02 ∷ 0x02 ∷ 0x00 ∷ 0x80 ∷ []) (pos 128) ∷
+    reads (0x02 ∷ 0x02 ∷ 0xFF ∷ 0x7F ∷ []) (negsuc 128) ∷
+    reads (0x02 ∷ 0x02 ∷ 0x9C ∷ 0xF3 ∷ []) (negsuc 25356) ∷
     []

@@ -1,17 +1,17 @@
 -- What is proved of the reader, named after the tender's sentences (conditions 1 and 3).
 -- Assumes nothing.
 use mathlib.Core.Path.{_≡_, refl, ap, sym, _∙_}
-use Prim.Native.Nat.{ℕ, suc, _+_, _*_, _≤_, _<_}
+use Prim.Native.Nat.{ℕ, suc, _+_, _*_, _≤_}
 use native.Mathlib.Omega.{arith}
 use mathlib.Core.List.{List, [], _++_}
-use lib.ListN.{length, take}
+use lib.ListN.{length, take, length-append}
 use Rattle.format.specs.Bytes.{Bytes}
-use Rattle.format.specs.Cut.{counted}
 use Rattle.der.specs.Length.{form}
 use Rattle.grammar.specs.Content.{Content}
 use Rattle.grammar.specs.Publish.{headerZone, messageZone, signatureZone, signedBytes, publish}
 use Rattle.grammar.specs.Legal.{Legal}
 use Rattle.grammar.specs.Theorems.{one-content, no-front-part, zones-add-up, signed-front}
+use Rattle.verdict.specs.Report.{part, contentOf}
 use Rattle.verdict.specs.Judge.{Report, accepted, refused, judge}
 use Rattle.verdict.specs.Judge.Numbers.{from-list}
 use Rattle.verdict.specs.Judge.Complete.{reportOf}
@@ -20,6 +20,7 @@ use Rattle.reader.specs.Calls.{answerOf, table, text, reading, rowsIn, t
 use Rattle.reader.specs.Calls.Given.{room-enough, given-accepted, given-listed}
 use Rattle.reader.specs.Answer.{contentIn}
 use Rattle.reader.specs.Answer.Laws.{held}
+use Rattle.reader.specs.declared.Reading.{Reading}
 
 -- Condition 1: "answers from the numbered list": 0 to 12, for every seal, table and text
 pub listed : (s : List ℕ) (numbers room : ℕ) → answerOf (reading s numbers room) .number ≤ 12
@@ -33,6 +34,16 @@ refusal-keeps s rows names number place e = (ap (λ v. then (rowsIn v) rows) e, 
 pub accepted-when : (c : Content) → Legal c → (numbers room : ℕ) → 3 * length (c .features) ≤ numbers → 4 + length (c .header .reference) ≤ room → reading (publish c) numbers room ≡ accepted (reportOf c)
 accepted-when c l numbers room rows names = room-enough c l numbers room rows names
 
+-- The zone ends and the signature's part that an answer gives are those of a content: header, message and signature zone one after another
+-- to the seal's end, and the part is the raw signature, the last of its bytes.
+pub record ZonesOf (s : List ℕ) (c : Content) (a : Reading) : Type 0 where
+  pub header-end : a .ends .header ≡ length (headerZone (c .header))
+  pub message-end : a .ends .message ≡ a .ends .header + length (messageZone (c .header .version) (c .features))
+  pub seal-end : a .ends .seal ≡ length s
+  pub raw : part (a .signature .place) (a .signature .length) s ≡ c .signature
+  pub raw-size : a .signature .length ≡ length (c .signature)
+  pub raw-last : a .signature .place + a .signature .length ≡ length s
+
 -- and what is accepted is one: "That content is then the only one, and it is what the reader reports", in the answer, the table and the text that the caller holds
 pub record Reported (s rows names : List ℕ) (r : Report) : Type 0 where
   pub content : Content
@@ -41,11 +52,11 @@ pub record Reported (s rows names : List ℕ) (r : Report) : Type 0 where
   pub only : (other : Content) → Legal other → publish other ≡ s → other ≡ content
   pub reports : contentIn s (answerOf (accepted r)) (then (table (r .rows)) rows) (then (text r) names) ≡ content
   -- the zones lie one after another, and the signed bytes are the front part up to the message's end
-  pub ends : (r .header-end ≤ r .message-end) × ((r .message-end < r .seal-end) × (r .seal-end ≡ length s))
+  pub zones : ZonesOf s content (answerOf (accepted r))
   pub signed : take (r .message-end) s ≡ signedBytes content
 
 pub accepted-exactly : (s : List ℕ) → Bytes s → (rows names : List ℕ) (r : Report) → reading s (length rows) (length names) ≡ accepted r → Reported s rows names r
-unfolding reportOf signatureZone
+unfolding reportOf signatureZone contentOf
 accepted-exactly s bytes rows names r e =
     let j : judge s ≡ accepted r = given-accepted (judge s) (length rows) (length names) r e in
     let seal = accepted-only s bytes r j in
@@ -56,8 +67,11 @@ accepted-exactly s bytes rows names r e =
     let m = length (messageZone (c .header .version) (c .features)) in
     let header-end : r .header-end ≡ h = ap (λ z. z .header-end) same in
     let message-end : r .message-end ≡ h + m = ap (λ z. z .message-end) same in
-    let seal-end : r .seal-end ≡ length (publish c) = ap (λ z. z .seal-end) same in
-    let mark : length (signatureZone (c .signature)) ≡ suc (length (counted form (c .signature))) = refl in
+    let raw-size : r .signature-size ≡ length (c .signature) = ap (λ z. z .signature-size) same in
+    let raw-place : r .signature-place ≡ h + m + 1 + length (form (length (c .signature))) = ap (λ z. z .signature-place) same in
+    let whole : length (publish c) ≡ length s = ap length (seal .form-is) in
+    let zone : length (signatureZone (c .signature)) ≡ suc (length (form (length (c .signature))) + length (c .signature)) =
+    ap suc (length-append (form (length (c .signature))) (c .signature)) in
     let long : length (r .header .signer) ≡ 4 = ap (λ z. length (z .header .signer)) same ∙ l .header .signer .size in
     record {
       content = c;
@@ -65,7 +79,14 @@ accepted-exactly s bytes rows names r e =
       form-is = seal .form-is;
       only = λ other lo form. one-content other c lo l (form ∙ sym (seal .form-is));
       reports = held s r rows names long ∙ seal .reports;
-      ends = (omega (arith, header-end, message-end), (omega (arith, message-end, seal-end, zones-add-up c, mark), seal-end ∙ ap length (seal .form-is)));
+      zones = record {
+        header-end = header-end;
+        message-end = omega (arith, header-end, message-end);
+        seal-end = ap (λ z. z .seal-end) same ∙ whole;
+        raw = ap (λ z. z .signature) (seal .reports);
+        raw-size = raw-size;
+        raw-last = omega (arith, raw-place, raw-size, zones-add-up c, zone, whole);
+      };
       signed = ap (λ z. take (z .message-end) s) same ∙ ap (take (h + m)) (sym (seal .form-is)) ∙ signed-front c;
     }
 

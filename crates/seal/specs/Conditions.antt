@@ -20,7 +20,7 @@ use Rattle.grammar.specs.Content.{Content}
 use Rattle.grammar.specs.Publish.{signatureZone, signedBytes, publish}
 use Rattle.grammar.specs.Legal.{Legal}
 use Rattle.grammar.specs.Theorems as grammar
-use Rattle.verdict.specs.Judge.{refused, judge}
+use Rattle.verdict.specs.Judge.{accepted, refused, judge}
 use Rattle.verdict.specs.Judge.Numbers.{from-list}
 use Rattle.verdict.specs.Judge.Complete.{published-accepted as legal-accepted}
 use Rattle.verdict.specs.Judge.Seals.{accepted-only}
@@ -188,6 +188,15 @@ signed-front s bytes p rows names z =
     let a = zero-accepted s (length rows) (length names) z in
     let r = reader.accepted-exactly s bytes rows names (a .report) (a .reads) in
     ap (λ v. take (answerOf v .ends .message) s) (a .reads) ∙ r .signed ∙ ap signedBytes (sym (r .only (p .content) (p .legal) (p .form-is)))
+
+-- The zone ends that the answer gives, and the signature's part, are those of the only content (`ZonesOf` in crates/reader/specs/Theorems.antt):
+-- header end the header zone's length, message end that and the message zone's, seal end the seal's length, and the part the raw signature.
+pub zone-ends : (s : List ℕ) → Bytes s → (p : Published s) (rows names : List ℕ) → answer s rows names .number ≡ 0 → reader.ZonesOf s (p .content) (answer s rows names)
+zone-ends s bytes p rows names z =
+    let a = zero-accepted s (length rows) (length names) z in
+    let r = reader.accepted-exactly s bytes rows names (a .report) (a .reads) in
+    let e : r .content ≡ p .content = sym (r .only (p .content) (p .legal) (p .form-is)) in
+    subst (λ v. reader.ZonesOf s (p .content) (answerOf v)) (sym (a .reads)) (subst (λ c. reader.ZonesOf s c (answerOf (accepted (a .report)))) e (r .zones))
 
 -- Two accepted seals with the same signed bytes say the same but for the signature.
 pub seals-apart : (s s′ : List ℕ) → Bytes s → Bytes s′ → (rows names rows′ names′ : List ℕ) → answer s rows names .number ≡ 0 → answer s′ rows′ names′ .number ≡ 0 → take (answer s rows names .ends .message) s ≡ take (answer s′ rows′ names′ .ends .message) s′ → (contentHeld s rows names .header ≡ contentHeld s′ rows′ names′ .header) × (contentHeld s rows names .features ≡ contentHeld s′ rows′ names′ .features)
