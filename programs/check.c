@@ -28,7 +28,7 @@ static int judged(size_t length) {
     return r.number == FR_DONE ? ACCEPTED : REFUSED;
 }
 
-/* Reads no byte that is not looked at, as there is no buffer in between; the end of input is told from a failed read. */
+/* Reads no byte that is not looked at, as nothing is buffered; the end of input is told from a failed read. */
 static int checked(FILE *input, const char *name) {
     if (setvbuf(input, NULL, _IONBF, 0) != 0) return failed(name, "cannot be read");
     size_t length = fread(seal, 1, sizeof seal, input);
