@@ -1,43 +1,48 @@
--- What the two calls answer, for every input (document 01, numbers 40 to 45, in this order: reading 45, 40, 41, 42; writing 45, 43, 44), and the number
--- and place of each case of their answers.
+-- What the two calls answer, for every input (document 01, numbers 40 to 45), and the number and place of each case of their answers.
 -- Assumes nothing.
 pub mod Laws
 use Prim.Native.Nat.{ℕ, suc, _%_}
 use mathlib.Core.List.{List, [], _∷_}
-use lib.Dec.{ltb, eqb}
+use lib.Dec.{leb, eqb}
 use lib.ListN.{length}
 use Rattle.format.specs.Choice.{pick}
-use Rattle.format.specs.Answers.{Outcome, Answer, done, refused}
+use Rattle.format.specs.Answers.{Outcome, Answer, done}
+use Rattle.format.specs.Order.{Test, test, inOrder}
 use Rattle.c40.specs.Chart.{inChart}
 use Rattle.c40.specs.Text.{publish, width}
-use Rattle.c40.specs.Decode.{Decoded, decode}
+use Rattle.c40.specs.Decode.{decode, textOf, isText, wrongAt}
 use Rattle.c40.specs.declared.Reading.{Reading}
 use Rattle.c40.specs.declared.Reading.the-variants as read
 use Rattle.c40.specs.declared.Writing.{Writing}
 use Rattle.c40.specs.declared.Writing.the-variants as write
 
--- the text, if there is room for it
-abbrev pub inRoom : ℕ → Decoded → Outcome
-inRoom room (Decoded.wrong at) = refused 41 at
-inRoom room (Decoded.text t) = pick (ltb room (length t)) (refused 42 0) (done t)
+-- reading: 45, 40, 41, 42
+abbrev pub readingTests : List ℕ → ℕ → List Test
+readingTests bytes room =
+    test 45 0 (leb (length bytes) 4096)
+    ∷ test 40 (length bytes) (eqb (length bytes % 2) 0)
+    ∷ test 41 (wrongAt (decode 0 bytes)) (isText (decode 0 bytes))
+    ∷ test 42 0 (leb (length (textOf (decode 0 bytes))) room)
+    ∷ []
 
 unfoldable pub reading : List ℕ → ℕ → Outcome
-reading bytes room =
-    pick (ltb 4096 (length bytes)) (refused 45 0)
-    (pick (eqb (length bytes % 2) 1) (refused 40 (length bytes))
-    (inRoom room (decode 0 bytes)))
+reading bytes room = inOrder (readingTests bytes room) (done (textOf (decode 0 bytes)))
 
 -- the index of the first character that is not in the chart, or the length
 unfoldable pub known : List ℕ → ℕ
 known [] = 0
 known (c ∷ t) = pick (inChart c) (suc (known t)) 0
 
+-- writing: 45, 43, 44
+abbrev pub writingTests : List ℕ → ℕ → List Test
+writingTests text room =
+    test 45 0 (leb (length text) 6144)
+    ∷ test 43 (known text) (leb (length text) (known text))
+    ∷ test 44 0 (leb (width (length text)) room)
+    ∷ []
+
 unfoldable pub writing : List ℕ → ℕ → Outcome
-writing text room =
-    pick (ltb 6144 (length text)) (refused 45 0)
-    (pick (ltb (known text) (length text)) (refused 43 (known text))
-    (pick (ltb room (width (length text))) (refused 44 0)
-    (done (publish text))))
+writing text room = inOrder (writingTests text room) (done (publish text))
 
 -- number, place and count of each case
 abbrev pub readingOf : Reading → Answer

@@ -44,6 +44,15 @@ abbrev pub textOf : Decoded → List ℕ
 textOf (text t) = t
 textOf (wrong at) = []
 
+-- whether it is text, and where the first wrong pair stands
+abbrev pub isText : Decoded → Bool
+isText (text t) = true
+isText (wrong at) = false
+
+abbrev pub wrongAt : Decoded → ℕ
+wrongAt (text t) = 0
+wrongAt (wrong at) = at
+
 -- what the judge asks: the chart, and an even number of bytes, at most 4,096
 pub record Even (chart bytes : List ℕ) : Type 0 where
   pub is-chart : chart ≡ theChart

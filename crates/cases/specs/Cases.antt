@@ -2,6 +2,7 @@
 -- Assumes nothing.
 use mathlib.Core.Path.{_≡_, refl}
 use mathlib.Core.List.{List, _++_, map}
+use Rattle.format.specs.Order.{inRoom}
 use Rattle.format.specs.Numbers.{be, val}
 use Rattle.c40.specs.Chart.{theChart, valueOf}
 use Rattle.c40.specs.Text.{triple, publish}
@@ -32,5 +33,5 @@ cases = c40-cases ++ number-cases ++ signature-cases ++ seal-cases
 
 -- each is as document 01 says, and Seal A's content is legal
 pub cases-hold : (map (λ (c : Case). c .found) cases ≡ map (λ (c : Case). c .expected) cases) × Legal content-a
-unfolding be val theChart valueOf triple publish single values pairOf decode reading known writing isDay date fromNumber form longForm readLength elementIn shortest strict readInteger writeInteger isSize formed toDer digitsIn numberIn rawOf toRaw headerZone messageZone signatureZone signedBytes publishSeal
+unfolding inRoom be val theChart valueOf triple publish single values pairOf decode reading known writing isDay date fromNumber form longForm readLength elementIn shortest strict readInteger writeInteger isSize formed toDer digitsIn numberIn rawOf toRaw headerZone messageZone signatureZone signedBytes publishSeal
 cases-hold = (refl, seal-a-legal)

@@ -2,13 +2,14 @@
 -- Assumes nothing.
 pub mod Laws
 use Prim.Native.Nat.{ℕ, _*_}
-use mathlib.Core.List.{List}
-use lib.Dec.{ltb, eqb}
+use mathlib.Core.List.{List, [], _∷_}
+use lib.Dec.{leb, eqb}
 use lib.ListN.{length, take, drop}
 use Rattle.format.specs.Choice.{pick}
-use Rattle.format.specs.Answers.{Outcome, Answer, Given, done, refused, given, refusal}
+use Rattle.format.specs.Answers.{Outcome, Answer, Given, done, given, refusal}
+use Rattle.format.specs.Order.{Test, test, inOrder}
 use Rattle.ecdsa.specs.Signature.{isSize, integers, signature}
-use Rattle.ecdsa.specs.Strict.{Raw, rawOf}
+use Rattle.ecdsa.specs.Strict.{rawOf, isRaw, bytesIn}
 use Rattle.ecdsa.specs.declared.ToDer.{ToDer}
 use Rattle.ecdsa.specs.declared.ToDer.the-variants as der
 use Rattle.ecdsa.specs.declared.ToRaw.{ToRaw}
@@ -16,25 +17,27 @@ use Rattle.ecdsa.specs.declared.ToRaw.the-variants as raw
 use Rattle.ecdsa.specs.declared.Hash.{Hash}
 use Rattle.ecdsa.specs.declared.Hash.the-variants as hash
 
--- the DER form of r and s: its content is at most 255 bytes, and there is room for the whole
+-- the DER form of r and s. 64: its content would pass 255 bytes; 63: no room for the whole
+abbrev pub formedTests : List ℕ → List ℕ → ℕ → List Test
+formedTests r s room = test 64 0 (leb (length (integers r s)) 255) ∷ test 63 0 (leb (length (signature r s)) room) ∷ []
+
 unfoldable pub formed : List ℕ → List ℕ → ℕ → Outcome
-formed r s room =
-    pick (ltb 255 (length (integers r s))) (refused 64 0)
-    (pick (ltb room (length (signature r s))) (refused 63 0)
-    (done (signature r s)))
+formed r s room = inOrder (formedTests r s room) (done (signature r s))
+
+-- to DER: 60, 61, 64, 63
+abbrev pub toDerTests : ℕ → List ℕ → ℕ → List Test
+toDerTests n bytes room =
+    test 60 0 (isSize n) ∷ test 61 0 (eqb (length bytes) (2 * n)) ∷ formedTests (take n bytes) (drop n bytes) room
 
 unfoldable pub toDer : ℕ → List ℕ → ℕ → Outcome
-toDer n bytes room =
-    pick (isSize n)
-    (pick (eqb (length bytes) (2 * n)) (formed (take n bytes) (drop n bytes) room) (refused 61 0))
-    (refused 60 0)
+toDer n bytes room = inOrder (toDerTests n bytes room) (done (signature (take n bytes) (drop n bytes)))
 
-abbrev pub inRoom : ℕ → ℕ → Raw → Outcome
-inRoom n room (Raw.raw bytes) = pick (ltb room (2 * n)) (refused 63 0) (done bytes)
-inRoom n room Raw.none = refused 62 0
+-- to raw: 60, 62, 63
+abbrev pub toRawTests : ℕ → List ℕ → ℕ → List Test
+toRawTests n bytes room = test 60 0 (isSize n) ∷ test 62 0 (isRaw (rawOf n bytes)) ∷ test 63 0 (leb (2 * n) room) ∷ []
 
 unfoldable pub toRaw : ℕ → List ℕ → ℕ → Outcome
-toRaw n bytes room = pick (isSize n) (inRoom n room (rawOf n bytes)) (refused 60 0)
+toRaw n bytes room = inOrder (toRawTests n bytes room) (done (bytesIn (rawOf n bytes)))
 
 -- the hash by n, as its size in bits: 28 SHA-224, 32 SHA-256, 48 SHA-384, 64 and 66 SHA-512
 unfoldable pub hashFor : ℕ → Given ℕ

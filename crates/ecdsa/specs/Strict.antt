@@ -5,7 +5,8 @@ pub mod Exact
 pub mod ToRaw
 pub mod Shortest
 use Prim.Native.Nat.{ℕ, _+_, _-_}
-use mathlib.Core.List.{List, _++_}
+use mathlib.Core.Bool.{Bool, true, false}
+use mathlib.Core.List.{List, [], _++_}
 use lib.Dec.{ltb, eqb}
 use lib.ListN.{length, getD, take, drop, replicate}
 use Rattle.format.specs.Choice.{pick}
@@ -47,6 +48,15 @@ padded n digits = replicate (n - length digits) 0 ++ digits
 pub data Raw : Type 0 where
   raw : List ℕ → Raw
   none : Raw
+
+-- whether both numbers were read, and r and s in n bytes each
+abbrev pub isRaw : Raw → Bool
+isRaw (raw bytes) = true
+isRaw none = false
+
+abbrev pub bytesIn : Raw → List ℕ
+bytesIn (raw bytes) = bytes
+bytesIn none = []
 
 -- s, and nothing left over; r before it; both inside a sequence, and nothing left over
 abbrev pub lastly : ℕ → List ℕ → List ℕ → Number → Raw

@@ -6,4 +6,5 @@ pub mod Buffer
 pub mod Places
 pub mod Table
 pub mod Answers
+pub mod Order
 pub mod Pins

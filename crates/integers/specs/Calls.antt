@@ -7,7 +7,8 @@ use lib.Dec.{ltb, eqb}
 use lib.IntN.{ℤ, pos}
 use lib.ListN.{length, take, drop}
 use Rattle.format.specs.Choice.{pick}
-use Rattle.format.specs.Answers.{Outcome, Answer, Given, done, refused, given, refusal}
+use Rattle.format.specs.Answers.{Outcome, Answer, Given, given, refusal}
+use Rattle.format.specs.Order.{inRoom}
 use Rattle.der.specs.Element.{elementIn}
 use Rattle.der.specs.Content.{strict}
 use Rattle.integers.specs.Integer.{valueOf, integerOf}
@@ -31,7 +32,7 @@ unfoldable pub reading : List ℕ → Given ℤ
 reading s = whole s (elementIn 0x02 s)
 
 unfoldable pub writing : ℤ → ℕ → Outcome
-writing v room = pick (ltb room (length (integerOf v))) (refused 63 0) (done (integerOf v))
+writing v room = inRoom 63 (integerOf v) room
 
 -- number and value of each case
 abbrev pub readingOf : Reading → Given ℤ

@@ -3,15 +3,16 @@
 use mathlib.Core.Path.{_≡_, refl, ap}
 use mathlib.Core.Logic.{_⊎_, inl, inr, ⊎-elim}
 use mathlib.Core.Bool.{Bool, true, false}
-use Prim.Native.Nat.{ℕ, _-_, _*_, _%_}
+use Prim.Native.Nat.{ℕ, _-_}
 use mathlib.Core.List.{List, [], _∷_}
-use lib.Dec.{ltb, eqb}
+use lib.Dec.{ltb, leb, eqb}
 use lib.IntN.{ℤ, pos}
 use lib.ListN.{length, take, drop}
 use Rattle.format.specs.Choice.{pick}
 use Rattle.format.specs.Answers.{Outcome, done, refused, filled, Given, given, refusal}
-use Rattle.c40.specs.Decode.{Decoded, text, wrong, decode}
-use Rattle.c40.specs.Text.{publish, width}
+use Rattle.format.specs.Order.{Test, test, inOrder, inRoom, numbers}
+use Rattle.c40.specs.Decode.{decode, textOf}
+use Rattle.c40.specs.Text.{publish}
 use Rattle.c40.specs.Calls as c40
 use Rattle.dates.specs.declared.Date.{Date}
 use Rattle.dates.specs.Days.{isDay, numberOf, dateOf}
@@ -22,8 +23,8 @@ use Rattle.der.specs.Element.{elementIn}
 use Rattle.der.specs.Content.{strict}
 use Rattle.integers.specs.Integer.{valueOf, integerOf}
 use Rattle.integers.specs.Calls as integers
-use Rattle.ecdsa.specs.Signature.{isSize, integers as integersOf, signature}
-use Rattle.ecdsa.specs.Strict.{Raw, raw, none, rawOf}
+use Rattle.ecdsa.specs.Signature.{signature}
+use Rattle.ecdsa.specs.Strict.{rawOf, bytesIn}
 use Rattle.ecdsa.specs.Calls as ecdsa
 use Rattle.words.specs.Words.{wordsOf}
 use Rattle.words.specs.Calls as words
@@ -41,77 +42,51 @@ Answers ns o = (o ≡ done (o .written)) ⊎ (OneOf (o .number) ns × (o .writte
 pub keeps : (ns : List ℕ) (o : Outcome) (out : List ℕ) → Answers ns o → (o .number ≡ 0 → ⊥) → filled o out ≡ out
 keeps ns o out a h = ⊎-elim (λ e. absurd (h (ap (λ p. p .number) e))) (λ e. ap (λ w. filled (record { number = 0; place = 0; written = w }) out) (e .1)) a
 
+-- a call whose tests stand in order is done, or refused with the number of one of them
+more : (n : ℕ) (ns : List ℕ) (o : Outcome) → Answers ns o → Answers (n ∷ ns) o
+more n ns o a = ⊎-elim inl (λ e. inr (inr (e .0), e .1)) a
+
 choose : (ns : List ℕ) (b : Bool) (x y : Outcome) → Answers ns x → Answers ns y → Answers ns (pick b x y)
 choose ns true x y l m = l
 choose ns false x y l m = m
 
--- C40 reading: 45, 40, 41 or 42
-abbrev reads : List ℕ
-reads = 45 ∷ 40 ∷ 41 ∷ 42 ∷ []
+ordered : (tests : List Test) (s : List ℕ) → Answers (numbers tests) (inOrder tests (done s))
+ordered [] s = inl refl
+ordered (t ∷ tests) s =
+    choose (numbers (t ∷ tests)) (t .passed) (inOrder tests (done s)) (refused (t .number) (t .place))
+    (more (t .number) (numbers tests) (inOrder tests (done s)) (ordered tests s))
+    (inr (inl refl, refl))
 
-decoded : (room : ℕ) (d : Decoded) → Answers reads (c40.inRoom room d)
-decoded room (wrong at) = inr (inr (inr (inl refl)), refl)
-decoded room (text t) = choose reads (ltb room (length t)) (refused 42 0) (done t) (inr (inr (inr (inr (inl refl))), refl)) (inl refl)
+roomy : (n : ℕ) (s : List ℕ) (room : ℕ) → Answers (n ∷ []) (inRoom n s room)
+unfolding inRoom
+roomy n s room = ordered (test n 0 (leb (length s) room) ∷ []) s
 
+-- C40 reading: 45, 40, 41 or 42; writing: 45, 43 or 44
 pub c40-reading : (bytes : List ℕ) (room : ℕ) → Answers (45 ∷ 40 ∷ 41 ∷ 42 ∷ []) (c40.reading bytes room)
 unfolding c40.reading
-c40-reading bytes room =
-    choose reads (ltb 4096 (length bytes)) (refused 45 0) (pick (eqb (length bytes % 2) 1) (refused 40 (length bytes)) (c40.inRoom room (decode 0 bytes))) (inr (inl refl, refl))
-    (choose reads (eqb (length bytes % 2) 1) (refused 40 (length bytes)) (c40.inRoom room (decode 0 bytes)) (inr (inr (inl refl), refl)) (decoded room (decode 0 bytes)))
-
--- C40 writing: 45, 43 or 44
-abbrev writes : List ℕ
-writes = 45 ∷ 43 ∷ 44 ∷ []
+c40-reading bytes room = ordered (c40.readingTests bytes room) (textOf (decode 0 bytes))
 
 pub c40-writing : (t : List ℕ) (room : ℕ) → Answers (45 ∷ 43 ∷ 44 ∷ []) (c40.writing t room)
 unfolding c40.writing
-c40-writing t room =
-    let last = pick (ltb room (width (length t))) (refused 44 0) (done (publish t)) in
-    choose writes (ltb 6144 (length t)) (refused 45 0) (pick (ltb (c40.known t) (length t)) (refused 43 (c40.known t)) last) (inr (inl refl, refl))
-    (choose writes (ltb (c40.known t) (length t)) (refused 43 (c40.known t)) last (inr (inr (inl refl), refl))
-    (choose writes (ltb room (width (length t))) (refused 44 0) (done (publish t)) (inr (inr (inr (inl refl)), refl)) (inl refl)))
+c40-writing t room = ordered (c40.writingTests t room) (publish t)
 
--- signatures to DER: 60, 61, 64 or 63
-abbrev toDers : List ℕ
-toDers = 60 ∷ 61 ∷ 64 ∷ 63 ∷ []
-
-formed-listed : (r s : List ℕ) (room : ℕ) → Answers toDers (ecdsa.formed r s room)
-unfolding ecdsa.formed
-formed-listed r s room =
-    choose toDers (ltb 255 (length (integersOf r s))) (refused 64 0) (pick (ltb room (length (signature r s))) (refused 63 0) (done (signature r s))) (inr (inr (inr (inl refl)), refl))
-    (choose toDers (ltb room (length (signature r s))) (refused 63 0) (done (signature r s)) (inr (inr (inr (inr (inl refl))), refl)) (inl refl))
-
+-- signatures to DER: 60, 61, 64 or 63; to raw: 60, 62 or 63
 pub to-der : (n : ℕ) (bytes : List ℕ) (room : ℕ) → Answers (60 ∷ 61 ∷ 64 ∷ 63 ∷ []) (ecdsa.toDer n bytes room)
 unfolding ecdsa.toDer
-to-der n bytes room =
-    let formed = ecdsa.formed (take n bytes) (drop n bytes) room in
-    choose toDers (isSize n) (pick (eqb (length bytes) (2 * n)) formed (refused 61 0)) (refused 60 0)
-    (choose toDers (eqb (length bytes) (2 * n)) formed (refused 61 0) (formed-listed (take n bytes) (drop n bytes) room) (inr (inr (inl refl), refl)))
-    (inr (inl refl, refl))
-
--- signatures to raw: 60, 62 or 63
-abbrev toRaws : List ℕ
-toRaws = 60 ∷ 62 ∷ 63 ∷ []
-
-raw-listed : (n room : ℕ) (r : Raw) → Answers toRaws (ecdsa.inRoom n room r)
-raw-listed n room (raw bytes) = choose toRaws (ltb room (2 * n)) (refused 63 0) (done bytes) (inr (inr (inr (inl refl)), refl)) (inl refl)
-raw-listed n room none = inr (inr (inl refl), refl)
+to-der n bytes room = ordered (ecdsa.toDerTests n bytes room) (signature (take n bytes) (drop n bytes))
 
 pub to-raw : (n : ℕ) (bytes : List ℕ) (room : ℕ) → Answers (60 ∷ 62 ∷ 63 ∷ []) (ecdsa.toRaw n bytes room)
 unfolding ecdsa.toRaw
-to-raw n bytes room =
-    choose toRaws (isSize n) (ecdsa.inRoom n room (rawOf n bytes)) (refused 60 0) (raw-listed n room (rawOf n bytes)) (inr (inl refl, refl))
+to-raw n bytes room = ordered (ecdsa.toRawTests n bytes room) (bytesIn (rawOf n bytes))
 
 -- INTEGER writing: 63
 pub integer-writing : (v : ℤ) (room : ℕ) → Answers (63 ∷ []) (integers.writing v room)
 unfolding integers.writing
-integer-writing v room = choose (63 ∷ []) (ltb room (length (integerOf v))) (refused 63 0) (done (integerOf v)) (inr (inl refl, refl)) (inl refl)
+integer-writing v room = roomy 63 (integerOf v) room
 
 -- the words of a number: 63
 pub words-told : (number room : ℕ) → Answers (63 ∷ []) (words.saying number room)
-unfolding words.inRoom
-words-told number room =
-    choose (63 ∷ []) (ltb room (length (wordsOf number))) (refused 63 0) (done (wordsOf number)) (inr (inl refl, refl)) (inl refl)
+words-told number room = roomy 63 (wordsOf number) room
 
 -- a call that gives a value: done, or refused with this number
 abbrev pub Gives : {A : Type 0} → ℕ → A → Given A → Type 0

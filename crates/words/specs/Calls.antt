@@ -3,22 +3,16 @@
 pub mod Laws
 use Prim.Native.Nat.{ℕ, _≤_}
 use mathlib.Core.Path.{_≡_}
-use mathlib.Core.List.{List}
-use lib.Dec.{ltb}
 use lib.ListN.{length}
-use Rattle.format.specs.Choice.{pick}
-use Rattle.format.specs.Answers.{Outcome, Answer, done, refused}
+use Rattle.format.specs.Answers.{Outcome, Answer}
+use Rattle.format.specs.Order.{inRoom}
 use Rattle.words.specs.Words.{wordsOf}
 use Rattle.words.specs.declared.Told.{Told}
 use Rattle.words.specs.declared.Told.the-variants.{Done, NoRoom}
 
--- all of these bytes, where there is room for them
-unfoldable pub inRoom : List ℕ → ℕ → Outcome
-inRoom bytes room = pick (ltb room (length bytes)) (refused 63 0) (done bytes)
-
 -- a number that has no words is told with none
 abbrev pub saying : ℕ → ℕ → Outcome
-saying number room = inRoom (wordsOf number) room
+saying number room = inRoom 63 (wordsOf number) room
 
 -- number and count of each case
 abbrev pub toldOf : Told → Answer

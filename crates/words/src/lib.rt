@@ -4,7 +4,8 @@ ghost use mathlib.Core.List.{_++_};
 ghost use lib.ListN.{length};
 ghost use Rattle.format.specs.Answers.{told, filled};
 ghost use Rattle.words.specs.Words.{sought, writer, codecs, signatures};
-ghost use Rattle.words.specs.Calls.{inRoom, saying, toldOf, Longest};
+ghost use Rattle.format.specs.Order.{inRoom};
+ghost use Rattle.words.specs.Calls.{saying, toldOf, Longest};
 
 // The length of the longest words: a buffer of so many bytes has room for any.
 pub const LONGEST: usize = 93;
@@ -19,8 +20,8 @@ pub enum Told {
 
 // Puts all of these words down from the start of `out`, or none.
 fn put_all(words: &[u8], out: &mut [u8]) -> Told
-    ensures answer { λ r. ⌜ toldOf r ≡ told (inRoom (now (words .entry)) (length (now (out .entry)))) ⌝ }
-    ensures buffer { λ r. ⌜ now (out .exit) ≡ filled (inRoom (now (words .entry)) (length (now (out .entry)))) (now (out .entry)) ⌝ }
+    ensures answer { λ r. ⌜ toldOf r ≡ told (inRoom 63 (now (words .entry)) (length (now (out .entry)))) ⌝ }
+    ensures buffer { λ r. ⌜ now (out .exit) ≡ filled (inRoom 63 (now (words .entry)) (length (now (out .entry)))) (now (out .entry)) ⌝ }
 {
     let size = words.len();
     if out.len() < size {
@@ -32,8 +33,8 @@ fn put_all(words: &[u8], out: &mut [u8]) -> Told
 
 // Puts down the words of a number of signatures and INTEGERs; any other has none.
 fn put_signatures(number: usize, out: &mut [u8]) -> Told
-    ensures answer { λ r. ⌜ toldOf r ≡ told (inRoom (sought number signatures) (length (now (out .entry)))) ⌝ }
-    ensures buffer { λ r. ⌜ now (out .exit) ≡ filled (inRoom (sought number signatures) (length (now (out .entry)))) (now (out .entry)) ⌝ }
+    ensures answer { λ r. ⌜ toldOf r ≡ told (inRoom 63 (sought number signatures) (length (now (out .entry)))) ⌝ }
+    ensures buffer { λ r. ⌜ now (out .exit) ≡ filled (inRoom 63 (sought number signatures) (length (now (out .entry)))) (now (out .entry)) ⌝ }
 {
     match number {
         60 => put_all(b"n is not one of the five", out),
@@ -51,8 +52,8 @@ fn put_signatures(number: usize, out: &mut [u8]) -> Told
 
 // Puts down the words of a number of C40 text or of those after it.
 fn put_codecs(number: usize, out: &mut [u8]) -> Told
-    ensures answer { λ r. ⌜ toldOf r ≡ told (inRoom (sought number (codecs ++ signatures)) (length (now (out .entry)))) ⌝ }
-    ensures buffer { λ r. ⌜ now (out .exit) ≡ filled (inRoom (sought number (codecs ++ signatures)) (length (now (out .entry)))) (now (out .entry)) ⌝ }
+    ensures answer { λ r. ⌜ toldOf r ≡ told (inRoom 63 (sought number (codecs ++ signatures)) (length (now (out .entry)))) ⌝ }
+    ensures buffer { λ r. ⌜ now (out .exit) ≡ filled (inRoom 63 (sought number (codecs ++ signatures)) (length (now (out .entry)))) (now (out .entry)) ⌝ }
 {
     match number {
         40 => put_all(b"C40 bytes odd in number", out),
@@ -67,8 +68,8 @@ fn put_codecs(number: usize, out: &mut [u8]) -> Told
 
 // Puts down the words of a number of the writer or of those after it.
 fn put_writer(number: usize, out: &mut [u8]) -> Told
-    ensures answer { λ r. ⌜ toldOf r ≡ told (inRoom (sought number (writer ++ codecs ++ signatures)) (length (now (out .entry)))) ⌝ }
-    ensures buffer { λ r. ⌜ now (out .exit) ≡ filled (inRoom (sought number (writer ++ codecs ++ signatures)) (length (now (out .entry)))) (now (out .entry)) ⌝ }
+    ensures answer { λ r. ⌜ toldOf r ≡ told (inRoom 63 (sought number (writer ++ codecs ++ signatures)) (length (now (out .entry)))) ⌝ }
+    ensures buffer { λ r. ⌜ now (out .exit) ≡ filled (inRoom 63 (sought number (writer ++ codecs ++ signatures)) (length (now (out .entry)))) (now (out .entry)) ⌝ }
 {
     match number {
         20 => put_all(b"writer: version not 3 or 4", out),

@@ -3,17 +3,18 @@
 use mathlib.Core.Path.{_≡_, refl, ap, _∙_}
 use Prim.Native.Nat.{ℕ, suc, _+_, _%_, _<_, _≤_}
 use native.Mathlib.Omega.{arith}
-use borrow.Author.Tests.{eq-eqb, ne-eqb, eqb-true, eqb-false, lt-ltb, le-ltb}
+use borrow.Author.Tests.{eq-eqb, ne-eqb, eqb-true, eqb-false, lt-leb, le-leb}
 use mathlib.Core.List.{List, [], _∷_}
-use lib.Dec.{eqb}
+use lib.Dec.{leb, eqb}
 use lib.ListN.{length, getD, drop}
+use Rattle.format.specs.Choice.{pick}
 use Rattle.format.specs.Choice.Laws.{by-test}
 use Rattle.format.specs.Places.{at-place, past-end}
 use Rattle.c40.specs.Chart.{char, valueOf, InChart}
 use Rattle.format.specs.Answers.{done, refused}
 use Rattle.c40.specs.Text.{Text, publish, width}
-use Rattle.c40.specs.Decode.{decode, text, wrong}
-use Rattle.c40.specs.Calls.{known, inRoom, reading, writing}
+use Rattle.c40.specs.Decode.{Decoded, decode, text, wrong, textOf, isText, wrongAt}
+use Rattle.c40.specs.Calls.{known, reading, writing}
 
 known-in : (c : ℕ) (t : List ℕ) → InChart c → known (c ∷ t) ≡ suc (known t)
 unfolding known
@@ -59,43 +60,44 @@ text-known (c ∷ t) h = known-in c t (h .0) ∙ ap suc (text-known t (h .1))
 module _ (s : List ℕ) (room : ℕ) where
   pub reading-long : 4096 < length s → reading s room ≡ refused 45 0
   unfolding reading
-  reading-long h = simp (lt-ltb 4096 (length s) h)
+  reading-long h = simp (lt-leb (length s) 4096 h)
 
   module _ (size : length s ≤ 4096) where
     pub reading-odd : length s % 2 ≡ 1 → reading s room ≡ refused 40 (length s)
     unfolding reading
-    reading-odd h = simp (le-ltb 4096 (length s) size, eq-eqb (length s % 2) 1 h)
+    reading-odd h = simp (le-leb (length s) 4096 size, ne-eqb (length s % 2) 0 (λ e. omega arith))
 
     module _ (even : length s % 2 ≡ 1 → ⊥) where
-      reading-pairs : reading s room ≡ inRoom room (decode 0 s)
+      -- what is decoded, and whether there is room for it
+      pairs : (d : Decoded) → decode 0 s ≡ d → reading s room ≡ pick (isText d) (pick (leb (length (textOf d)) room) (done (textOf d)) (refused 42 0)) (refused 41 (wrongAt d))
       unfolding reading
-      reading-pairs = simp (le-ltb 4096 (length s) size, ne-eqb (length s % 2) 1 even)
+      pairs d e = simp (le-leb (length s) 4096 size, eq-eqb (length s % 2) 0 (omega arith), e)
 
       pub reading-wrong : (at : ℕ) → decode 0 s ≡ wrong at → reading s room ≡ refused 41 at
-      reading-wrong at e = reading-pairs ∙ ap (inRoom room) e
+      reading-wrong at e = pairs (wrong at) e
 
       pub reading-no-room : (t : List ℕ) → decode 0 s ≡ text t → room < length t → reading s room ≡ refused 42 0
-      reading-no-room t e h = reading-pairs ∙ ap (inRoom room) e ∙ simp (lt-ltb room (length t) h)
+      reading-no-room t e h = pairs (text t) e ∙ simp (lt-leb (length t) room h)
 
       pub reading-done : (t : List ℕ) → decode 0 s ≡ text t → length t ≤ room → reading s room ≡ done t
-      reading-done t e h = reading-pairs ∙ ap (inRoom room) e ∙ simp (le-ltb room (length t) h)
+      reading-done t e h = pairs (text t) e ∙ simp (le-leb (length t) room h)
 
 -- writing, by the tests that lead there
 module _ (t : List ℕ) (room : ℕ) where
   pub writing-long : 6144 < length t → writing t room ≡ refused 45 0
   unfolding writing
-  writing-long h = simp (lt-ltb 6144 (length t) h)
+  writing-long h = simp (lt-leb (length t) 6144 h)
 
   module _ (size : length t ≤ 6144) where
     pub writing-stranger : known t < length t → writing t room ≡ refused 43 (known t)
     unfolding writing
-    writing-stranger h = simp (le-ltb 6144 (length t) size, lt-ltb (known t) (length t) h)
+    writing-stranger h = simp (le-leb (length t) 6144 size, lt-leb (length t) (known t) h)
 
     module _ (good : length t ≤ known t) where
       pub writing-no-room : room < width (length t) → writing t room ≡ refused 44 0
       unfolding writing
-      writing-no-room h = simp (le-ltb 6144 (length t) size, le-ltb (known t) (length t) good, lt-ltb room (width (length t)) h)
+      writing-no-room h = simp (le-leb (length t) 6144 size, le-leb (length t) (known t) good, lt-leb (width (length t)) room h)
 
       pub writing-done : width (length t) ≤ room → writing t room ≡ done (publish t)
       unfolding writing
-      writing-done h = simp (le-ltb 6144 (length t) size, le-ltb (known t) (length t) good, le-ltb room (width (length t)) h)
+      writing-done h = simp (le-leb (length t) 6144 size, le-leb (length t) (known t) good, le-leb (width (length t)) room h)

@@ -3,7 +3,7 @@
 use mathlib.Core.Path.{_≡_}
 use mathlib.Core.Bool.{true, false}
 use Prim.Native.Nat.{ℕ, _*_, _<_, _≤_}
-use borrow.Author.Tests.{lt-ltb, le-ltb, eq-eqb, ne-eqb}
+use borrow.Author.Tests.{lt-leb, le-leb, eq-eqb, ne-eqb}
 use mathlib.Core.List.{List}
 use lib.ListN.{length, take, drop}
 use Rattle.format.specs.Answers.{done, refused, refusal}
@@ -14,15 +14,15 @@ use Rattle.ecdsa.specs.Calls.{formed, toDer, hashFor}
 module _ (r s : List ℕ) (room : ℕ) where
   pub formed-long : 255 < length (integers r s) → formed r s room ≡ refused 64 0
   unfolding formed
-  formed-long l = simp (lt-ltb 255 (length (integers r s)) l)
+  formed-long l = simp (lt-leb (length (integers r s)) 255 l)
 
   pub formed-no-room : length (integers r s) ≤ 255 → room < length (signature r s) → formed r s room ≡ refused 63 0
   unfolding formed
-  formed-no-room l m = simp (le-ltb 255 (length (integers r s)) l, lt-ltb room (length (signature r s)) m)
+  formed-no-room l m = simp (le-leb (length (integers r s)) 255 l, lt-leb (length (signature r s)) room m)
 
   pub formed-done : length (integers r s) ≤ 255 → length (signature r s) ≤ room → formed r s room ≡ done (signature r s)
   unfolding formed
-  formed-done l m = simp (le-ltb 255 (length (integers r s)) l, le-ltb room (length (signature r s)) m)
+  formed-done l m = simp (le-leb (length (integers r s)) 255 l, le-leb (length (signature r s)) room m)
 
 -- to DER
 module _ (n : ℕ) (bytes : List ℕ) (room : ℕ) where
@@ -36,7 +36,7 @@ module _ (n : ℕ) (bytes : List ℕ) (room : ℕ) where
     to-der-wrong h = simp (size, ne-eqb (length bytes) (2 * n) h)
 
     pub to-der-formed : length bytes ≡ 2 * n → toDer n bytes room ≡ formed (take n bytes) (drop n bytes) room
-    unfolding toDer
+    unfolding toDer formed
     to-der-formed h = simp (size, eq-eqb (length bytes) (2 * n) h)
 
 -- n that is none of the five

@@ -4,10 +4,12 @@ use mathlib.Core.Path.{_≡_, refl, ap, ap₂, sym, subst, _∙_}
 use mathlib.Core.Bool.{true, false}
 use Prim.Native.Nat.{ℕ, _+_, _-_, _*_, _<_, _≤_}
 use native.Mathlib.Omega.{arith}
-use borrow.Author.Tests.{lt-ltb, le-ltb}
+use borrow.Author.Tests.{lt-leb, le-leb}
 use mathlib.Core.List.{List, _++_}
 use lib.ListN.{length, take, drop, length-append, length-drop}
 use lib.Seq.{take-all}
+use lib.Dec.{leb}
+use Rattle.format.specs.Choice.{pick}
 use Rattle.format.specs.Answers.{done, refused}
 use Rattle.format.specs.Buffer.{over}
 use Rattle.format.specs.Buffer.Laws.{over-over, length-over}
@@ -16,9 +18,9 @@ use Rattle.format.specs.Bytes.Laws.{bytes-drop}
 use Rattle.der.specs.Element.{elementIn}
 use Rattle.der.specs.declared.Element.the-variants as found
 use Rattle.ecdsa.specs.Signature.{isSize}
-use Rattle.ecdsa.specs.Strict.{Raw, part, numberIn, padded, rawOf}
+use Rattle.ecdsa.specs.Strict.{Raw, part, numberIn, padded, rawOf, isRaw, bytesIn}
 use Rattle.ecdsa.specs.Strict.Laws.{Inside, number-inside, raw-no-r, raw-no-s, raw-left, raw-is, length-part, length-padded}
-use Rattle.ecdsa.specs.Calls.{inRoom, toRaw}
+use Rattle.ecdsa.specs.Calls.{toRaw}
 use Rattle.ecdsa.specs.declared.raw_form.Number.the-variants.{Digits, Nothing}
 
 -- the outcome, by the tests
@@ -28,19 +30,19 @@ module _ (n : ℕ) (s : List ℕ) (room : ℕ) where
   toRaw-no-size e = simp e
 
   module _ (size : isSize n ≡ true) where
-    sized : toRaw n s room ≡ inRoom n room (rawOf n s)
+    sized : (r : Raw) → rawOf n s ≡ r → toRaw n s room ≡ pick (isRaw r) (pick (leb (2 * n) room) (done (bytesIn r)) (refused 63 0)) (refused 62 0)
     unfolding toRaw
-    sized = simp size
+    sized r e = simp (size, e)
 
     pub toRaw-not-strict : rawOf n s ≡ Raw.none → toRaw n s room ≡ refused 62 0
-    toRaw-not-strict e = sized ∙ ap (inRoom n room) e
+    toRaw-not-strict e = sized Raw.none e
 
     module _ (bytes : List ℕ) (e : rawOf n s ≡ Raw.raw bytes) where
       pub toRaw-no-room : room < 2 * n → toRaw n s room ≡ refused 63 0
-      toRaw-no-room h = sized ∙ ap (inRoom n room) e ∙ simp (lt-ltb room (2 * n) h)
+      toRaw-no-room h = sized (Raw.raw bytes) e ∙ simp (lt-leb (2 * n) room h)
 
       pub toRaw-done : 2 * n ≤ room → toRaw n s room ≡ done bytes
-      toRaw-done h = sized ∙ ap (inRoom n room) e ∙ simp (le-ltb room (2 * n) h)
+      toRaw-done h = sized (Raw.raw bytes) e ∙ simp (le-leb (2 * n) room h)
 
 -- How far the reading has come: t is what stands in the sequence, which fills s; u is what stands after r.
 pub record Opened (n : ℕ) (s t : List ℕ) : Type 0 where

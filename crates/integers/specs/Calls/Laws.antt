@@ -10,6 +10,7 @@ use lib.Dec.{ltb}
 use lib.IntN.{ℤ, pos}
 use lib.ListN.{length, take, drop, set, length-drop, length-set}
 use lib.Seq.{take-all}
+use Rattle.format.specs.Order.Laws.{in-no-room, in-room}
 use Rattle.format.specs.Answers.{Given, done, refused, told, filled, given, refusal}
 use Rattle.format.specs.Answers.Laws.{refuses, gives}
 use Rattle.format.specs.Buffer.{over}
@@ -64,11 +65,11 @@ module _ (s : List ℕ) where
 module _ (v : ℤ) (room : ℕ) where
   pub writing-not : room < length (integerOf v) → writing v room ≡ refused 63 0
   unfolding writing
-  writing-not h = ap (λ b. pick b (refused 63 0) (done (integerOf v))) (lt-ltb room (length (integerOf v)) h)
+  writing-not h = in-no-room 63 (integerOf v) room h
 
   pub writing-done : length (integerOf v) ≤ room → writing v room ≡ done (integerOf v)
   unfolding writing
-  writing-done h = ap (λ b. pick b (refused 63 0) (done (integerOf v))) (le-ltb room (length (integerOf v)) h)
+  writing-done h = in-room 63 (integerOf v) room h
 
 -- an INTEGER of few bytes has a length of one
 pub integer-short : (c : List ℕ) → length c < 0x80 → integer c ≡ 0x02 ∷ length c ∷ c
