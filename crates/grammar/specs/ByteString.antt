@@ -18,7 +18,8 @@ use Rattle.c40.specs.Text.Laws.{publish-bytes}
 use Rattle.dates.specs.Days.{publish as date}
 use Rattle.der.specs.Length.{form}
 use Rattle.grammar.specs.Content.{Version, three, four, Header, Feature, Content}
-use Rattle.grammar.specs.Publish.{versionByte, carried, names, headerZone, lengthOf, feature, messageZone, signatureZone, signedBytes, publish}
+use Rattle.versions.specs.Versions.{versionByte}
+use Rattle.grammar.specs.Publish.{carried, names, headerZone, lengthOf, feature, messageZone, signatureZone, signedBytes, publish}
 use Rattle.grammar.specs.Legal.{LegalHeader, ValueSize, LegalFeatures, Legal}
 use Rattle.grammar.specs.Parts.{country-text, signer-text, reference-text, Names, six-text, four-form, six}
 use Rattle.grammar.specs.Zones.{legal-names, header-parts}

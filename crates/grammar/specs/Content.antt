@@ -3,10 +3,8 @@
 use Prim.Native.Nat.{ℕ}
 use mathlib.Core.List.{List}
 use Rattle.dates.specs.declared.Date.{Date}
-
-pub data Version : Type 0 where
-  three : Version
-  four : Version
+pub use Rattle.versions.specs.declared.Version.{Version}
+pub use Rattle.versions.specs.declared.Version.the-variants.{Three as three, Four as four}
 
 -- Table 1. The country has three characters, with fillers as `<`.
 pub record Header : Type 0 where

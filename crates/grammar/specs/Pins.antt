@@ -14,7 +14,7 @@ use Rattle.c40.specs.Text.{triple, publish as c40}
 use Rattle.dates.specs.Days.{isDay, publish as date}
 use Rattle.der.specs.Length.{form}
 use Rattle.grammar.specs.Content.{three, four}
-use Rattle.grammar.specs.Publish.{versionByte, carried, hexDigits, names, headerZone, lengthOf, messageZone, signatureZone, signedBytes, publish}
+use Rattle.grammar.specs.Publish.{carried, hexDigits, names, headerZone, lengthOf, messageZone, signatureZone, signedBytes, publish}
 use Rattle.grammar.specs.Legal.{Filler, Country, Signer, ReferenceCharacter, ReferenceSize, LastByte, ValueSize, LegalHeader, LegalFeatures, SignatureSize, n28, n32, n48, n64, n66, Legal}
 use Rattle.grammar.specs.Parts.{Hexadecimal, hexadecimal-references}
 use Rattle.grammar.specs.Examples.{uto, utab, ref-00001, d-fillers, header-a, content-a, seal-a}
@@ -41,13 +41,6 @@ names-four-00001 = refl
 pub names-four-7 : names four utab (55 ∷ []) ≡ 0xD9 ∷ 0xB7 ∷ 0x5E ∷ 0x66 ∷ 0xFE ∷ 0x38 ∷ []
 unfolding be c40 triple valueOf
 names-four-7 = refl
-
--- version bytes
-version-three : versionByte three ≡ 0x02
-version-three = refl
-
-version-four : versionByte four ≡ 0x03
-version-four = refl
 
 -- a version 3 length is a plain byte: 128 is 80; a version 4 length is DER
 length-three : lengthOf three 128 ≡ 0x80 ∷ []

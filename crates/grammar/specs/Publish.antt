@@ -8,13 +8,9 @@ use Rattle.format.specs.Choice.{pick}
 use Rattle.format.specs.Cut.{counted, each}
 use Rattle.c40.specs.Text.{publish as c40}
 use Rattle.dates.specs.Days.{publish as date}
+use Rattle.versions.specs.Versions.{versionByte}
 use Rattle.der.specs.Length.{form}
 use Rattle.grammar.specs.Content.{Version, three, four, Header, Feature, Content}
-
--- the version: 02 is version 3, 03 is version 4
-abbrev pub versionByte : Version → ℕ
-versionByte three = 0x02
-versionByte four = 0x03
 
 -- fillers are carried in C40 as spaces
 abbrev pub carried : ℕ → ℕ

@@ -14,15 +14,11 @@ use Rattle.dates.specs.Days.Laws.{cut-date}
 use Rattle.der.specs.Length.{Sized, form}
 use Rattle.der.specs.Length.Exact.{cut-form}
 use Rattle.grammar.specs.Content.{Version, three, four, Header, Feature, Content}
-use Rattle.grammar.specs.Publish.{versionByte, carried, names, headerZone, lengthOf, feature, messageZone, signatureZone, signedBytes, publish}
+use Rattle.versions.specs.Versions.{versionByte}
+use Rattle.versions.specs.Versions.Laws.{one-version}
+use Rattle.grammar.specs.Publish.{carried, names, headerZone, lengthOf, feature, messageZone, signatureZone, signedBytes, publish}
 use Rattle.grammar.specs.Legal.{LegalHeader, LegalFeatures, SignatureSize, n28, n32, n48, n64, n66, Legal}
 use Rattle.grammar.specs.Parts.{cut-country, Names, cut-names}
-
-one-version : (a b : Version) → versionByte a ≡ versionByte b → a ≡ b
-one-version three three e = refl
-one-version three four e = absurd (omega arith)
-one-version four three e = absurd (omega arith)
-one-version four four e = refl
 
 -- the header's parts, bracketed to the right
 pub header-parts : (h : Header) (t : List ℕ) → headerZone h ++ t ≡ 0xDC ∷ versionByte (h .version) ∷ (c40 (map carried (h .country)) ++ (names (h .version) (h .signer) (h .reference) ++ (date (h .issued) ++ (date (h .signed) ++ (h .definition ∷ h .category ∷ t)))))

@@ -9,7 +9,8 @@ use lib.ListN.{length, getD, take, drop}
 use Rattle.format.specs.Bytes.{All}
 use Rattle.c40.specs.Text.{publish as c40}
 use Rattle.dates.specs.Days.{publish as date}
-use Rattle.grammar.specs.Publish.{versionByte, carried, hexDigits, names, publish}
+use Rattle.versions.specs.Versions.{versionByte}
+use Rattle.grammar.specs.Publish.{carried, hexDigits, names, publish}
 use Rattle.letters.specs.Characters.{isReference, all, isSigner}
 use Rattle.verdict.specs.Judge.{Row, isSignature}
 use Rattle.items.specs.Cases.{versionOf}

@@ -22,7 +22,8 @@ use Rattle.dates.specs.Days.{isDay, publish as date}
 use Rattle.dates.specs.Days.Laws.{length-publish as length-date, within-both}
 use Rattle.der.specs.Length.{form}
 use Rattle.grammar.specs.Content.{Version, four}
-use Rattle.grammar.specs.Publish.{versionByte, carried, names, lengthOf, feature, headerZone, messageZone, signatureZone, signedBytes, publish}
+use Rattle.versions.specs.Versions.{versionByte}
+use Rattle.grammar.specs.Publish.{carried, names, lengthOf, feature, headerZone, messageZone, signatureZone, signedBytes, publish}
 use Rattle.format.specs.Table.Laws.{both-true}
 use Rattle.letters.specs.Characters.{isSigner, isCountry}
 use Rattle.verdict.specs.Report.{featureOf}

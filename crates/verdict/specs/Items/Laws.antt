@@ -24,7 +24,8 @@ use Rattle.dates.specs.Days.Laws.{length-publish, val-publish, number-date, wit
 use Rattle.der.specs.Length.{Sized, form}
 use Rattle.der.specs.Length.Exact.{form-reads}
 use Rattle.grammar.specs.Content.{Version, three, four}
-use Rattle.grammar.specs.Publish.{versionByte, lengthOf}
+use Rattle.versions.specs.Versions.{versionByte}
+use Rattle.grammar.specs.Publish.{lengthOf}
 use Rattle.grammar.specs.Legal.{LastByte}
 use Rattle.verdict.specs.Items.{Item, is, not, whole, byte, markIn, versionIn, lastIn, dateIn, plainIn, exactly, fieldIn, field, mark, version, last, date, derOf, derLength, featureLength}
 

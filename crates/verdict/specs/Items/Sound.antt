@@ -25,7 +25,8 @@ use Rattle.der.specs.declared.Length.{Length}
 use Rattle.der.specs.declared.Length.the-variants.{Is, Cut, Malformed}
 use Rattle.grammar.specs.Legal.{LastByte, ValueSize}
 use Rattle.grammar.specs.Content.{Version, three, four}
-use Rattle.grammar.specs.Publish.{versionByte, lengthOf}
+use Rattle.versions.specs.Versions.{versionByte}
+use Rattle.grammar.specs.Publish.{lengthOf}
 use Rattle.verdict.specs.Items.{Item, is, not, next, byte, markIn, versionIn, lastIn, dateIn, plainIn, mark, version, last, date, derOf, derLength, featureLength}
 use Rattle.verdict.specs.Items.Laws.{unread, whole-read}
 

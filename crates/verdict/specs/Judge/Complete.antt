@@ -17,7 +17,8 @@ use Rattle.dates.specs.Days.Laws.{length-publish as length-date}
 use Rattle.der.specs.Length.{form as derForm}
 use Rattle.grammar.specs.Content.{Header, Content}
 use Rattle.grammar.specs.Publish as form
-use Rattle.grammar.specs.Publish.{versionByte, carried, headerZone, messageZone, signatureZone, signedBytes, publish}
+use Rattle.versions.specs.Versions.{versionByte}
+use Rattle.grammar.specs.Publish.{carried, headerZone, messageZone, signatureZone, signedBytes, publish}
 use Rattle.grammar.specs.Legal.{LegalHeader, SignatureSize, n28, n32, n48, n64, n66, Legal}
 use Rattle.grammar.specs.Sizes.{features-most}
 use Rattle.grammar.specs.Zones.{header-parts, legal-names}

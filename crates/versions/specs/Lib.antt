@@ -1,0 +1,2 @@
+pub mod Versions
+pub mod Pins
