@@ -3,10 +3,11 @@
 use Prim.Native.Nat.{ℕ}
 use mathlib.Core.List.{List, [], _∷_, map}
 use lib.ListN.{take, drop, getD}
-use Rattle.grammar.specs.Content.{Content, Header as Headed}
+use lib.Dec.{eqb}
+use Rattle.format.specs.Choice.{pick}
+use Rattle.grammar.specs.Content.{Version, three, four, Content, Header as Headed}
 use Rattle.verdict.specs.Judge.{Row}
 use Rattle.verdict.specs.Report.{featureOf}
-use Rattle.items.specs.Cases.{versionOf}
 use Rattle.items.specs.declared.Header.{Header}
 
 -- the rows of a table, as the reader gives them: three numbers each; what is over is no row
@@ -26,6 +27,10 @@ pub record Given : Type 0 where
 -- the country's three characters; it is an array of three, but a struct's array does not tell its length, so they are taken one by one
 abbrev pub threeOf : List ℕ → List ℕ
 threeOf c = getD c 0 0 ∷ getD c 1 0 ∷ getD c 2 0 ∷ []
+
+-- the version of a number; any but 3 is read as version 4 is
+abbrev pub versionOf : ℕ → Version
+versionOf n = pick (eqb n 3) three four
 
 -- the header: signer and reference are the text's first four characters and the rest
 abbrev pub headerOf : Header → List ℕ → Headed

@@ -3,10 +3,8 @@
 pub mod Laws
 use Prim.Native.Nat.{ℕ, _+_}
 use mathlib.Core.List.{List}
-use lib.Dec.{eqb}
-use Rattle.format.specs.Choice.{pick}
 use Rattle.dates.specs.declared.Date.{Date}
-use Rattle.grammar.specs.Content.{Version, three, four}
+use Rattle.versions.specs.declared.Version.{Version}
 use Rattle.verdict.specs.Items.{Item, is, not}
 use Rattle.verdict.specs.Items as read
 use Rattle.items.specs.declared.cursor.Refusal.{Refusal}
@@ -18,6 +16,8 @@ use Rattle.items.specs.declared.cursor.Step.{Step}
 use Rattle.items.specs.declared.cursor.Step.the-variants as step
 use Rattle.items.specs.declared.cursor.Number.{Number}
 use Rattle.items.specs.declared.cursor.Number.the-variants as number
+use Rattle.items.specs.declared.cursor.Edition.{Edition}
+use Rattle.items.specs.declared.cursor.Edition.the-variants as edition
 use Rattle.items.specs.declared.cursor.Day.{Day}
 use Rattle.items.specs.declared.cursor.Day.the-variants as day
 
@@ -30,15 +30,6 @@ through f (not number place) = not number place
 abbrev pub whyOf : {A : Type 0} → Item A → Refusal
 whyOf (is a at) = record { number = 0; place = 0 }
 whyOf (not number place) = record { number = number; place = place }
-
--- the version as a number
-abbrev pub edition : Version → ℕ
-edition three = 3
-edition four = 4
-
--- the version of a number; any but 3 is read as version 4 is
-abbrev pub versionOf : ℕ → Version
-versionOf n = pick (eqb n 3) three four
 
 abbrev pub byteOf : ℕ → Byte → Item ℕ
 byteOf at (byte.Is x next) = is x (next .place)
@@ -58,6 +49,11 @@ abbrev pub numberOf : ℕ → ℕ → Number → Item ℕ
 numberOf wrong at (number.Is n next) = is n (next .place)
 numberOf wrong at number.Cut = not 2 at
 numberOf wrong at number.Wrong = not wrong at
+
+abbrev pub editionOf : ℕ → Edition → Item Version
+editionOf at (edition.Is v next) = is v (next .place)
+editionOf at edition.Cut = not 2 at
+editionOf at edition.NoSuchVersion = not 4 at
 
 abbrev pub dayOf : ℕ → Day → Item Date
 dayOf at (day.Is d next) = is d (next .place)

@@ -1,11 +1,13 @@
 // The items of a seal, each read at a place: a cursor goes in, and the item comes out with the next cursor (document 01, "Reader").
 ghost use mathlib.Core.Path.{_≡_};
 ghost use Rattle.verdict.specs.Items as read;
-ghost use Rattle.items.specs.Cases.{byteOf, wholeOf, stepOf, numberOf, dayOf, whyOf, through, edition, versionOf, past};
+ghost use Rattle.items.specs.Cases.{byteOf, wholeOf, stepOf, numberOf, editionOf, dayOf, whyOf, past};
 use dates::Date;
 use dates::Taken;
 use der::Length;
 use octets::wide;
+use versions::Stated;
+use versions::Version;
 
 // A place in the seal.
 pub struct Cursor {
@@ -48,6 +50,15 @@ pub enum Number {
     Cut,
     // the item's own number
     Wrong,
+}
+
+// The version.
+pub enum Edition {
+    Is(Version, Cursor),
+    // 2
+    Cut,
+    // 4
+    NoSuchVersion,
 }
 
 // An item that is a date.
@@ -93,6 +104,22 @@ impl Number {
                 number: wrong,
                 place,
             },
+        }
+    }
+}
+
+impl Edition {
+    // Why the version, at a place, was not read.
+    pub fn refusal(self, place: usize) -> Refusal
+        ensures { λ r. ⌜ r ≡ whyOf (editionOf place self) ⌝ }
+    {
+        match self {
+            Edition::Is(_, _) => Refusal {
+                number: 0,
+                place: 0,
+            },
+            Edition::Cut => Refusal { number: 2, place },
+            Edition::NoSuchVersion => Refusal { number: 4, place },
         }
     }
 }
@@ -154,19 +181,16 @@ impl Cursor {
     }
 
     // 02 is version 3, 03 is version 4.
-    pub fn version(self, seal: &[u8]) -> Number
-        ensures { λ r. ⌜ numberOf 4 (self .place) r ≡ through edition (read.version (self .place) (now (seal .entry))) ⌝ }
+    pub fn version(self, seal: &[u8]) -> Edition
+        ensures { λ r. ⌜ editionOf (self .place) r ≡ read.version (self .place) (now (seal .entry)) ⌝ }
     {
         let Byte::Is(x, next) = self.byte(seal) else {
-            return Number::Cut;
+            return Edition::Cut;
         };
-        if x == 0x02 {
-            return Number::Is(3, next);
-        }
-        if x == 0x03 {
-            return Number::Is(4, next);
-        }
-        Number::Wrong
+        let Stated::Is(version) = Version::from_byte(x) else {
+            return Edition::NoSuchVersion;
+        };
+        Edition::Is(version, next)
     }
 
     // A date in three bytes.
@@ -216,15 +240,17 @@ impl Cursor {
     }
 
     // A feature's length: one plain byte in version 3, a DER length in version 4.
-    pub fn feature_length(self, seal: &[u8], version: usize) -> Number
-        ensures { λ r. ⌜ numberOf 8 (self .place) r ≡ read.featureLength (versionOf version) (self .place) (now (seal .entry)) ⌝ }
+    pub fn feature_length(self, seal: &[u8], version: Version) -> Number
+        ensures { λ r. ⌜ numberOf 8 (self .place) r ≡ read.featureLength version (self .place) (now (seal .entry)) ⌝ }
     {
-        if version == 3 {
-            let Byte::Is(x, next) = self.byte(seal) else {
-                return Number::Cut;
-            };
-            return Number::Is(x, next);
+        match version {
+            Version::Three => {
+                let Byte::Is(x, next) = self.byte(seal) else {
+                    return Number::Cut;
+                };
+                Number::Is(x, next)
+            }
+            Version::Four => self.der_length(seal),
         }
-        self.der_length(seal)
     }
 }

@@ -9,7 +9,7 @@ use lib.Dec.{ltb}
 use lib.ListN.{take}
 use Rattle.format.specs.Choice.{pick}
 use Rattle.dates.specs.declared.Date.{Date}
-use Rattle.items.specs.Cases.{edition}
+use Rattle.versions.specs.Versions.{versionNumber}
 use Rattle.verdict.specs.Judge.{Row, Verdict, accepted, refused, judge}
 use Rattle.lines.specs.Line.{decimalOf, ascii, _then_}
 
@@ -51,7 +51,7 @@ featureLines (r ∷ rows) = feature (r .tag) (r .place) (r .size) then featureLi
 unfoldable pub listed : Verdict → List ℕ
 listed (accepted r) =
     line "accepted" []
-    then line "version " (decimalOf (edition (r .header .version)))
+    then line "version " (decimalOf (versionNumber (r .header .version)))
     then line "country " (r .header .country)
     then line "signer " (r .header .signer)
     then line "reference " (r .header .reference)

@@ -18,7 +18,7 @@ use Rattle.grammar.specs.Publish.{lengthOf, headerZone, messageZone, signatureZ
 use Rattle.grammar.specs.Legal.{ReferenceSize, LegalFeatures, Legal}
 use Rattle.grammar.specs.Sizes.{features-most}
 use Rattle.grammar.specs.Theorems.{zones-add-up}
-use Rattle.items.specs.Cases.{edition}
+use Rattle.versions.specs.Versions.{versionNumber}
 use Rattle.verdict.specs.Judge.{Verdict, accepted, refused, judge}
 use Rattle.verdict.specs.Judge.Complete.{reportOf, size-small}
 use Rattle.verdict.specs.Judge.Features.{rowsOf, feature-parts}
@@ -100,7 +100,7 @@ rows-size v (f ∷ fs) tags t at l h =
     let both = length-append (feature (f .tag) place n) (featureLines (rowsOf v (place + n) fs)) in
     omega arith
 
-version-size : (v : Version) → length (decimalOf (edition v)) ≤ 1
+version-size : (v : Version) → length (decimalOf (versionNumber v)) ≤ 1
 version-size three = decimal-size 0 3 (omega arith)
 version-size four = decimal-size 0 4 (omega arith)
 
@@ -125,7 +125,7 @@ accepted-size c l =
     let size = l .size in
     let few = features-most c l in
     let rows = rows-size (h .version) (c .features) [] [] at (l .features) (omega arith) in
-    eleven (decimalOf (edition (h .version))) (h .country) (h .signer) (h .reference) (day (h .issued)) (day (h .signed)) (decimalOf (h .definition)) (decimalOf (h .category)) (featureLines (rowsOf (h .version) at (c .features))) (part start (length (c .signature)))
+    eleven (decimalOf (versionNumber (h .version))) (h .country) (h .signer) (h .reference) (day (h .issued)) (day (h .signed)) (decimalOf (h .definition)) (decimalOf (h .category)) (featureLines (rowsOf (h .version) at (c .features))) (part start (length (c .signature)))
     (version-size (h .version))
     (omega (arith, l .header .country .size))
     (omega (arith, l .header .signer .size))

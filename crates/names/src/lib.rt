@@ -5,13 +5,14 @@ ghost use lib.ListN.{length};
 ghost use mathlib.Core.List.{[]};
 ghost use Rattle.verdict.specs.Items as read;
 ghost use Rattle.letters.specs.Characters.{isReference, all};
-ghost use Rattle.items.specs.Cases.{stepOf, whyOf, versionOf, through, valueOr};
+ghost use Rattle.items.specs.Cases.{stepOf, whyOf, through, valueOr};
 ghost use Rattle.names.specs.Cases.{Sized, Fills, namesOf, anyText, measured, textOver};
 use c40::Reading;
 use items::Cursor;
 use items::Refusal;
 use items::Step;
 use items::Whole;
+use versions::Version;
 
 // Signer and reference.
 pub enum Names {
@@ -159,11 +160,11 @@ impl Field {
     }
 
     // Signer and reference, put one after the other at the start of a text that has room for the longest.
-    pub(crate) fn names_in(self, seal: &[u8], version: usize, text: &mut [u8]) -> Names
+    pub(crate) fn names_in(self, seal: &[u8], version: Version, text: &mut [u8]) -> Names
         requires { ⌜ length (now text) ≡ 259 ⌝ }
-        ensures { λ r. ⌜ namesOf (now (text .exit)) r ≡ through measured (read.names (versionOf version) (self .place) (now (seal .entry))) ⌝ }
+        ensures { λ r. ⌜ namesOf (now (text .exit)) r ≡ through measured (read.names version (self .place) (now (seal .entry))) ⌝ }
     {
-        if version == 3 {
+        if let Version::Three = version {
             let nine = self.nine(seal, &mut text[..9]);
             let Step::Past(next) = nine else {
                 return Names::Not(nine.refusal(5, self.place));
@@ -185,9 +186,9 @@ impl Field {
     }
 
     // Signer and reference, put one after the other at the start of `text`; on a refusal `text` stays.
-    pub fn names(self, seal: &[u8], version: usize, text: &mut [u8; 259]) -> Names
-        ensures item { λ r. ⌜ namesOf (now (text .exit)) r ≡ through measured (read.names (versionOf version) (self .place) (now (seal .entry))) ⌝ }
-        ensures buffer { λ r. ⌜ now (text .exit) ≡ textOver (now (text .entry)) (read.names (versionOf version) (self .place) (now (seal .entry))) ⌝ }
+    pub fn names(self, seal: &[u8], version: Version, text: &mut [u8; 259]) -> Names
+        ensures item { λ r. ⌜ namesOf (now (text .exit)) r ≡ through measured (read.names version (self .place) (now (seal .entry))) ⌝ }
+        ensures buffer { λ r. ⌜ now (text .exit) ≡ textOver (now (text .entry)) (read.names version (self .place) (now (seal .entry))) ⌝ }
     {
         let mut found = [0u8; 259];
         let names = self.names_in(seal, version, &mut found);

@@ -3,9 +3,11 @@
 pub mod Laws
 use Prim.Native.Nat.{ℕ, zero, suc}
 use mathlib.Core.List.{List, [], _∷_, map}
+use mathlib.Core.Option.{Option, Option·map}
 use lib.ListN.{take, drop, getD}
 use Rattle.grammar.specs.Content.{Content}
-use Rattle.items.specs.Cases.{versionOf}
+use Rattle.versions.specs.declared.Version.{Version}
+use Rattle.versions.specs.Versions.{versionOf}
 use Rattle.verdict.specs.Judge.{Row}
 use Rattle.verdict.specs.Report.{part, featureOf}
 use Rattle.reader.specs.declared.Reading.{Reading}
@@ -15,11 +17,15 @@ unfoldable pub rowsOf : ℕ → List ℕ → List Row
 rowsOf zero table = []
 rowsOf (suc count) table = record { tag = getD table 0 0; place = getD table 1 0; size = getD table 2 0 } ∷ rowsOf count (drop 3 table)
 
-unfoldable pub contentIn : List ℕ → Reading → List ℕ → List ℕ → Content
-contentIn s r table text =
+-- the content in a version, and the content: none where the header's version is neither 3 nor 4
+unfoldable pub contentAs : List ℕ → Reading → List ℕ → List ℕ → Version → Content
+contentAs s r table text v =
     let h = r .header in
     record {
-      header = record { version = versionOf (h .version); country = h .country; signer = take 4 text; reference = take (h .length) (drop 4 text); issued = h .issued; signed = h .signed; definition = h .definition; category = h .category };
+      header = record { version = v; country = h .country; signer = take 4 text; reference = take (h .length) (drop 4 text); issued = h .issued; signed = h .signed; definition = h .definition; category = h .category };
       features = map (featureOf s) (rowsOf (r .count) table);
       signature = part (r .signature .place) (r .signature .length) s;
     }
+
+unfoldable pub contentIn : List ℕ → Reading → List ℕ → List ℕ → Option Content
+contentIn s r table text = Option·map (contentAs s r table text) (versionOf (r .header .version))

@@ -11,12 +11,16 @@ use lib.ListN.{length, take}
 use Rattle.format.specs.Choice.{pick}
 use Rattle.format.specs.Answers.{done, filled}
 use Rattle.dates.specs.Calls.{no-date}
-use Rattle.items.specs.Cases.{edition}
+use Rattle.versions.specs.Versions.{versionNumber}
+use Rattle.versions.specs.declared.Version.{Version}
+use Rattle.versions.specs.declared.Stated.{Stated}
+use Rattle.versions.specs.declared.Stated.the-variants as stated
 use Rattle.items.specs.declared.Header.{Header}
 use Rattle.verdict.specs.Judge.{Row, Report, Verdict, accepted, refused, judge}
 use Rattle.reader.specs.declared.Ends.{Ends}
 use Rattle.reader.specs.declared.Part.{Part}
 use Rattle.reader.specs.declared.Reading.{Reading}
+use Rattle.reader.specs.declared.Judgement.{Judgement}
 
 -- the answer on a good seal
 abbrev pub answer : Header → Ends → Part → ℕ → Reading
@@ -27,7 +31,7 @@ abbrev pub answerOf : Verdict → Reading
 answerOf (accepted r) =
     let h = r .header in
     answer
-    (record { version = edition (h .version); country = h .country; length = length (h .reference); issued = h .issued; signed = h .signed; definition = h .definition; category = h .category })
+    (record { version = versionNumber (h .version); country = h .country; length = length (h .reference); issued = h .issued; signed = h .signed; definition = h .definition; category = h .category })
     (record { header = r .header-end; message = r .message-end; seal = r .seal-end })
     (record { place = r .signature-place; length = r .signature-size })
     (length (r .rows))
@@ -40,6 +44,17 @@ answerOf (refused number place) =
       signature = record { place = 0; length = 0 };
       count = 0;
     }
+
+-- what the judging gives: the answer, and beside it the version of a seal that is accepted
+abbrev pub versionIn : Verdict → Stated
+versionIn (accepted r) = stated.Is (r .header .version)
+versionIn (refused number place) = stated.NoSuchVersion
+
+abbrev pub judgementOf : Verdict → Judgement
+judgementOf v = record { reading = answerOf v; version = versionIn v }
+
+abbrev pub judged : Version → Header → Ends → Part → ℕ → Judgement
+judged v header ends signature count = record { reading = answer header ends signature count; version = stated.Is v }
 
 -- a row a feature: tag, value place, value length
 unfoldable pub table : List Row → List ℕ

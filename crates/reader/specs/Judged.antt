@@ -7,7 +7,6 @@ use mathlib.Core.List.{List, []}
 use lib.ListN.{length}
 use Rattle.format.specs.Choice.{pick}
 use Rattle.verdict.specs.Items.{is, not, next}
-use Rattle.items.specs.Cases.{versionOf}
 use Rattle.verdict.specs.Judge.{Row, accepted, refused, header, features, signature, verdict, reading, judge}
 use Rattle.zones.specs.Steps.{Fields, Dated, fields, dated}
 use Rattle.zones.specs.Steps.Whole.{headerOf, with-dated, then-dated, header-split}
@@ -41,11 +40,11 @@ module _ (s : List ℕ) (short : length s ≤ 4096) where
       header-is : header s ≡ is (headerOf f d) p1
       header-is = dated-next ∙ ap (λ i. next i (with-dated s f)) (sym e1)
 
-      pub judge-features : (number place : ℕ) → not number place ≡ features 256 (versionOf (f .version)) [] p1 s → judge s ≡ refused number place
+      pub judge-features : (number place : ℕ) → not number place ≡ features 256 (f .version) [] p1 s → judge s ≡ refused number place
       unfolding reading
       judge-features number place e = judge-reading ∙ rw (header-is, sym e) refl
 
-      module _ (rows : List Row) (p2 : ℕ) (e2 : is rows p2 ≡ features 256 (versionOf (f .version)) [] p1 s) where
+      module _ (rows : List Row) (p2 : ℕ) (e2 : is rows p2 ≡ features 256 (f .version) [] p1 s) where
         pub judge-signature : (number place : ℕ) → not number place ≡ signature (p2 + 1) s → judge s ≡ refused number place
         unfolding reading
         judge-signature number place e = judge-reading ∙ rw (header-is, sym e2, sym e) refl

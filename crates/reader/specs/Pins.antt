@@ -1,7 +1,9 @@
 -- Computed examples of what the calls answer and write, for Seal A and for a refusal, and when 12 is told.
 -- Assumes nothing.
-use mathlib.Core.Path.{_≡_, refl}
-use mathlib.Core.List.{[], _∷_}
+use mathlib.Core.Path.{_≡_, refl, ap}
+use Prim.Native.Nat.{ℕ}
+use mathlib.Core.List.{List, [], _∷_}
+use mathlib.Core.Option.{none, Option·map}
 use Rattle.format.specs.Numbers.{val}
 use Rattle.c40.specs.Chart.{theChart, valueOf}
 use Rattle.c40.specs.Pairs.{pairOf, single, values}
@@ -12,6 +14,9 @@ use Rattle.der.specs.Length.{readLength, longForm}
 use Rattle.grammar.specs.Examples.{header-a, seal-a}
 use Rattle.verdict.specs.Judge.{accepted, refused, header, tag, row, features, signature, reading, judge}
 use Rattle.verdict.specs.Judge.Pins.{report-a}
+use Rattle.versions.specs.Versions.{versionOf}
+use Rattle.reader.specs.Answer.{contentAs, contentIn}
+use Rattle.reader.specs.declared.Reading.{Reading}
 use Rattle.reader.specs.Calls.{answerOf, table, reading as asked, rowsIn, textIn, then}
 
 -- what the calls answer for Seal A and for a refusal
@@ -20,6 +25,15 @@ a-answered = refl
 
 refusal-answered : answerOf (refused 9 24) ≡ record { number = 9; place = 24; header = record { version = 0; country = 0 ∷ 0 ∷ 0 ∷ []; length = 0; issued = no-date; signed = no-date; definition = 0; category = 0 }; ends = record { header = 0; message = 0; seal = 0 }; signature = record { place = 0; length = 0 }; count = 0 }
 refusal-answered = refl
+
+-- a caller holds no content after a refusal, nor from an answer whose version is neither 3 nor 4
+no-content : (s table text : List ℕ) → contentIn s (answerOf (refused 9 24)) table text ≡ none
+unfolding contentIn
+no-content s table text = refl
+
+version-7 : (s table text : List ℕ) (r : Reading) → r .header .version ≡ 7 → contentIn s r table text ≡ none
+unfolding contentIn
+version-7 s table text r e = ap (λ n. Option·map (contentAs s r table text) (versionOf n)) e
 
 -- 12, and the room that is just enough
 table-short : asked seal-a 2 9 ≡ refused 12 0

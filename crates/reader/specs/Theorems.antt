@@ -4,6 +4,7 @@ use mathlib.Core.Path.{_≡_, refl, ap, sym, _∙_}
 use Prim.Native.Nat.{ℕ, suc, _+_, _*_, _≤_}
 use native.Mathlib.Omega.{arith}
 use mathlib.Core.List.{List, [], _++_}
+use mathlib.Core.Option.{some}
 use lib.ListN.{length, take, length-append}
 use Rattle.format.specs.Bytes.{Bytes}
 use Rattle.der.specs.Length.{form}
@@ -50,7 +51,7 @@ pub record Reported (s rows names : List ℕ) (r : Report) : Type 0 where
   pub legal : Legal content
   pub form-is : publish content ≡ s
   pub only : (other : Content) → Legal other → publish other ≡ s → other ≡ content
-  pub reports : contentIn s (answerOf (accepted r)) (then (table (r .rows)) rows) (then (text r) names) ≡ content
+  pub reports : contentIn s (answerOf (accepted r)) (then (table (r .rows)) rows) (then (text r) names) ≡ some content
   -- the zones lie one after another, and the signed bytes are the front part up to the message's end
   pub zones : ZonesOf s content (answerOf (accepted r))
   pub signed : take (r .message-end) s ≡ signedBytes content
@@ -78,7 +79,7 @@ accepted-exactly s bytes rows names r e =
       legal = l;
       form-is = seal .form-is;
       only = λ other lo form. one-content other c lo l (form ∙ sym (seal .form-is));
-      reports = held s r rows names long ∙ seal .reports;
+      reports = held s r rows names long ∙ ap some (seal .reports);
       zones = record {
         header-end = header-end;
         message-end = omega (arith, header-end, message-end);

@@ -3,7 +3,7 @@ ghost use mathlib.Core.Path.{_≡_};
 ghost use Prim.Native.Nat.{_≤_};
 ghost use lib.ListN.{length};
 ghost use Rattle.verdict.specs.Judge.{judge as verdict, refused as refusedBy};
-ghost use Rattle.reader.specs.Calls.{answer, answerOf, reading, rowsIn, textIn, then, Named};
+ghost use Rattle.reader.specs.Calls.{answerOf, judged, judgementOf, reading, rowsIn, textIn, then, Named};
 
 mod rows;
 
@@ -11,6 +11,8 @@ use dates::Date;
 use items::Cursor;
 pub use items::Header;
 use items::Refusal;
+use versions::Stated;
+use versions::Version;
 use zones::Features;
 use zones::Front;
 use zones::Rest;
@@ -38,6 +40,12 @@ pub struct Reading {
     pub ends: Ends,
     pub signature: Part,
     pub count: usize,
+}
+
+// What the judging gives: the answer, and beside it the version of a good seal, by which its rows are walked again.
+struct Judgement {
+    reading: Reading,
+    version: Stated,
 }
 
 // A refusal: nothing but its number and place.
@@ -75,47 +83,61 @@ fn refused(why: Refusal) -> Reading
     }
 }
 
-// A seal that is good, and what it says.
-fn good(header: Header, ends: Ends, signature: Part, count: usize) -> Reading
-    ensures { λ r. ⌜ r ≡ answer header ends signature count ⌝ }
+// A seal that is not good has no version.
+fn not_good(why: Refusal) -> Judgement
+    ensures { λ r. ⌜ r ≡ judgementOf (refusedBy (why .number) (why .place)) ⌝ }
 {
-    Reading {
+    Judgement {
+        reading: refused(why),
+        version: Stated::NoSuchVersion,
+    }
+}
+
+// A seal that is good, and what it says.
+fn good(version: Version, header: Header, ends: Ends, signature: Part, count: usize) -> Judgement
+    ensures { λ r. ⌜ r ≡ judged version header ends signature count ⌝ }
+{
+    let reading = Reading {
         number: 0,
         place: 0,
         header,
         ends,
         signature,
         count,
+    };
+    Judgement {
+        reading,
+        version: Stated::Is(version),
     }
 }
 
 // The verdict on a seal that is not too long, item by item; on 0 signer and reference stand at the start of `names`.
-fn judge_items(seal: &[u8], names: &mut [u8; 259]) -> Reading
+fn judge_items(seal: &[u8], names: &mut [u8; 259]) -> Judgement
     requires short { ⌜ length (now seal) ≤ 4096 ⌝ }
-    ensures answer { λ r. ⌜ r ≡ answerOf (verdict (now (seal .entry))) ⌝ }
+    ensures answer { λ r. ⌜ r ≡ judgementOf (verdict (now (seal .entry))) ⌝ }
     ensures text { λ r. ⌜ Named (verdict (now (seal .entry))) (now (names .exit)) ⌝ }
 {
     let mut country = [0u8; 3];
     let front = zones::read_front(seal, &mut country, names);
     let Front::Is(version, length, at) = front else {
-        return refused(front.why());
+        return not_good(front.why());
     };
     let rest = zones::read_rest(at, seal);
     let Rest::Is(issued, signed, definition, category, message) = rest else {
-        return refused(rest.why());
+        return not_good(rest.why());
     };
     let features = zones::read_features(message, seal, version);
     let Features::Are(count, mark) = features else {
-        return refused(features.why());
+        return not_good(features.why());
     };
     let next = mark.place + 1;
     let after = Cursor { place: next };
     let signature = zones::read_signature(after, seal);
     let Signature::Is(size, start) = signature else {
-        return refused(signature.why());
+        return not_good(signature.why());
     };
     let header = Header {
-        version,
+        version: version.number(),
         country,
         length,
         issued,
@@ -132,16 +154,16 @@ fn judge_items(seal: &[u8], names: &mut [u8; 259]) -> Reading
         place: start.place,
         length: size,
     };
-    good(header, ends, part, count)
+    good(version, header, ends, part, count)
 }
 
 // The verdict; on 0 signer and reference stand at the start of `names`.
-fn judge_names(seal: &[u8], names: &mut [u8; 259]) -> Reading
-    ensures answer { λ r. ⌜ r ≡ answerOf (verdict (now (seal .entry))) ⌝ }
+fn judge_names(seal: &[u8], names: &mut [u8; 259]) -> Judgement
+    ensures answer { λ r. ⌜ r ≡ judgementOf (verdict (now (seal .entry))) ⌝ }
     ensures text { λ r. ⌜ Named (verdict (now (seal .entry))) (now (names .exit)) ⌝ }
 {
     if 4096 < seal.len() {
-        return refused(Refusal {
+        return not_good(Refusal {
             number: 1,
             place: 4096,
         });
@@ -154,7 +176,8 @@ pub fn judge(seal: &[u8]) -> Reading
     ensures { λ r. ⌜ r ≡ answerOf (verdict (now (seal .entry))) ⌝ }
 {
     let mut names = [0u8; 259];
-    judge_names(seal, &mut names)
+    let judged = judge_names(seal, &mut names);
+    judged.reading
 }
 
 // Reads a seal: on 0 a row for each feature stands in `table`, and signer and reference in `text`; on any other number both stay.
@@ -164,10 +187,12 @@ pub fn read(seal: &[u8], table: &mut [usize], text: &mut [u8]) -> Reading
     ensures names { λ r. ⌜ now (text .exit) ≡ then (textIn (reading (now (seal .entry)) (length (now (table .entry))) (length (now (text .entry))))) (now (text .entry)) ⌝ }
 {
     let mut names = [0u8; 259];
-    let reading = judge_names(seal, &mut names);
-    if reading.number != 0 {
+    let judged = judge_names(seal, &mut names);
+    let reading = judged.reading;
+    let stated = judged.version;
+    let Stated::Is(version) = stated else {
         return reading;
-    }
+    };
     let header = reading.header;
     let size = 4 + header.length;
     let count = reading.count;
@@ -185,7 +210,7 @@ pub fn read(seal: &[u8], table: &mut [usize], text: &mut [u8]) -> Reading
     }
     let ends = reading.ends;
     let start = Cursor { place: ends.header };
-    rows::put_rows(start, seal, header.version, count, table);
+    rows::put_rows(start, seal, version, count, table);
     octets::copy(&names[..size], text, 0);
     reading
 }

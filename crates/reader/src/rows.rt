@@ -2,24 +2,24 @@
 ghost use mathlib.Core.Path.{_≡_};
 ghost use Prim.Native.Nat.{_*_, _≤_};
 ghost use lib.ListN.{length};
-ghost use Rattle.items.specs.Cases.{versionOf};
 ghost use Rattle.reader.specs.Calls.{table as tableOf, then};
 ghost use Rattle.reader.specs.Rows.{rowsAt, rowsRead, AreRead};
 use items::Byte;
 use items::Cursor;
 use items::Number;
+use versions::Version;
 
 // Puts a row (tag, value place, value length) into the table for each of the features, which were judged before: so none of their items is missing.
 pub(crate) fn put_rows(
     start: Cursor,
     seal: &[u8],
-    version: usize,
+    version: Version,
     count: usize,
     table: &mut [usize],
 )
-    requires there { ⌜ AreRead (rowsAt count (versionOf version) (start .place) (now seal)) ⌝ }
+    requires there { ⌜ AreRead (rowsAt count version (start .place) (now seal)) ⌝ }
     requires room { ⌜ 3 * count ≤ length (now table) ⌝ }
-    ensures { λ r. ⌜ now (table .exit) ≡ then (tableOf (rowsRead (rowsAt count (versionOf version) (start .place) (now (seal .entry))))) (now (table .entry)) ⌝ }
+    ensures { λ r. ⌜ now (table .exit) ≡ then (tableOf (rowsRead (rowsAt count version (start .place) (now (seal .entry))))) (now (table .entry)) ⌝ }
 {
     let mut at = start.place;
     let mut i: usize = 0;

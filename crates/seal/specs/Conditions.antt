@@ -11,6 +11,7 @@ use mathlib.Core.Path.{_≡_, refl, ap, sym, subst, _∙_}
 use mathlib.Core.Logic.{_⊎_, inl, inr, ⊎-elim}
 use Prim.Native.Nat.{ℕ, _+_, _*_, _≤_}
 use mathlib.Core.List.{List, [], _++_}
+use mathlib.Core.Option.{Option, some, Option·some-injective}
 use lib.ListN.{length, take}
 use lib.Seq.{take-at}
 use Rattle.format.specs.Answers.{done, refused as refusedWith, told, filled}
@@ -47,8 +48,8 @@ tableAfter s rows names = then (rowsIn (reading s (length rows) (length names)))
 abbrev pub textAfter : List ℕ → List ℕ → List ℕ → List ℕ
 textAfter s rows names = then (textIn (reading s (length rows) (length names))) names
 
--- the content that the caller then holds
-abbrev pub contentHeld : List ℕ → List ℕ → List ℕ → Content
+-- the content that the caller then holds; none where the answer has no version
+abbrev pub contentHeld : List ℕ → List ℕ → List ℕ → Option Content
 contentHeld s rows names = contentIn s (answer s rows names) (tableAfter s rows names) (textAfter s rows names)
 
 -- What `write` gives for a call and a lent buffer: its number and count, and what the buffer holds afterwards.
@@ -97,7 +98,7 @@ pub record ReadsBack (g : Given) (s rows names : List ℕ) : Type 0 where
   pub number : answer s rows names .number ≡ 0
   pub header : answer s rows names .header ≡ g .header
   pub text : take (length (g .text)) (textAfter s rows names) ≡ g .text
-  pub content : contentHeld s rows names ≡ contentOf g
+  pub content : contentHeld s rows names ≡ some (contentOf g)
 
 pub written-reads : (g : Given) (out : List ℕ) → Lent g → numberOf g out ≡ 0 → (rows names : List ℕ) → length (g .table) ≤ length rows → length (g .text) ≤ length names → ReadsBack g (sealIn g out) rows names
 written-reads g out lent z rows names more-rows more-names =
@@ -108,7 +109,7 @@ written-reads g out lent z rows names more-rows more-names =
       number = ap (λ v. answerOf v .number) (sym e);
       header = subst (λ v. answerOf v .header ≡ g .header) e (header-given g (w .sound));
       text = subst (λ v. take (length (g .text)) (then (textIn v) names) ≡ g .text) e (text-held g names);
-      content = subst (λ v. contentIn s (answerOf v) (then (rowsIn v) rows) (then (textIn v) names) ≡ contentOf g) e (back-content g (length out) s w rows names);
+      content = subst (λ v. contentIn s (answerOf v) (then (rowsIn v) rows) (then (textIn v) names) ≡ some (contentOf g)) e (back-content g (length out) s w rows names);
     }
 
 -- "What the reader accepts writes back, given room, as the same bytes."
@@ -164,11 +165,11 @@ pub only-content : (s : List ℕ) (p q : Published s) → p .content ≡ q .cont
 only-content s p q = grammar.one-content (p .content) (q .content) (p .legal) (q .legal) (p .form-is ∙ sym (q .form-is))
 
 -- "and it is what the reader reports."
-pub reports : (s : List ℕ) → Bytes s → (p : Published s) (rows names : List ℕ) → answer s rows names .number ≡ 0 → contentHeld s rows names ≡ p .content
+pub reports : (s : List ℕ) → Bytes s → (p : Published s) (rows names : List ℕ) → answer s rows names .number ≡ 0 → contentHeld s rows names ≡ some (p .content)
 reports s bytes p rows names z =
     let a = zero-accepted s (length rows) (length names) z in
     let r = reader.accepted-exactly s bytes rows names (a .report) (a .reads) in
-    ap (λ v. contentIn s (answerOf v) (then (rowsIn v) rows) (then (textIn v) names)) (a .reads) ∙ r .reports ∙ sym (r .only (p .content) (p .legal) (p .form-is))
+    ap (λ v. contentIn s (answerOf v) (then (rowsIn v) rows) (then (textIn v) names)) (a .reads) ∙ r .reports ∙ ap some (sym (r .only (p .content) (p .legal) (p .form-is)))
 
 -- "No accepted seal is the front part of a longer accepted one"
 pub no-front-part : (s t : List ℕ) → Bytes (s ++ t) → (rows names rows′ names′ : List ℕ) → answer s rows names .number ≡ 0 → answer (s ++ t) rows′ names′ .number ≡ 0 → t ≡ []
@@ -199,12 +200,12 @@ zone-ends s bytes p rows names z =
     subst (λ v. reader.ZonesOf s (p .content) (answerOf v)) (sym (a .reads)) (subst (λ c. reader.ZonesOf s c (answerOf (accepted (a .report)))) e (r .zones))
 
 -- Two accepted seals with the same signed bytes say the same but for the signature.
-pub seals-apart : (s s′ : List ℕ) → Bytes s → Bytes s′ → (rows names rows′ names′ : List ℕ) → answer s rows names .number ≡ 0 → answer s′ rows′ names′ .number ≡ 0 → take (answer s rows names .ends .message) s ≡ take (answer s′ rows′ names′ .ends .message) s′ → (contentHeld s rows names .header ≡ contentHeld s′ rows′ names′ .header) × (contentHeld s rows names .features ≡ contentHeld s′ rows′ names′ .features)
-seals-apart s s′ bytes bytes′ rows names rows′ names′ z z′ e =
+pub seals-apart : (s s′ : List ℕ) → Bytes s → Bytes s′ → (rows names rows′ names′ : List ℕ) → answer s rows names .number ≡ 0 → answer s′ rows′ names′ .number ≡ 0 → take (answer s rows names .ends .message) s ≡ take (answer s′ rows′ names′ .ends .message) s′ → (c c′ : Content) → contentHeld s rows names ≡ some c → contentHeld s′ rows′ names′ ≡ some c′ → (c .header ≡ c′ .header) × (c .features ≡ c′ .features)
+seals-apart s s′ bytes bytes′ rows names rows′ names′ z z′ e c c′ held held′ =
     let p = accepted-published s bytes rows names z in
     let q = accepted-published s′ bytes′ rows′ names′ z′ in
-    let f = reports s bytes p rows names z in
-    let g = reports s′ bytes′ q rows′ names′ z′ in
+    let f = Option·some-injective c (p .content) (sym held ∙ reports s bytes p rows names z) in
+    let g = Option·some-injective c′ (q .content) (sym held′ ∙ reports s′ bytes′ q rows′ names′ z′) in
     let same = signed-apart (p .content) (q .content) (p .legal) (q .legal) (sym (signed-front s bytes p rows names z) ∙ e ∙ signed-front s′ bytes′ q rows′ names′ z′) in
     (ap (λ c. c .header) f ∙ same .0 ∙ ap (λ c. c .header) (sym g), ap (λ c. c .features) f ∙ same .1 ∙ ap (λ c. c .features) (sym g))
 

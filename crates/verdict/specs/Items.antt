@@ -8,6 +8,7 @@ pub mod Pins
 use mathlib.Core.Bool.{Bool}
 use Prim.Native.Nat.{ℕ, _+_, _*_}
 use mathlib.Core.List.{List, [], map}
+use mathlib.Core.Option.{Option, none, some}
 use lib.Dec.{ltb, eqb}
 use lib.ListN.{length, take, drop, getD}
 use Rattle.format.specs.Choice.{pick}
@@ -17,6 +18,7 @@ use Rattle.c40.specs.Text.{width}
 use Rattle.c40.specs.Decode.{Decoded, text, wrong, decode}
 use Rattle.dates.specs.declared.Date.{Date}
 use Rattle.dates.specs.Days.{within, isDay, dateOf}
+use Rattle.versions.specs.Versions.{versionOfByte}
 use Rattle.der.specs.Length.{readLength}
 use Rattle.der.specs.declared.Length.{Length}
 use Rattle.der.specs.declared.Length.the-variants.{Is, Cut, Malformed}
@@ -47,9 +49,13 @@ markIn at x = pick (eqb x 0xDC) (is tt (at + 1)) (not 3 at)
 abbrev pub mark : ℕ → List ℕ → Item Unit
 mark at s = byte at s (markIn at)
 
--- 02 is version 3, 03 is version 4
+-- the version of a byte: 02 is version 3, 03 is version 4, any other is 4
+abbrev pub versionAt : ℕ → Option Version → Item Version
+versionAt at (some v) = is v (at + 1)
+versionAt at none = not 4 at
+
 abbrev pub versionIn : ℕ → ℕ → Item Version
-versionIn at x = pick (eqb x 0x02) (is three (at + 1)) (pick (eqb x 0x03) (is four (at + 1)) (not 4 at))
+versionIn at x = versionAt at (versionOfByte x)
 
 abbrev pub version : ℕ → List ℕ → Item Version
 version at s = byte at s (versionIn at)

@@ -25,7 +25,7 @@ use Rattle.grammar.specs.Content.{Version}
 use Rattle.grammar.specs.Publish.{hexDigit, names, lengthOf, feature, messageZone}
 use Rattle.verdict.specs.Report.{featureOf}
 use Rattle.verdict.specs.Judge.{Row}
-use Rattle.items.specs.Cases.{versionOf}
+use Rattle.given.specs.Given.{versionOf}
 use Rattle.given.specs.Given.{rowsOf}
 use Rattle.given.specs.Rows.{rowAt, rows-end, rows-here}
 use Rattle.writer.specs.Steps.{Room, Named, Measured, Fits, Fitting, spelled, sixOf}

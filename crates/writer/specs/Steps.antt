@@ -13,7 +13,7 @@ use Rattle.versions.specs.Versions.{versionByte}
 use Rattle.grammar.specs.Publish.{carried, hexDigits, names, publish}
 use Rattle.letters.specs.Characters.{isReference, all, isSigner}
 use Rattle.verdict.specs.Judge.{Row, isSignature}
-use Rattle.items.specs.Cases.{versionOf}
+use Rattle.given.specs.Given.{versionOf}
 use Rattle.items.specs.declared.Header.{Header}
 use Rattle.given.specs.Tests.{isVersion, isTextSize, areNames, areDays, areLast, isTable, areValues}
 use Rattle.given.specs.Given.{Given, threeOf, contentOf}

@@ -30,7 +30,7 @@ use Rattle.verdict.specs.Report.{featureOf}
 use Rattle.verdict.specs.Judge.{Row, used, isSignature}
 use Rattle.verdict.specs.Judge.Complete.{size-small}
 use Rattle.verdict.specs.Judge.Sound.{size-of}
-use Rattle.items.specs.Cases.{versionOf}
+use Rattle.given.specs.Given.{versionOf}
 use Rattle.items.specs.declared.Header.{Header}
 use Rattle.given.specs.Tests.Laws.{size-three, size-four}
 use Rattle.given.specs.Tests.{isVersion, isTextSize, isRow, areRows, isTable, areShort}

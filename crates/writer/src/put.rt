@@ -7,7 +7,7 @@ ghost use Rattle.format.specs.Buffer.{over};
 ghost use Rattle.dates.specs.Days.{Day, publish as dateIn};
 ghost use Rattle.grammar.specs.Publish.{lengthOf, feature, messageZone, publish};
 ghost use Rattle.verdict.specs.Report.{featureOf};
-ghost use Rattle.items.specs.Cases.{versionOf};
+ghost use Rattle.given.specs.Given.{versionOf};
 ghost use Rattle.given.specs.Given.{given, rowsOf, contentOf};
 ghost use Rattle.writer.specs.Steps.{Room, Measured, Fitting, Headed, Dated, front, rest, Passed};
 use crate::names::carried;

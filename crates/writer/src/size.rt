@@ -3,7 +3,7 @@ ghost use mathlib.Core.Path.{_≡_};
 ghost use Prim.Native.Nat.{min, _+_, _≤_};
 ghost use lib.ListN.{length};
 ghost use Rattle.grammar.specs.Publish.{lengthOf};
-ghost use Rattle.items.specs.Cases.{versionOf};
+ghost use Rattle.given.specs.Given.{versionOf};
 ghost use Rattle.given.specs.Given.{rowsOf};
 ghost use Rattle.writer.specs.Sizes.{rowsSize, namesSize, sealSize};
 

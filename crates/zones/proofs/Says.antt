@@ -8,16 +8,19 @@ use mathlib.Core.List.{[], _∷_}
 use types.Run.{OneOf}
 use denote.Enum.Declared.{tagOf}
 use Rattle.verdict.specs.Items.{Item, not}
-use Rattle.items.specs.Cases.{whyOf, stepOf, numberOf, dayOf}
+use Rattle.items.specs.Cases.{whyOf, stepOf, numberOf, editionOf, dayOf}
 use Rattle.items.specs.declared.cursor.Refusal.{Refusal}
 use Rattle.items.specs.declared.cursor.Step.{Step}
 use Rattle.items.specs.declared.cursor.Step.the-variants as step
 use Rattle.items.specs.declared.cursor.Number.{Number}
 use Rattle.items.specs.declared.cursor.Number.the-variants as number
+use Rattle.items.specs.declared.cursor.Edition.{Edition}
+use Rattle.items.specs.declared.cursor.Edition.the-variants as edition
 use Rattle.items.specs.declared.cursor.Day.{Day}
 use Rattle.items.specs.declared.cursor.Day.the-variants as day
 use Rattle.items.proofs.cursor.Step as step-type
 use Rattle.items.proofs.cursor.Number as number-type
+use Rattle.items.proofs.cursor.Edition as edition-type
 use Rattle.items.proofs.cursor.Day as day-type
 
 -- what is said of an item is what it is
@@ -27,6 +30,11 @@ Says why i = not (why .number) (why .place) ≡ i
 none-of : (a b : ℕ) → 0 < a → 0 < b → (0 ≡ a) ⊎ (0 ≡ b) → ⊥
 none-of a b p q (inl e) = omega arith
 none-of a b p q (inr e) = omega arith
+
+pub edition-says : (at : ℕ) (r : Edition) (why : Refusal) → OneOf (1 ∷ 2 ∷ []) (tagOf edition-type.the-type r) → why ≡ whyOf (editionOf at r) → Says why (editionOf at r)
+edition-says at (edition.Is v next) why k e = absurd (none-of 1 2 (omega arith) (omega arith) k)
+edition-says at edition.Cut why k e = ap (λ w. not (w .number) (w .place)) e
+edition-says at edition.NoSuchVersion why k e = ap (λ w. not (w .number) (w .place)) e
 
 pub day-says : (at : ℕ) (r : Day) (why : Refusal) → OneOf (1 ∷ 2 ∷ []) (tagOf day-type.the-type r) → why ≡ whyOf (dayOf at r) → Says why (dayOf at r)
 day-says at (day.Is d next) why k e = absurd (none-of 1 2 (omega arith) (omega arith) k)

@@ -6,8 +6,8 @@ use Prim.Native.Nat.{ℕ}
 use mathlib.Core.List.{List}
 use lib.ListN.{take, drop}
 use Rattle.dates.specs.declared.Date.{Date}
+use Rattle.versions.specs.declared.Version.{Version}
 use Rattle.verdict.specs.Items.{Item, is, not, next, mark, version, country, names, date, last, Names}
-use Rattle.items.specs.Cases.{edition}
 use Rattle.names.specs.Cases.{Measured, measured}
 use Rattle.zones.specs.declared.fields.Front.{Front}
 use Rattle.zones.specs.declared.fields.Front.the-variants as front
@@ -18,9 +18,9 @@ use Rattle.zones.specs.declared.features.Features.the-variants as featur
 use Rattle.zones.specs.declared.signature.Signature.{Signature}
 use Rattle.zones.specs.declared.signature.Signature.the-variants as signature
 
--- the fields up to the reference: the version as 3 or 4, and L beside the names
+-- the fields up to the reference, with L beside the names
 pub record Fields : Type 0 where
-  pub version : ℕ
+  pub version : Version
   pub country : List ℕ
   pub names : Measured
 
@@ -37,7 +37,7 @@ fields s =
     (λ dc at. next (version at s)
     (λ v at. next (country at s)
     (λ c at. next (names v at s)
-    (λ n at. is (record { version = edition v; country = c; names = measured n }) at))))
+    (λ n at. is (record { version = v; country = c; names = measured n }) at))))
 
 -- the country of the fields, and their signer and reference
 abbrev pub codeIn : Fields → List ℕ

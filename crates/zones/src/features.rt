@@ -2,7 +2,7 @@
 ghost use mathlib.Core.Path.{_≡_};
 ghost use mathlib.Core.List.{[]};
 ghost use lib.ListN.{length};
-ghost use Rattle.items.specs.Cases.{whyOf, through, versionOf};
+ghost use Rattle.items.specs.Cases.{whyOf, through};
 ghost use Rattle.verdict.specs.Judge.{features as featuresFrom};
 ghost use Rattle.zones.specs.Steps.{featuresOf};
 use items::Byte;
@@ -11,6 +11,7 @@ use items::Number;
 use items::Refusal;
 use items::Whole;
 use octets::wide;
+use versions::Version;
 
 pub enum Features {
     // how many there are, and the place of FF
@@ -34,8 +35,8 @@ impl Features {
 }
 
 // Judges the features from a place on. The first tag that repeats an earlier one is the one named, so at most 255 tags are kept.
-pub fn read_features(start: Cursor, seal: &[u8], version: usize) -> Features
-    ensures { λ r. ⌜ featuresOf r ≡ through length (featuresFrom 256 (versionOf version) [] (start .place) (now (seal .entry))) ⌝ }
+pub fn read_features(start: Cursor, seal: &[u8], version: Version) -> Features
+    ensures { λ r. ⌜ featuresOf r ≡ through length (featuresFrom 256 version [] (start .place) (now (seal .entry))) ⌝ }
 {
     let mut tags = [0u8; 255];
     let mut count: usize = 0;

@@ -7,16 +7,18 @@ ghost use Rattle.names.specs.Cases.{textOver};
 ghost use Rattle.zones.specs.Steps.{fields as fieldsIn, codeIn, namesIn, dated, frontOf, restOf};
 use items::Cursor;
 use items::Day;
+use items::Edition;
 use items::Number;
 use items::Refusal;
 use items::Step;
 use names::Field;
 use names::Names;
+use versions::Version;
 
 // The items up to the reference; country and names are in lent buffers.
 pub enum Front {
-    // the version, 3 or 4, and the reference's length
-    Is(usize, usize, Cursor),
+    // the version, and the reference's length
+    Is(Version, usize, Cursor),
     Not(Refusal),
 }
 
@@ -69,8 +71,8 @@ pub fn read_front(seal: &[u8], country: &mut [u8; 3], names: &mut [u8; 259]) -> 
         return Front::Not(mark.refusal(3, start.place));
     };
     let version = at.version(seal);
-    let Number::Is(v, at2) = version else {
-        return Front::Not(version.refusal(4, at.place));
+    let Edition::Is(v, at2) = version else {
+        return Front::Not(version.refusal(at.place));
     };
     let mut found = [0u8; 3];
     let code = Field { place: at2.place }.country(seal, &mut found);

@@ -7,6 +7,7 @@ use native.Mathlib.Omega.{arith}
 use native.Mathlib.Nat.{add-zero}
 use borrow.Author.Tests.{le-ltb, lt-ltb, le-leb, lt-leb, eq-eqb, ne-eqb}
 use mathlib.Core.List.{List, [], _∷_}
+use mathlib.Core.Option.{none, some}
 use lib.Dec.{ltb, eqb}
 use lib.ListN.{length, take, drop, getD, drop-of-length-le}
 use lib.Seq.{getD-take, getD-drop}
@@ -18,10 +19,11 @@ use Rattle.dates.specs.Days.{isDay, dateOf}
 use Rattle.format.specs.Answers.{Given, given, refusal}
 use Rattle.dates.specs.Calls.{no-date, fromNumber}
 use Rattle.der.specs.Length.{readLength}
-use Rattle.grammar.specs.Content.{Version, three, four}
-use Rattle.verdict.specs.Items.{Item, is, not, whole, byte, mark, version, last, lastIn, date, dateIn, plainIn, derOf, derLength, markIn, versionIn}
+use Rattle.versions.specs.declared.Version.{Version}
+use Rattle.versions.specs.Versions.{versionOfByte}
+use Rattle.verdict.specs.Items.{Item, is, not, whole, byte, mark, version, last, lastIn, date, dateIn, plainIn, derOf, derLength, markIn, versionAt, versionIn}
 use Rattle.verdict.specs.Items.Laws.{whole-read, unread}
-use Rattle.items.specs.Cases.{through, edition, past, versionOf}
+use Rattle.items.specs.Cases.{past}
 
 -- an item of k bytes that are not all there, or are
 pub whole-cut : {A : Type 0} (k at : ℕ) (s : List ℕ) (f : List ℕ → Item A) → length s < at + k → not 2 at ≡ whole k at s f
@@ -106,23 +108,11 @@ module _ (at : ℕ) (s : List ℕ) (x after : ℕ) (b : Read at s x after) where
       sym (ap (λ t. pick t (is tt (at + 1)) (not 3 at)) (ne-eqb x 0xDC d)) ∙ sym read
 
   -- the version
-  pub version-three : x ≡ 0x02 → is 3 after ≡ through edition (version at s)
-  version-three d =
-      let read = judged-byte at s x after (versionIn at) b in
-      ap (is 3) (b .reached) ∙ ap (through edition) (sym (ap (λ t. pick t (is three (at + 1)) (pick (eqb x 0x03) (is four (at + 1)) (not 4 at))) (eq-eqb x 0x02 d)) ∙ sym read)
+  pub version-is : (v : Version) → some v ≡ versionOfByte x → is v after ≡ version at s
+  version-is v e = ap (is v) (b .reached) ∙ ap (versionAt at) e ∙ sym (judged-byte at s x after (versionIn at) b)
 
-  pub version-four : x ≡ 0x03 → is 4 after ≡ through edition (version at s)
-  version-four d =
-      let read = judged-byte at s x after (versionIn at) b in
-      let other : eqb x 0x02 ≡ false = ne-eqb x 0x02 (λ two. omega arith) in
-      let given : versionIn at x ≡ is four (at + 1) = rw (other, eq-eqb x 0x03 d) refl in
-      ap (is 4) (b .reached) ∙ ap (through edition) (sym given ∙ sym read)
-
-  pub version-wrong : (x ≡ 0x02 → ⊥) → (x ≡ 0x03 → ⊥) → not 4 at ≡ through edition (version at s)
-  version-wrong d g =
-      let read = judged-byte at s x after (versionIn at) b in
-      let given : versionIn at x ≡ not 4 at = rw (ne-eqb x 0x02 d, ne-eqb x 0x03 g) refl in
-      ap (through edition) (sym given ∙ sym read)
+  pub version-wrong : none ≡ versionOfByte x → not 4 at ≡ version at s
+  version-wrong e = ap (versionAt at) e ∙ sym (judged-byte at s x after (versionIn at) b)
 
   -- definition reference and category
   pub last-is : 0 < x → x ≤ 254 → is x after ≡ last at s
@@ -184,8 +174,3 @@ taken-none n e =
     by-test (isDay (dateOf n))
     (λ h. let z : _≡_ {A = ℕ} 6 0 = ap (λ g. g .number) (e ∙ ap (λ b. chosen b n) h) in absurd (omega arith))
     (λ h. h)
-
--- a version as a number is that version again
-pub version-back : (v : Version) → versionOf (edition v) ≡ v
-version-back three = refl
-version-back four = refl

@@ -19,7 +19,7 @@ use Rattle.format.specs.Table.Laws.{both-true}
 use Rattle.letters.specs.Characters.{isLetter, isDigit, isReference, all, isSigner, isCountry, hexValue, shown}
 use Rattle.verdict.specs.Items.{Item, is, not, next, field, country, lengthIn, isSix, nine, named, after, names, Names}
 use Rattle.verdict.specs.Items.Fields.{letter-shown}
-use Rattle.items.specs.Cases.{stepOf, whyOf, versionOf, through}
+use Rattle.items.specs.Cases.{stepOf, whyOf, through}
 use Rattle.names.specs.Cases.{measured}
 use Rattle.names.specs.Cases.Field.{Unread, field-good}
 use Rattle.items.specs.declared.cursor.Refusal.{Refusal}
@@ -123,13 +123,6 @@ country-is at n s out x y l p read e f = ap (λ t. is t n) (shown-three out x y 
 
 pub country-wrong : (at : ℕ) (s : List ℕ) → not 5 at ≡ field 3 (isCountry 32) at s → not 5 at ≡ country at s
 country-wrong at s e = ap (λ i. next i (λ t at. is (map shown t) at)) e
-
--- the version of a number
-pub version-three : (n : ℕ) → n ≡ 3 → three ≡ versionOf n
-version-three n h = sym (ap (λ b. pick b three four) (eq-eqb n 3 h))
-
-pub version-four : (n : ℕ) → (n ≡ 3 → ⊥) → four ≡ versionOf n
-version-four n h = sym (ap (λ b. pick b three four) (ne-eqb n 3 h))
 
 -- names that were read, with the reference's length beside them
 measured-is : (size n : ℕ) (names : Names) (i : Item Names) → length (names .reference) ≡ size → is names n ≡ i → is (record { length = size; names = names }) n ≡ through measured i

@@ -8,7 +8,7 @@ use Prim.Native.Nat.{_+_, _≤_}
 use lib.ListN.{length}
 use denote.Ref.{now}
 use Rattle.verdict.specs.Items.{not}
-use Rattle.items.specs.Cases.{whyOf, versionOf}
+use Rattle.items.specs.Cases.{whyOf}
 use Rattle.verdict.specs.Judge.{features, signature as signatureAt}
 use Rattle.zones.specs.Steps.{fields, dated, frontOf, restOf, featuresOf, signatureOf}
 use Rattle.zones.specs.Steps.Laws.{through-unread}
@@ -46,7 +46,7 @@ rows-read : (c : tie.After-known-told3) →
     let told2 = c .before .before .before .before in
     let told = told2 .before .before .before .before in
     let g = c .before .features .given .0 in
-    Counted (features 256 (versionOf (told .before .front .given .0 .0)) [] (told2 .before .rest .given .0 .1 .1 .1 .1 .0 .place) (now (told .before .before .before .before .before .before .before .args .seal))) (g .0) (g .1 .0 .place)
+    Counted (features 256 (told .before .front .given .0 .0) [] (told2 .before .rest .given .0 .1 .1 .1 .1 .0 .place) (now (told .before .before .before .before .before .before .before .args .seal))) (g .0) (g .1 .0 .place)
 rows-read c =
     let on = c .before .before .before in
     counted _ _ _ (sym (ap featuresOf (c .before .features .given .1)) ∙ on .read-features .ensures)
@@ -68,7 +68,7 @@ returns c =
     judged-refused _ _ _ _ _
     (judge-fields _ (short on) _ _
     (ap (λ w. not (w .number) (w .place)) why ∙ sym (ap (frontOf (on .read-front .last .1 .0) (on .read-front .last .1 .1 .0)) (told .enum-told .given .1)) ∙ on .read-front .ensures .0))
-    (c .refused .ensures)
+    (c .not-good .ensures)
 
 returns-2 : tie.Need-returns-2
 returns-2 c =
@@ -78,7 +78,7 @@ returns-2 c =
     judged-refused _ _ _ _ _
     (judge-dated _ (short (on .before .before .before .before)) _ _ (front-read (on .before)) _ _
     (ap (λ w. not (w .number) (w .place)) why ∙ sym (ap restOf (told .enum-told2 .given .1)) ∙ on .read-rest .ensures))
-    (c .refused2 .ensures)
+    (c .not-good2 .ensures)
 
 returns-3 : tie.Need-returns-3
 returns-3 c =
@@ -88,7 +88,7 @@ returns-3 c =
     judged-refused _ _ _ _ _
     (judge-features _ (short (on .before .before .before .before .before .before .before .before)) _ _ (front-read (on .before .before .before .before .before)) _ _ (rest-read (on .before)) _ _
     (through-unread length _ _ _ (ap (λ w. not (w .number) (w .place)) why ∙ sym (ap featuresOf (told .enum-told3 .given .1)) ∙ on .read-features .ensures)))
-    (c .refused3 .ensures)
+    (c .not-good3 .ensures)
 
 add-next : tie.Need-add-next
 add-next c =
@@ -108,19 +108,19 @@ returns-4 c =
     (judge-signature _ (short (on .before .before .before .before .before .before .before .before .before .before .before .before .before)) _ _ (front-read (on .before .before .before .before .before .before .before .before .before .before)) _ _
     (rest-read (on .before .before .before .before .before .before)) (rows .rows) _ (rows .read) _ _
     (ap (λ w. not (w .number) (w .place)) why ∙ sym (ap signatureOf (told .enum-told4 .given .1)) ∙ on .read-signature .ensures))
-    (c .refused4 .ensures)
+    (c .not-good4 .ensures)
 
 returns-5 : tie.Need-returns-5
 returns-5 c =
-    let told4 = c .before in
+    let told4 = c .before .before in
     let told3 = told4 .before .before .before .before .before in
     let told2 = told3 .before .before .before .before in
     let told = told2 .before .before .before .before in
     let rows = rows-read told3 in
     let f = front-read told in
-    judged-accepted _ _ _ _ (rows .rows) _ _ _ _ _ (c .good2 .result) (c .good2 .ensures)
+    judged-accepted _ _ _ _ (rows .rows) _ _ _ _ _ _ (c .good2 .result) (c .good2 .ensures)
     (judge-accepted _ (short (told .before .before .before)) _ _ f _ _ (rest-read told2) (rows .rows) _ (rows .read) _ _ (signature-read told4))
-    (fields-known _ _ _ f) (rows .counts) refl refl
+    (c .before .number .ensures) (fields-known _ _ _ f) (rows .counts) refl refl
 
 read-front-requires : tie.Need-read-front-requires
 read-front-requires c κs = search needs
@@ -134,8 +134,8 @@ enum-told c = search needs
 why-requires : tie.Need-why-requires
 why-requires c κs = search needs
 
-refused-requires : tie.Need-refused-requires
-refused-requires c κs = search needs
+not-good-requires : tie.Need-not-good-requires
+not-good-requires c κs = search needs
 
 read-rest-requires : tie.Need-read-rest-requires
 read-rest-requires c κs = search needs
@@ -149,8 +149,8 @@ enum-told-2 c = search needs
 why-requires-2 : tie.Need-why-requires-2
 why-requires-2 c κs = search needs
 
-refused-requires-2 : tie.Need-refused-requires-2
-refused-requires-2 c κs = search needs
+not-good-requires-2 : tie.Need-not-good-requires-2
+not-good-requires-2 c κs = search needs
 
 read-features-requires : tie.Need-read-features-requires
 read-features-requires c κs = search needs
@@ -164,8 +164,8 @@ enum-told-3 c = search needs
 why-requires-3 : tie.Need-why-requires-3
 why-requires-3 c κs = search needs
 
-refused-requires-3 : tie.Need-refused-requires-3
-refused-requires-3 c κs = search needs
+not-good-requires-3 : tie.Need-not-good-requires-3
+not-good-requires-3 c κs = search needs
 
 read-signature-requires : tie.Need-read-signature-requires
 read-signature-requires c κs = search needs
@@ -179,8 +179,11 @@ enum-told-4 c = search needs
 why-requires-4 : tie.Need-why-requires-4
 why-requires-4 c κs = search needs
 
-refused-requires-4 : tie.Need-refused-requires-4
-refused-requires-4 c κs = search needs
+not-good-requires-4 : tie.Need-not-good-requires-4
+not-good-requires-4 c κs = search needs
+
+number-requires : tie.Need-number-requires
+number-requires c κs = search needs
 
 good-requires : tie.Need-good-requires
 good-requires c κs = search needs
@@ -193,26 +196,27 @@ judge-items-spec =
     enum-known-front
     enum-told
     why-requires
-    refused-requires
+    not-good-requires
     returns
     read-rest-requires
     enum-known-rest
     enum-told-2
     why-requires-2
-    refused-requires-2
+    not-good-requires-2
     returns-2
     read-features-requires
     enum-known-features
     enum-told-3
     why-requires-3
-    refused-requires-3
+    not-good-requires-3
     returns-3
     add-next
     read-signature-requires
     enum-known-signature
     enum-told-4
     why-requires-4
-    refused-requires-4
+    not-good-requires-4
     returns-4
+    number-requires
     good-requires
     returns-5)

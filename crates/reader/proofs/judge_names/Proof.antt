@@ -7,11 +7,11 @@ use Rattle.reader.specs.Calls.Laws.{judged-refused}
 use Rattle.reader.proofs.judge_names.Statement.{statement}
 use Rattle.reader.proofs.judge_names.Tie as tie
 
-refused-requires : tie.Need-refused-requires
-refused-requires c κs = search needs
+not-good-requires : tie.Need-not-good-requires
+not-good-requires c κs = search needs
 
 returns : tie.Need-returns
-returns c = judged-refused _ _ _ _ _ (judge-long _ (omega arith)) (c .refused .ensures)
+returns c = judged-refused _ _ _ _ _ (judge-long _ (omega arith)) (c .not-good .ensures)
 
 judge-items-requires : tie.Need-judge-items-requires
 judge-items-requires c κs = omega arith
@@ -20,4 +20,4 @@ returns-2 : tie.Need-returns-2
 returns-2 c = c .judge-items .ensures
 
 pub judge-names-spec : {M : Type 1} → statement M
-judge-names-spec = tie.close (tie.spec refused-requires returns judge-items-requires returns-2)
+judge-names-spec = tie.close (tie.spec not-good-requires returns judge-items-requires returns-2)

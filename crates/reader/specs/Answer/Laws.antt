@@ -3,13 +3,14 @@
 use mathlib.Core.Path.{_≡_, refl, ap, _∙_}
 use Prim.Native.Nat.{ℕ}
 use mathlib.Core.List.{List, [], _∷_, _++_, append-assoc, map}
+use mathlib.Core.Option.{some, Option·map}
 use lib.ListN.{length, take, drop}
 use lib.Seq.{take-at, drop-at}
-use Rattle.items.specs.Cases.Laws.{version-back}
+use Rattle.versions.specs.Versions.Laws.{number-back}
 use Rattle.verdict.specs.Judge.{Row, Report, accepted}
 use Rattle.verdict.specs.Report.{contentOf, featureOf}
 use Rattle.reader.specs.Calls.{answerOf, table, text, then}
-use Rattle.reader.specs.Answer.{rowsOf, contentIn}
+use Rattle.reader.specs.Answer.{rowsOf, contentAs, contentIn}
 
 rows-back : (rows : List Row) (t : List ℕ) → rowsOf (length rows) (table rows ++ t) ≡ rows
 unfolding rowsOf table
@@ -17,8 +18,8 @@ rows-back [] t = refl
 rows-back (r ∷ rows) t = let ih = rows-back rows t in ap (λ u. r ∷ u) ih
 
 -- given that the signer has four characters
-pub held : (s : List ℕ) (r : Report) (numbers bytes : List ℕ) → length (r .header .signer) ≡ 4 → contentIn s (answerOf (accepted r)) (then (table (r .rows)) numbers) (then (text r) bytes) ≡ contentOf s r
-unfolding contentIn contentOf
+pub held : (s : List ℕ) (r : Report) (numbers bytes : List ℕ) → length (r .header .signer) ≡ 4 → contentIn s (answerOf (accepted r)) (then (table (r .rows)) numbers) (then (text r) bytes) ≡ some (contentOf s r)
+unfolding contentIn contentAs contentOf
 held s r numbers bytes four-long =
     let h = r .header in
     let rest = drop (length (text r)) bytes in
@@ -28,8 +29,10 @@ held s r numbers bytes four-long =
     ap (λ u. take (length (h .reference)) (drop 4 u)) parts ∙ ap (take (length (h .reference))) (drop-at (h .signer) (h .reference ++ rest) 4 four-long)
     ∙ take-at (h .reference) rest (length (h .reference)) refl in
     let rows : rowsOf (length (r .rows)) (then (table (r .rows)) numbers) ≡ r .rows = rows-back (r .rows) (drop (length (table (r .rows))) numbers) in
+    let same : contentAs s (answerOf (accepted r)) (then (table (r .rows)) numbers) (then (text r) bytes) (h .version) ≡ contentOf s r =
     λ i. record {
-      header = record { version = version-back (h .version) i; country = h .country; signer = signer i; reference = reference i; issued = h .issued; signed = h .signed; definition = h .definition; category = h .category };
+      header = record { version = h .version; country = h .country; signer = signer i; reference = reference i; issued = h .issued; signed = h .signed; definition = h .definition; category = h .category };
       features = map (featureOf s) (rows i);
       signature = contentOf s r .signature;
-    }
+    } in
+    ap (Option·map (contentAs s (answerOf (accepted r)) (then (table (r .rows)) numbers) (then (text r) bytes))) (number-back (h .version)) ∙ ap some same

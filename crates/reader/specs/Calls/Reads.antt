@@ -18,18 +18,17 @@ use Rattle.grammar.specs.Legal.{ReferenceSize}
 use Rattle.grammar.specs.Sizes.{features-most}
 use Rattle.verdict.specs.Items.{is}
 use Rattle.verdict.specs.Items.Sound.{steps, same-value}
-use Rattle.items.specs.Cases.{versionOf}
-use Rattle.items.specs.Cases.Laws.{version-back}
 use Rattle.verdict.specs.Judge.{Report, Verdict, accepted, refused, header, features, signature, verdict, reading as readingOf, judge}
-use Rattle.verdict.specs.Judge.Numbers.{FromList, from-list}
 use Rattle.verdict.specs.Judge.Complete.{reportOf}
 use Rattle.verdict.specs.Judge.Features.{rowsOf}
 use Rattle.verdict.specs.Judge.Sound.{verdict-read, unaccepted}
 use Rattle.reader.specs.Rows.{rowsAt, rowsRead, AreRead}
 use Rattle.reader.specs.Rows.Laws.{rows-there, rows-are}
-use Rattle.reader.specs.Calls.{answerOf, table, text, given, reading, rowsIn, textIn, then, Named}
+use Rattle.reader.specs.Calls.{answerOf, versionIn, judgementOf, table, text, given, reading, rowsIn, textIn, then, Named}
 use Rattle.verdict.specs.Judge.Seals.{accepted-only}
 use Rattle.reader.specs.declared.Reading.{Reading}
+use Rattle.reader.specs.declared.Judgement.{Judgement}
+use Rattle.versions.specs.declared.Stated.the-variants as stated
 
 -- what is promised of the answer, the table and the text
 abbrev pub Reads : List ℕ → List ℕ → List ℕ → Reading → List ℕ → List ℕ → Type 0
@@ -48,32 +47,19 @@ reads-refused s rows names r number place e a = subst (Leaves rows names r rows 
 pub reads-accepted : (s rows names : List ℕ) (r : Reading) (rows′ names′ : List ℕ) (report : Report) → reading s (length rows) (length names) ≡ accepted report → r ≡ answerOf (accepted report) → rows′ ≡ then (table (report .rows)) rows → names′ ≡ then (text report) names → Reads s rows names r rows′ names′
 reads-accepted s rows names r rows′ names′ report e a t x = subst (Leaves rows names r rows′ names′) (sym e) (a, (t, x))
 
--- a verdict that is a refusal is answered whatever the room
-settled : (v : Verdict) (numbers room : ℕ) → FromList v → (answerOf v .number ≡ 0 → ⊥) → given numbers room v ≡ v
-settled (accepted r) numbers room l h = absurd (h refl)
-settled (refused number place) numbers room l h = refl
+-- a verdict with no version is a refusal, which is answered whatever the room
+leaves : (rows names : List ℕ) (v : Verdict) (r : Reading) → versionIn v ≡ stated.NoSuchVersion → r ≡ answerOf v → Leaves rows names r rows names (given (length rows) (length names) v)
+leaves rows names (accepted q) r without a = let z : _≡_ {A = ℕ} 0 1 = cc in absurd (omega arith)
+leaves rows names (refused number place) r without a = (a, (refl, refl))
 
-abbrev Refused : Verdict → Type 0
-Refused (accepted r) = ⊥
-Refused (refused number place) = Unit
-
-is-refused : (v : Verdict) → (answerOf v .number ≡ 0 → ⊥) → Refused v
-is-refused (accepted r) h = h refl
-is-refused (refused number place) h = tt
-
-leaves : (rows names : List ℕ) (v : Verdict) (r : Reading) → Refused v → r ≡ answerOf v → Leaves rows names r rows names v
-leaves rows names (accepted q) r f a = absurd f
-leaves rows names (refused number place) r f a = (a, (refl, refl))
-
-pub reads-judged : (s rows names : List ℕ) (r : Reading) → r ≡ answerOf (judge s) → (r .number ≡ 0 → ⊥) → Reads s rows names r rows names
-reads-judged s rows names r a h =
-    let no : answerOf (judge s) .number ≡ 0 → ⊥ = λ e. h (ap (λ q. q .number) a ∙ e) in
-    subst (Leaves rows names r rows names) (sym (settled (judge s) (length rows) (length names) (from-list s) no)) (leaves rows names (judge s) r (is-refused (judge s) no) a)
+pub reads-judged : (s rows names : List ℕ) (q : Judgement) → q ≡ judgementOf (judge s) → q .version ≡ stated.NoSuchVersion → Reads s rows names (q .reading) rows names
+reads-judged s rows names q a without = leaves rows names (judge s) (q .reading) (sym (ap (λ j. j .version) a) ∙ without) (ap (λ j. j .reading) a)
 
 -- a seal that was accepted: its report, and the sizes that its content has
-pub record Accepted (s : List ℕ) (r : Reading) : Type 0 where
+pub record Accepted (s : List ℕ) (r : Reading) (v : Version) : Type 0 where
   pub report : Report
   pub judged : judge s ≡ accepted report
+  pub version : v ≡ report .header .version
   pub answer : r ≡ answerOf (accepted report)
   pub signer : length (report .header .signer) ≡ 4
   pub reference : length (report .header .reference) ≤ 255
@@ -104,13 +90,9 @@ walk s r e =
     let same = same-value _ r _ (v .end) (i2 .goes-on) in
     subst (λ q. features 256 (q .header .version) [] (q .header-end) s ≡ is (q .rows) (q .message-end)) same (i1 .read))
 
-abbrev reportIn : Verdict → Report → Report
-reportIn (accepted r) q = r
-reportIn (refused number place) q = q
-
-accepted-report : (s : List ℕ) → Bytes s → (q : Reading) (r : Report) → q ≡ answerOf (judge s) → judge s ≡ accepted r → Accepted s q
+accepted-report : (s : List ℕ) → Bytes s → (q : Reading) (v : Version) (r : Report) → q ≡ answerOf (judge s) → v ≡ r .header .version → judge s ≡ accepted r → Accepted s q v
 unfolding reportOf
-accepted-report s bytes q r a e =
+accepted-report s bytes q v r a same-version e =
     let seal = accepted-only s bytes r e in
     let c = seal .content in
     let l = seal .legal in
@@ -118,6 +100,7 @@ accepted-report s bytes q r a e =
     record {
       report = r;
       judged = e;
+      version = same-version;
       answer = a ∙ ap answerOf e;
       signer = ap (λ z. length (z .header .signer)) same ∙ l .header .signer .size;
       reference = subst (λ z. length (z .header .reference) ≤ 255) (sym same) (reference-most (c .header .version) (length (c .header .reference)) (l .header .size));
@@ -125,12 +108,13 @@ accepted-report s bytes q r a e =
       walked = walk s r e;
     }
 
-by-verdict : (s : List ℕ) → Bytes s → (q : Reading) (v : Verdict) → q ≡ answerOf (judge s) → judge s ≡ v → FromList v → answerOf v .number ≡ 0 → Accepted s q
-by-verdict s bytes q (accepted r) a e l z = accepted-report s bytes q r a e
-by-verdict s bytes q (refused number place) a e l z = absurd (omega (arith, l .0, z))
+by-verdict : (s : List ℕ) → Bytes s → (q : Reading) (v : Version) (j : Verdict) → q ≡ answerOf (judge s) → judge s ≡ j → versionIn j ≡ stated.Is v → Accepted s q v
+by-verdict s bytes q v (accepted r) a e said = accepted-report s bytes q v r a (cc) e
+by-verdict s bytes q v (refused number place) a e said = let z : _≡_ {A = ℕ} 0 1 = cc in absurd (omega arith)
 
-pub accepted-zero : (s : List ℕ) → Bytes s → (q : Reading) → q ≡ answerOf (judge s) → q .number ≡ 0 → Accepted s q
-accepted-zero s bytes q a z = by-verdict s bytes q (judge s) a refl (from-list s) (sym (ap (λ r. r .number) a) ∙ z)
+-- a judging that gives a version has accepted the seal
+pub accepted-version : (s : List ℕ) → Bytes s → (q : Judgement) → q ≡ judgementOf (judge s) → (v : Version) → q .version ≡ stated.Is v → Accepted s (q .reading) v
+accepted-version s bytes q a v said = by-verdict s bytes (q .reading) v (judge s) (ap (λ j. j .reading) a) refl (sym (ap (λ j. j .version) a) ∙ said)
 
 -- with too little room for the rows, or for the text, and with room for both
 module _ (s : List ℕ) (numbers room : ℕ) (r : Report) (e : judge s ≡ accepted r) where
@@ -145,16 +129,16 @@ module _ (s : List ℕ) (numbers room : ℕ) (r : Report) (e : judge s ≡ accep
     both-fit h = ap (given numbers room) e ∙ rw (le-ltb numbers (3 * length (r .rows)) fits, le-ltb room (4 + length (r .header .reference)) h) refl
 
 -- the rows that are put are those of the report
-module _ (s : List ℕ) (q : Reading) (a : Accepted s q) where
-  same-rows : rowsAt (q .count) (versionOf (q .header .version)) (q .ends .header) s ≡ rowsAt (length (a .report .rows)) (a .report .header .version) (a .report .header-end) s
+module _ (s : List ℕ) (q : Reading) (v : Version) (a : Accepted s q v) where
+  same-rows : rowsAt (q .count) v (q .ends .header) s ≡ rowsAt (length (a .report .rows)) (a .report .header .version) (a .report .header-end) s
   same-rows =
-      ap (λ z. rowsAt (z .count) (versionOf (z .header .version)) (z .ends .header) s) (a .answer)
-      ∙ ap (λ v. rowsAt (length (a .report .rows)) v (a .report .header-end) s) (version-back (a .report .header .version))
+      ap (λ z. rowsAt (z .count) v (z .ends .header) s) (a .answer)
+      ∙ ap (λ w. rowsAt (length (a .report .rows)) w (a .report .header-end) s) (a .version)
 
-  pub put-there : AreRead (rowsAt (q .count) (versionOf (q .header .version)) (q .ends .header) s)
+  pub put-there : AreRead (rowsAt (q .count) v (q .ends .header) s)
   put-there = subst AreRead (sym same-rows) (rows-there 256 (a .report .header .version) (a .report .header-end) s (a .report .rows) (a .report .message-end) (length (a .report .rows)) (a .walked) refl)
 
-  pub put-are : rowsRead (rowsAt (q .count) (versionOf (q .header .version)) (q .ends .header) s) ≡ a .report .rows
+  pub put-are : rowsRead (rowsAt (q .count) v (q .ends .header) s) ≡ a .report .rows
   put-are = ap rowsRead same-rows ∙ rows-are 256 (a .report .header .version) (a .report .header-end) s (a .report .rows) (a .report .message-end) (length (a .report .rows)) (a .walked) refl
 
   -- signer and reference stand at the start of the names, which are as long as they

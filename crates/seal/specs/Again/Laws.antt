@@ -11,14 +11,13 @@ use Rattle.format.specs.Bytes.{All}
 use Rattle.grammar.specs.Content.{Version, three, four, Feature, Content}
 use Rattle.grammar.specs.Publish.{headerZone, messageZone, publish, lengthOf}
 use Rattle.grammar.specs.Theorems.{zones-add-up}
-use Rattle.items.specs.Cases.{edition}
-use Rattle.items.specs.Cases.Laws.{version-back}
+use Rattle.versions.specs.Versions.{versionNumber}
 use Rattle.verdict.specs.Judge.{Row, Report, accepted}
 use Rattle.verdict.specs.Judge.Complete.{reportOf}
 use Rattle.verdict.specs.Judge.Features.{rowsOf as rowsFrom, feature-parts}
 use Rattle.verdict.specs.Report.{part, featureOf, contentOf as contentRead}
 use Rattle.reader.specs.Calls.{answerOf, table, text, then}
-use Rattle.given.specs.Given.{rowsOf, contentOf}
+use Rattle.given.specs.Given.{rowsOf, versionOf, contentOf}
 use Rattle.writer.specs.Legal.{Sound}
 use Rattle.writer.specs.Legal.Names.{three-of}
 use Rattle.writer.specs.Legal.Rows.{Inside}
@@ -42,6 +41,10 @@ features-again : (s : List ℕ) (rows : List Row) → map (featureOf s) (rowsOf 
 unfolding rowsOf table
 features-again s [] = refl
 features-again s (r ∷ rows) = let ih = features-again s rows in ap (λ u. featureOf s r ∷ u) ih
+
+version-back : (v : Version) → versionOf (versionNumber v) ≡ v
+version-back three = refl
+version-back four = refl
 
 pub content-again : (s : List ℕ) (r : Report) → length (r .header .signer) ≡ 4 → length (r .header .country) ≡ 3 → contentOf (again s r) ≡ contentRead s r
 unfolding contentOf contentRead
@@ -71,7 +74,7 @@ rows-inside v at n (f ∷ fs) h =
     let ih = rows-inside v (at + 1 + length (lengthOf v (length (f .value))) + length (f .value)) n fs (omega arith) in
     (omega arith, ih)
 
-edition-is : (v : Version) → (edition v ≡ 3) ⊎ (edition v ≡ 4)
+edition-is : (v : Version) → (versionNumber v ≡ 3) ⊎ (versionNumber v ≡ 4)
 edition-is three = inl refl
 edition-is four = inr refl
 

@@ -6,6 +6,7 @@ use mathlib.Core.Bool.{Bool, true, false}
 use Prim.Native.Nat.{ℕ, _+_, _*_, _≤_}
 use native.Mathlib.Omega.{arith}
 use mathlib.Core.List.{List, [], _∷_, _++_}
+use mathlib.Core.Option.{some}
 use lib.Dec.{ltb}
 use lib.ListN.{length, take, drop, take-append-drop, length-drop, length-map}
 use lib.Seq.{take-at}
@@ -15,7 +16,7 @@ use Rattle.format.specs.Bytes.{Bytes}
 use Rattle.grammar.specs.Content.{Content}
 use Rattle.grammar.specs.Publish.{signatureZone, signedBytes, publish}
 use Rattle.grammar.specs.Legal.{Legal}
-use Rattle.items.specs.Cases.{edition, versionOf}
+use Rattle.versions.specs.Versions.{versionNumber}
 use Rattle.verdict.specs.Judge.{Report, Verdict, accepted, refused, judge}
 use Rattle.verdict.specs.Judge.Numbers.{FromList, from-list}
 use Rattle.verdict.specs.Judge.Complete.{reportOf}
@@ -27,7 +28,7 @@ use Rattle.reader.specs.Answer.{contentIn}
 use Rattle.reader.specs.Answer.Laws.{held}
 use Rattle.reader.specs.Theorems.{accepted-when}
 use Rattle.writer.specs.Legal.Names.{three-of}
-use Rattle.given.specs.Given.{rowsOf, Given, contentOf}
+use Rattle.given.specs.Given.{rowsOf, versionOf, Given, contentOf}
 use Rattle.writer.specs.Calls.{writing}
 use Rattle.writer.specs.Legal.{Sound, Written, legal-written}
 use Rattle.seal.specs.Again.{again}
@@ -82,8 +83,8 @@ unfolding contentOf
 text-room g sound = omega (arith, length-drop 4 (g .text), sound .measured)
 
 -- the version, and L, as they were given
-edition-back : (n : ℕ) → (n ≡ 3) ⊎ (n ≡ 4) → edition (versionOf n) ≡ n
-edition-back n e = ⊎-elim (λ f. ap (λ k. edition (versionOf k)) f ∙ sym f) (λ f. ap (λ k. edition (versionOf k)) f ∙ sym f) e
+edition-back : (n : ℕ) → (n ≡ 3) ⊎ (n ≡ 4) → versionNumber (versionOf n) ≡ n
+edition-back n e = ⊎-elim (λ f. ap (λ k. versionNumber (versionOf k)) f ∙ sym f) (λ f. ap (λ k. versionNumber (versionOf k)) f ∙ sym f) e
 
 pub header-given : (g : Given) → Sound g → answerOf (accepted (reportOf (contentOf g))) .header ≡ g .header
 unfolding reportOf contentOf
@@ -110,11 +111,11 @@ module _ (g : Given) (room : ℕ) (s : List ℕ) (w : Written g room s) (rows na
       ap (λ u. reading u (length rows) (length names)) (sym (w .form-is))
       ∙ accepted-when (contentOf g) (w .legal) (length rows) (length names) (omega (arith, features-room g)) (omega (arith, text-room g (w .sound)))
 
-  pub back-content : contentIn s (answerOf (accepted (reportOf (contentOf g)))) (then (table (reportOf (contentOf g) .rows)) rows) (then (text (reportOf (contentOf g))) names) ≡ contentOf g
+  pub back-content : contentIn s (answerOf (accepted (reportOf (contentOf g)))) (then (table (reportOf (contentOf g) .rows)) rows) (then (text (reportOf (contentOf g))) names) ≡ some (contentOf g)
   back-content =
       let c = contentOf g in
       let long : length (reportOf c .header .signer) ≡ 4 = ap (λ z. length (z .signer)) (report-header c) ∙ w .legal .header .signer .size in
-      held s (reportOf c) rows names long ∙ ap (λ u. contentRead u (reportOf c)) (sym (w .form-is)) ∙ reported c
+      held s (reportOf c) rows names long ∙ ap some (ap (λ u. contentRead u (reportOf c)) (sym (w .form-is)) ∙ reported c)
 
 -- two calls whose contents have the same header
 module _ (g g′ : Given) (e : contentOf g .header ≡ contentOf g′ .header) where
@@ -124,7 +125,7 @@ module _ (g g′ : Given) (e : contentOf g .header ≡ contentOf g′ .header) w
 
   same-version : Sound g → Sound g′ → g .header .version ≡ g′ .header .version
   unfolding contentOf
-  same-version a b = sym (edition-back (g .header .version) (a .version)) ∙ ap (λ h. edition (h .version)) e ∙ edition-back (g′ .header .version) (b .version)
+  same-version a b = sym (edition-back (g .header .version) (a .version)) ∙ ap (λ h. versionNumber (h .version)) e ∙ edition-back (g′ .header .version) (b .version)
 
   pub same-header : Sound g → Sound g′ → g .header ≡ g′ .header
   unfolding contentOf

@@ -25,9 +25,10 @@ use Rattle.der.specs.Length.{Sized, form}
 use Rattle.der.specs.Length.Exact.{form-reads}
 use Rattle.grammar.specs.Content.{Version, three, four}
 use Rattle.versions.specs.Versions.{versionByte}
+use Rattle.versions.specs.Versions.Laws.{byte-back}
 use Rattle.grammar.specs.Publish.{lengthOf}
 use Rattle.grammar.specs.Legal.{LastByte}
-use Rattle.verdict.specs.Items.{Item, is, not, whole, byte, markIn, versionIn, lastIn, dateIn, plainIn, exactly, fieldIn, field, mark, version, last, date, derOf, derLength, featureLength}
+use Rattle.verdict.specs.Items.{Item, is, not, whole, byte, markIn, versionAt, versionIn, lastIn, dateIn, plainIn, exactly, fieldIn, field, mark, version, last, date, derOf, derLength, featureLength}
 
 -- k bytes that stand after p are taken whole
 pub whole-there : {A : Type 0} (k : ℕ) (p b t : List ℕ) (f : List ℕ → Item A) → length b ≡ k → whole k (length p) (p ++ (b ++ t)) f ≡ f b
@@ -62,8 +63,7 @@ pub mark-there : (p t : List ℕ) → mark (length p) (p ++ (0xDC ∷ t)) ≡ is
 mark-there p t = byte-there p 0xDC t (markIn (length p))
 
 pub version-there : (p : List ℕ) (v : Version) (t : List ℕ) → version (length p) (p ++ (versionByte v ∷ t)) ≡ is v (length p + 1)
-version-there p three t = byte-there p 0x02 t (versionIn (length p))
-version-there p four t = byte-there p 0x03 t (versionIn (length p))
+version-there p v t = byte-there p (versionByte v) t (versionIn (length p)) ∙ ap (versionAt (length p)) (byte-back v)
 
 pub last-there : (p : List ℕ) (x : ℕ) (t : List ℕ) → LastByte x → last (length p) (p ++ (x ∷ t)) ≡ is x (length p + 1)
 last-there p x t l = byte-there p x t (lastIn (length p)) ∙ ap (λ b. pick b (is x (length p + 1)) (not 7 (length p))) (within-true 1 254 x (l .0) (l .1))

@@ -6,6 +6,7 @@ use Prim.Native.Nat.{ℕ, _+_, _≤_, _<_}
 use native.Mathlib.Omega.{arith}
 use borrow.Author.Tests.{eqb-true}
 use mathlib.Core.List.{List, [], _∷_, _++_, append-assoc}
+use mathlib.Core.Option.{Option, none, some}
 use lib.Dec.{eqb}
 use lib.ListN.{length, take, drop, getD, take-append-drop, length-drop, length-append}
 use lib.Seq.{length-take-le, drop-drop, take-all}
@@ -25,9 +26,10 @@ use Rattle.der.specs.declared.Length.{Length}
 use Rattle.der.specs.declared.Length.the-variants.{Is, Cut, Malformed}
 use Rattle.grammar.specs.Legal.{LastByte, ValueSize}
 use Rattle.grammar.specs.Content.{Version, three, four}
-use Rattle.versions.specs.Versions.{versionByte}
+use Rattle.versions.specs.Versions.{versionByte, versionOfByte}
+use Rattle.versions.specs.Versions.Laws.{byte-of}
 use Rattle.grammar.specs.Publish.{lengthOf}
-use Rattle.verdict.specs.Items.{Item, is, not, next, byte, markIn, versionIn, lastIn, dateIn, plainIn, mark, version, last, date, derOf, derLength, featureLength}
+use Rattle.verdict.specs.Items.{Item, is, not, next, byte, markIn, versionAt, versionIn, lastIn, dateIn, plainIn, mark, version, last, date, derOf, derLength, featureLength}
 use Rattle.verdict.specs.Items.Laws.{unread, whole-read}
 
 abbrev valueIn : {A : Type 0} → A → Item A → A
@@ -103,21 +105,14 @@ mark-read at s a after e =
     let place = same-place tt a (at + 1) after (p .1) in
     record { form-there = b .there ∙ ap (λ x. x ∷ drop (at + 1) s) (eqb-true (b .x) 0xDC (p .0)) ∙ ap (λ k. 0xDC ∷ drop k s) place; size = sym place }
 
-version-in : (at x : ℕ) (v : Version) (after : ℕ) → versionIn at x ≡ is v after → (x ≡ versionByte v) × (at + 1 ≡ after)
-version-in at x v after e =
-    by-test (eqb x 0x02)
-    (λ t.
-    let f : is three (at + 1) ≡ is v after = sym (ap (λ b. pick b (is three (at + 1)) (pick (eqb x 0x03) (is four (at + 1)) (not 4 at))) t) ∙ e in
-    (eqb-true x 0x02 t ∙ ap versionByte (same-value three v (at + 1) after f), same-place three v (at + 1) after f))
-    (λ t.
-    let f : pick (eqb x 0x03) (is four (at + 1)) (not 4 at) ≡ is v after = sym (ap (λ b. pick b (is three (at + 1)) (pick (eqb x 0x03) (is four (at + 1)) (not 4 at))) t) ∙ e in
-    let p = passed (eqb x 0x03) (is four (at + 1)) 4 at v after f in
-    (eqb-true x 0x03 (p .0) ∙ ap versionByte (same-value four v (at + 1) after (p .1)), same-place four v (at + 1) after (p .1)))
+version-in : (at x : ℕ) (o : Option Version) → versionOfByte x ≡ o → (v : Version) (after : ℕ) → versionAt at o ≡ is v after → (x ≡ versionByte v) × (at + 1 ≡ after)
+version-in at x (some w) o v after e = (byte-of x w o ∙ ap versionByte (same-value w v (at + 1) after e), same-place w v (at + 1) after e)
+version-in at x none o v after e = absurd (unread 4 at v after e)
 
 pub version-read : (at : ℕ) (s : List ℕ) (v : Version) (after : ℕ) → version at s ≡ is v after → Stands (versionByte v ∷ []) at after s
 version-read at s v after e =
     let b = byte-read at s (versionIn at) v after e in
-    let p = version-in at (b .x) v after (b .read) in
+    let p = version-in at (b .x) (versionOfByte (b .x)) refl v after (b .read) in
     record { form-there = b .there ∙ ap (λ x. x ∷ drop (at + 1) s) (p .0) ∙ ap (λ k. versionByte v ∷ drop k s) (p .1); size = sym (p .1) }
 
 pub last-read : (at : ℕ) (s : List ℕ) (x : ℕ) (after : ℕ) → last at s ≡ is x after → LastByte x × Stands (x ∷ []) at after s

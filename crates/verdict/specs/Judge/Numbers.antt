@@ -4,6 +4,7 @@ use mathlib.Core.Bool.{Bool, true, false}
 use Prim.Native.Nat.{ℕ, zero, suc, _+_, _≤_}
 use native.Mathlib.Omega.{arith}
 use mathlib.Core.List.{List, [], _∷_, _++_, map}
+use mathlib.Core.Option.{Option, none, some}
 use lib.Dec.{ltb, eqb}
 use lib.ListN.{length, take, drop, getD}
 use Rattle.format.specs.Choice.{pick}
@@ -15,9 +16,10 @@ use Rattle.dates.specs.Days.{within, isDay, dateOf}
 use Rattle.der.specs.Length.{readLength}
 use Rattle.der.specs.declared.Length.{Length}
 use Rattle.der.specs.declared.Length.the-variants as length
+use Rattle.versions.specs.Versions.{versionOfByte}
 use Rattle.grammar.specs.Content.{Version, three, four}
 use Rattle.letters.specs.Characters.{isReference, isCountry, all, shown}
-use Rattle.verdict.specs.Items.{Item, is, not, next, whole, byte, mark, version, country, names, date, last, derLength, featureLength, derOf, field, exactly, fieldIn, nine, isSix, lengthIn, named, after, dateIn, lastIn, plainIn, markIn, versionIn}
+use Rattle.verdict.specs.Items.{Item, is, not, next, whole, byte, mark, version, country, names, date, last, derLength, featureLength, derOf, field, exactly, fieldIn, nine, isSix, lengthIn, named, after, dateIn, lastIn, plainIn, markIn, versionAt, versionIn}
 use Rattle.verdict.specs.Judge.{Row, Report, Verdict, accepted, refused, header, used, tagIn, tag, valueIn, row, features, isSignature, rawIn, sizeIn, signature, verdict, reading, judge}
 
 abbrev Listed : {A : Type 0} → Item A → Type 0
@@ -41,10 +43,12 @@ listed-byte at s f each = listed-whole 1 at s (λ b. f (getD b 0 0)) (λ b. each
 listed-mark : (at : ℕ) (s : List ℕ) → Listed (mark at s)
 listed-mark at s = listed-byte at s (markIn at) (λ x. listed-pick (eqb x 0xDC) (is tt (at + 1)) (not 3 at) tt (omega arith, omega arith))
 
+listed-at : (at : ℕ) (o : Option Version) → Listed (versionAt at o)
+listed-at at (some v) = tt
+listed-at at none = (omega arith, omega arith)
+
 listed-version : (at : ℕ) (s : List ℕ) → Listed (version at s)
-listed-version at s =
-    listed-byte at s (versionIn at)
-    (λ x. listed-pick (eqb x 0x02) (is three (at + 1)) (pick (eqb x 0x03) (is four (at + 1)) (not 4 at)) tt (listed-pick (eqb x 0x03) (is four (at + 1)) (not 4 at) tt (omega arith, omega arith)))
+listed-version at s = listed-byte at s (versionIn at) (λ x. listed-at at (versionOfByte x))
 
 listed-field : (k : ℕ) (good : List ℕ → Bool) (at : ℕ) (s : List ℕ) → Listed (field k good at s)
 listed-field k good at s =

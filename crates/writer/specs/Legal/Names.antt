@@ -21,7 +21,7 @@ use Rattle.dates.specs.Days.Laws.{within-true, within-both}
 use Rattle.format.specs.Table.Laws.{both-true, both-are, either-true, either-left, either-right}
 use Rattle.letters.specs.Characters.Grammar.{letter, reference-passes, all-pass, signer-passes, reference-of, all-of, signer-of}
 use Rattle.letters.specs.Characters.{isLetter, isReference, all, isSigner, isCountry}
-use Rattle.items.specs.Cases.{versionOf}
+use Rattle.given.specs.Given.{versionOf}
 use Rattle.items.specs.declared.Header.{Header}
 use Rattle.given.specs.Tests.{isVersion, isTextSize, areNames}
 use Rattle.given.specs.Given.{threeOf}

@@ -10,7 +10,7 @@ use mathlib.Core.List.{List, [], _∷_}
 use lib.ListN.{length, getD, drop}
 use Rattle.grammar.specs.Publish.{lengthOf}
 use Rattle.verdict.specs.Judge.{Row}
-use Rattle.items.specs.Cases.{versionOf}
+use Rattle.given.specs.Given.{versionOf}
 use Rattle.grammar.specs.Content.{Version}
 use Rattle.given.specs.Given.{rowsOf}
 use Rattle.given.specs.Rows.{rowAt, rows-end, rows-here}

@@ -27,7 +27,7 @@ use Rattle.grammar.specs.Legal.{ReferenceCharacter}
 use Rattle.grammar.specs.Parts.{reference-text as text-of}
 use Rattle.letters.specs.Characters.{isLetter, isDigit, isLetterOrDigit, isReference, isSigner, all, isCountry}
 use Rattle.letters.specs.Characters.Grammar.{reference-of, all-of}
-use Rattle.items.specs.Cases.{versionOf}
+use Rattle.given.specs.Given.{versionOf}
 use Rattle.given.specs.Tests.{isVersion}
 use Rattle.writer.specs.Steps.{Named, spelled, sixOf}
 

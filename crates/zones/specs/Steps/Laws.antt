@@ -8,13 +8,13 @@ use borrow.Author.Tests.{lt-ltb, le-ltb}
 use mathlib.Core.List.{List}
 use lib.ListN.{length, take, drop}
 use Rattle.dates.specs.declared.Date.{Date}
-use Rattle.grammar.specs.Content.{Version}
+use Rattle.versions.specs.declared.Version.{Version}
 use Rattle.verdict.specs.Items.{Item, is, not, next, whole, mark, version, country, names, date, last, derLength, Names}
 use Rattle.verdict.specs.Items.Laws.{unread}
 use Rattle.verdict.specs.Items.Sound.{same-value, same-place}
-use Rattle.items.specs.Cases.{through, edition, versionOf, valueOr}
+use Rattle.items.specs.Cases.{through, valueOr}
 use Rattle.names.specs.Cases.{Measured, measured, textOver}
-use Rattle.items.specs.Cases.Laws.{version-back, Past, judged}
+use Rattle.items.specs.Cases.Laws.{Past, judged}
 use Rattle.verdict.specs.Judge.{isSignature, signature, rawIn}
 use Rattle.zones.specs.Steps.{Fields, fields, codeIn, namesIn, dated}
 
@@ -27,24 +27,13 @@ pub through-unread : {A B : Type 0} (f : A → B) (i : Item A) (number place : �
 through-unread f (is a at) number place e = absurd (unread number place (f a) at e)
 through-unread f (not n p) number place e = ap unreadOf e
 
--- a version that was read as a number
-version-read : (i : Item Version) (v at : ℕ) → is v at ≡ through edition i → is (versionOf v) at ≡ i
-version-read (is w p) v at e = ap₂ is (ap versionOf (same-value v (edition w) at p e) ∙ version-back w) (same-place v (edition w) at p e)
-version-read (not number place) v at e = absurd (unread number place v at (sym e))
-
-version-number : (i : Item Version) (v at : ℕ) → is v at ≡ through edition i → edition (versionOf v) ≡ v
-version-number (is w p) v at e =
-    let same = same-value v (edition w) at p e in
-    ap (λ n. edition (versionOf n)) same ∙ ap edition (version-back w) ∙ sym same
-version-number (not number place) v at e = absurd (unread number place v at (sym e))
-
 -- what follows an item that is seen through a map
 through-next : {A B C : Type 0} (f : A → B) (i : Item A) (k : B → ℕ → Item C) → next (through f i) k ≡ next i (λ a at. k (f a) at)
 through-next f (is a at) k = refl
 through-next f (not number place) k = refl
 
 -- the names of fields that end with them
-names-back : (v : ℕ) (c : List ℕ) (i : Item Names) → i ≡ through namesIn (next i (λ n at. is (record { version = v; country = c; names = measured n }) at))
+names-back : (v : Version) (c : List ℕ) (i : Item Names) → i ≡ through namesIn (next i (λ n at. is (record { version = v; country = c; names = measured n }) at))
 names-back v c (is n at) = refl
 names-back v c (not number place) = refl
 
@@ -65,36 +54,32 @@ module _ (s : List ℕ) where
   fields-mark number place e0 = rw (sym e0) refl
 
   module _ (p0 : ℕ) (e0 : is tt p0 ≡ mark 0 s) where
-    pub fields-version : (number place : ℕ) → not number place ≡ through edition (version p0 s) → not number place ≡ fields s
+    pub fields-version : (number place : ℕ) → not number place ≡ version p0 s → not number place ≡ fields s
     unfolding fields
-    fields-version number place e1 = rw (sym e0, sym (through-unread edition (version p0 s) number place e1)) refl
+    fields-version number place e1 = rw (sym e0, sym e1) refl
 
-    module _ (v p1 : ℕ) (e1 : is v p1 ≡ through edition (version p0 s)) where
-      read-version : version p0 s ≡ is (versionOf v) p1
-      read-version = sym (version-read (version p0 s) v p1 e1)
-
+    module _ (v : Version) (p1 : ℕ) (e1 : is v p1 ≡ version p0 s) where
       pub fields-country : (number place : ℕ) → not number place ≡ country p1 s → not number place ≡ fields s
       unfolding fields
-      fields-country number place e2 = rw (sym e0, read-version, sym e2) refl
+      fields-country number place e2 = rw (sym e0, sym e1, sym e2) refl
 
       module _ (c : List ℕ) (p2 : ℕ) (e2 : is c p2 ≡ country p1 s) where
         abbrev with-names : Measured → ℕ → Item Fields
-        with-names m at = is (record { version = edition (versionOf v); country = c; names = m }) at
+        with-names m at = is (record { version = v; country = c; names = m }) at
 
-        after-country : next (through measured (names (versionOf v) p2 s)) with-names ≡ fields s
+        after-country : next (through measured (names v p2 s)) with-names ≡ fields s
         unfolding fields
-        after-country = rw (sym e0, read-version, sym e2) (through-next measured (names (versionOf v) p2 s) with-names)
+        after-country = rw (sym e0, sym e1, sym e2) (through-next measured (names v p2 s) with-names)
 
-        pub names-reached : names (versionOf v) p2 s ≡ through namesIn (fields s)
+        pub names-reached : names v p2 s ≡ through namesIn (fields s)
         unfolding fields
-        names-reached = rw (sym e0, read-version, sym e2) (names-back (edition (versionOf v)) c (names (versionOf v) p2 s))
+        names-reached = rw (sym e0, sym e1, sym e2) (names-back v c (names v p2 s))
 
-        pub fields-names : (number place : ℕ) → not number place ≡ through measured (names (versionOf v) p2 s) → not number place ≡ fields s
+        pub fields-names : (number place : ℕ) → not number place ≡ through measured (names v p2 s) → not number place ≡ fields s
         fields-names number place e3 = ap (λ i. next i with-names) e3 ∙ after-country
 
-        pub fields-all : (m : Measured) (p3 : ℕ) → is m p3 ≡ through measured (names (versionOf v) p2 s) → is (record { version = v; country = c; names = m }) p3 ≡ fields s
-        fields-all m p3 e3 =
-            ap (λ n. is (record { version = n; country = c; names = m }) p3) (sym (version-number (version p0 s) v p1 e1)) ∙ ap (λ i. next i with-names) e3 ∙ after-country
+        pub fields-all : (m : Measured) (p3 : ℕ) → is m p3 ≡ through measured (names v p2 s) → is (record { version = v; country = c; names = m }) p3 ≡ fields s
+        fields-all m p3 e3 = ap (λ i. next i with-names) e3 ∙ after-country
 
 -- the fields from the dates on
 module _ (s : List ℕ) (at : ℕ) where

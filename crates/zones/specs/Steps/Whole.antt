@@ -9,9 +9,8 @@ use Rattle.grammar.specs.Content.{Version, Header}
 use Rattle.verdict.specs.Items.{Item, is, not, next, mark, version, country, names, date, last, Names}
 use Rattle.verdict.specs.Items.Laws.{unread}
 use Rattle.verdict.specs.Items.Sound.{steps, same-value, same-place}
-use Rattle.items.specs.Cases.{through, edition, versionOf}
+use Rattle.items.specs.Cases.{through}
 use Rattle.names.specs.Cases.{measured}
-use Rattle.items.specs.Cases.Laws.{version-back}
 use Rattle.verdict.specs.Judge.{Row, header}
 use Rattle.zones.specs.Steps.{Fields, Dated, fields, dated}
 
@@ -25,7 +24,7 @@ next-same (is a at) f g e = e a at
 next-same (not number place) f g e = refl
 
 abbrev pub headerOf : Fields → Dated → Header
-headerOf f d = record { version = versionOf (f .version); country = f .country; signer = f .names .names .signer; reference = f .names .names .reference; issued = d .issued; signed = d .signed; definition = d .definition; category = d .category }
+headerOf f d = record { version = f .version; country = f .country; signer = f .names .names .signer; reference = f .names .names .reference; issued = d .issued; signed = d .signed; definition = d .definition; category = d .category }
 
 -- what follows each item, in the header and in the two steps
 module _ (s : List ℕ) where
@@ -48,7 +47,7 @@ module _ (s : List ℕ) where
   dated1 issued at = next (date at s) (dated2 issued)
 
   fields4 : Version → List ℕ → Names → ℕ → Item Fields
-  fields4 v c n at = is (record { version = edition v; country = c; names = measured n }) at
+  fields4 v c n at = is (record { version = v; country = c; names = measured n }) at
 
   fields3 : Version → List ℕ → ℕ → Item Fields
   fields3 v c at = next (names v at s) (fields4 v c)
@@ -83,10 +82,10 @@ module _ (s : List ℕ) where
   header1 : Unit {0} → ℕ → Item Header
   header1 dc at = next (version at s) header2
 
-  dated-step : (v : Version) (c : List ℕ) (n : Names) (at : ℕ) → next (dated at s) (with-dated (record { version = edition v; country = c; names = measured n })) ≡ next (date at s) (header5 v c n)
+  dated-step : (v : Version) (c : List ℕ) (n : Names) (at : ℕ) → next (dated at s) (with-dated (record { version = v; country = c; names = measured n })) ≡ next (date at s) (header5 v c n)
   unfolding dated dated1 dated2 dated3 dated4 header5 header6 header7 header8
   dated-step v c n at =
-      let k = with-dated (record { version = edition v; country = c; names = measured n }) in
+      let k = with-dated (record { version = v; country = c; names = measured n }) in
       next-next (date at s) dated1 k
       ∙ next-same (date at s) (λ i at. next (dated1 i at) k) (header5 v c n)
       (λ i at. next-next (date at s) (dated2 i) k
@@ -95,7 +94,7 @@ module _ (s : List ℕ) where
       ∙ next-same (last at s) (λ d at. next (dated3 i g d at) k) (header7 v c n i g)
       (λ d at. next-next (last at s) (dated4 i g d) k
       ∙ next-same (last at s) (λ e at. next (dated4 i g d e at) k) (header8 v c n i g d)
-      (λ e at. ap (λ w. is (record { version = w; country = c; signer = n .signer; reference = n .reference; issued = i; signed = g; definition = d; category = e }) at) (version-back v)))))
+      (λ e at. refl))))
 
   pub header-split : next (fields s) then-dated ≡ header s
   unfolding header fields header1 header2 header3 header4 header5 header6 header7 header8 fields1 fields2 fields3 fields4
@@ -111,12 +110,12 @@ module _ (s : List ℕ) where
       ∙ next-same (names v at s) (λ n at. next (fields4 v c n at) k) (header4 v c)
       (λ n at. dated-step v c n at))))
 
--- the fields that were read have their version as 3 or 4, and the reference's length beside it
+-- the fields that were read have the reference's length beside it
 abbrev pub Known : Fields → Type 0
-Known f = (f .version ≡ edition (versionOf (f .version))) × (f .names .length ≡ length (f .names .names .reference))
+Known f = f .names .length ≡ length (f .names .names .reference)
 
-known : (v : Version) (c : List ℕ) (n : Names) → Known (record { version = edition v; country = c; names = measured n })
-known v c n = (ap edition (sym (version-back v)), refl)
+known : (v : Version) (c : List ℕ) (n : Names) → Known (record { version = v; country = c; names = measured n })
+known v c n = refl
 
 pub fields-known : (s : List ℕ) (f : Fields) (at : ℕ) → is f at ≡ fields s → Known f
 unfolding fields fields1 fields2 fields3 fields4
@@ -126,7 +125,7 @@ fields-known s f at e =
     let v = i1 .value in
     let i2 = steps (country (i1 .at) s) (fields3 s v) f at (i1 .goes-on) in
     let i3 = steps (names v (i2 .at) s) (fields4 s v (i2 .value)) f at (i2 .goes-on) in
-    let g : Fields = record { version = edition v; country = i2 .value; names = measured (i3 .value) } in
+    let g : Fields = record { version = v; country = i2 .value; names = measured (i3 .value) } in
     subst Known (same-value g f (i3 .at) at (i3 .goes-on)) (known v (i2 .value) (i3 .value))
 
 -- rows that were counted

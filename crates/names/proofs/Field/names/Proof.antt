@@ -7,7 +7,6 @@ use denote.Ref.{now}
 use lib.ListN.{length}
 use lib.Seq.{length-take-le}
 use Rattle.verdict.specs.Items.{names}
-use Rattle.items.specs.Cases.{versionOf}
 use Rattle.names.specs.Cases.{namesOf}
 use Rattle.names.specs.Cases.Lent.{names-kept, Found, found-names, found-room, names-given}
 use Rattle.names.proofs.Field.names.Statement.{statement}
@@ -19,7 +18,7 @@ whole c = let on = c .before .before .before .before in omega arith
 found-in : (c : tie.After-known-told) →
     let on = c .before .before .before .before in
     let a = on .before .before .before .args in
-    Found (on .names-in .last .1 .1 .1 .0) (c .before .names .given .0 .0) (c .before .names .given .0 .1 .0 .place) (names (versionOf (a .version)) (a .self .place) (now (a .seal)))
+    Found (on .names-in .last .1 .1 .1 .0) (c .before .names .given .0 .0) (c .before .names .given .0 .1 .0 .place) (names (a .version) (a .self .place) (now (a .seal)))
 found-in c =
     let on = c .before .before .before .before in
     found-names (on .names-in .last .1 .1 .1 .0) _ _ _ (sym (ap (namesOf (on .names-in .last .1 .1 .1 .0)) (c .before .names .given .1)) ∙ on .names-in .ensures)
@@ -30,7 +29,7 @@ returns c =
     let a = on .before .before .before .args in
     let found = on .names-in .last .1 .1 .1 .0 in
     let e = sym (ap (namesOf found) (c .enum-told .given .1)) ∙ on .names-in .ensures in
-    let k = names-kept (a .text .now) (c .enum-told .given .0 .0) (names (versionOf (a .version)) (a .self .place) (now (a .seal))) e in
+    let k = names-kept (a .text .now) (c .enum-told .given .0 .0) (names (a .version) (a .self .place) (now (a .seal))) e in
     (ap (namesOf (a .text .now)) (c .enum-told .given .1) ∙ k .0, k .1)
 
 add-end : tie.Need-add-end

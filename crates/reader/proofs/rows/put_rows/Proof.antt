@@ -10,14 +10,14 @@ use denote.Ref.{now}
 use lib.ListN.{length, length-set}
 use Rattle.grammar.specs.Content.{Version}
 use Rattle.verdict.specs.Items.{is, byte, plainIn, featureLength}
-use Rattle.items.specs.Cases.{versionOf, byteOf, numberOf}
+use Rattle.items.specs.Cases.{byteOf, numberOf}
 use Rattle.zones.proofs.Says.{number-says}
 use Rattle.reader.proofs.rows.put_rows.Proof.Turn.{Put, put-start, put-length, put-end, put-tag, put-size, put-value, put-more}
 use Rattle.reader.proofs.rows.put_rows.Statement.{statement}
 use Rattle.reader.proofs.rows.put_rows.Tie as tie
 
 abbrev Inv-loop : tie.InvT-loop
-Inv-loop seal version count table₀ at₀ i₀ table at i = Put (versionOf version) seal count at₀ table₀ table at i
+Inv-loop seal version count table₀ at₀ i₀ table at i = Put version seal count at₀ table₀ table at i
 
 abbrev μ-loop : tie.MeasureT-loop
 μ-loop seal version count table₀ at₀ i₀ table at i = count - i
@@ -27,7 +27,7 @@ abbrev sealAt : tie.At-loop Inv-loop μ-loop → List ℕ
 sealAt c = now (c .before .before .before .args .seal)
 
 abbrev versionAt : tie.At-loop Inv-loop μ-loop → Version
-versionAt c = versionOf (c .before .before .before .args .version)
+versionAt c = c .before .before .before .args .version
 
 -- the tag that was read, and its length
 tag-read : (c : tie.After-known-told Inv-loop μ-loop) → let on = c .before .before .before .before .before in is (c .before .tag .given .0 .0) (c .before .tag .given .0 .1 .0 .place) ≡ byte (on .loop .at) (sealAt on) (plainIn (on .loop .at))

@@ -8,7 +8,7 @@ use lib.ListN.{length}
 use Rattle.format.specs.Buffer.{over}
 use Rattle.format.specs.Buffer.Laws.{length-over}
 use Rattle.grammar.specs.Publish.{feature}
-use Rattle.items.specs.Cases.{versionOf}
+use Rattle.given.specs.Given.{versionOf}
 use Rattle.writer.specs.Put.{feature-room, value-room, put-feature}
 use Rattle.writer.proofs.put.put_feature.Statement.{statement}
 use Rattle.writer.proofs.put.put_feature.Tie as tie

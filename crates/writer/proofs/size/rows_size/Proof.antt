@@ -4,7 +4,7 @@ use native.Mathlib.Omega.{arith}
 use Prim.Native.Nat.{_+_, _-_, _≤_}
 use denote.Ref.{now}
 use lib.ListN.{length, getD}
-use Rattle.items.specs.Cases.{versionOf}
+use Rattle.given.specs.Given.{versionOf}
 use Rattle.writer.specs.Sizes.Laws.{Summed, summed-start, summed-end, summed-great, summed-past, summed-more, width-small}
 use Rattle.writer.proofs.size.rows_size.Statement.{statement}
 use Rattle.writer.proofs.size.rows_size.Tie as tie

@@ -13,7 +13,7 @@ use borrow.Author.Count.{below-none, below-more}
 use Rattle.format.specs.Bytes.{Bytes}
 use Rattle.grammar.specs.Content.{Version}
 use Rattle.verdict.specs.Items.{is, byte, plainIn, featureLength}
-use Rattle.items.specs.Cases.{versionOf, byteOf, wholeOf, numberOf}
+use Rattle.items.specs.Cases.{byteOf, wholeOf, numberOf}
 use Rattle.zones.proofs.Says.{number-says}
 use Rattle.zones.proofs.features.read_features.Proof.Turn.{Kept, kept-start, kept-cut, kept-end, kept-again, kept-most, New, new-unsized, new-small, new-room, new-short, new-more}
 use Rattle.zones.proofs.features.read_features.Statement.{statement}
@@ -26,7 +26,7 @@ abbrev μ-loop : tie.MeasureT-loop
 μ-loop seal version tags count at tag next i₀ i = count - i
 
 abbrev Inv-rows : tie.InvT-rows
-Inv-rows seal version tags₀ count₀ at₀ tags count at = Kept (versionOf version) seal at₀ tags count at
+Inv-rows seal version tags₀ count₀ at₀ tags count at = Kept version seal at₀ tags count at
 
 abbrev μ-rows : tie.MeasureT-rows
 μ-rows seal version tags₀ count₀ at₀ tags count at = 255 - count
@@ -36,7 +36,7 @@ abbrev sealAt : tie.At-rows Inv-loop μ-loop Inv-rows μ-rows → List ℕ
 sealAt c = now (c .before .before .args .seal)
 
 abbrev versionAt : tie.At-rows Inv-loop μ-loop Inv-rows μ-rows → Version
-versionAt c = versionOf (c .before .before .args .version)
+versionAt c = c .before .before .args .version
 
 -- the tag that was read
 tag-read : (c : tie.After-known-told Inv-loop μ-loop Inv-rows μ-rows) → let on = c .before .before .before .before in is (c .before .tag .given .0 .0) (c .before .tag .given .0 .1 .0 .place) ≡ byte (on .rows .at) (sealAt on) (plainIn (on .rows .at))

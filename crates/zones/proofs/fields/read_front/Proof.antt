@@ -5,12 +5,12 @@ use mathlib.Core.Path.{_≡_, _∙_, ap, sym}
 use mathlib.Core.List.{[]}
 use denote.Ref.{now}
 use Rattle.verdict.specs.Items.{is, not, mark, version, country, names}
-use Rattle.items.specs.Cases.{stepOf, numberOf, whyOf, through, edition, versionOf}
+use Rattle.items.specs.Cases.{stepOf, editionOf, whyOf, through}
 use Rattle.names.specs.Cases.{namesOf, measured, textOver}
 use Rattle.names.specs.declared.Names.the-variants as read
 use Rattle.zones.specs.Steps.{fields, namesIn}
 use Rattle.zones.specs.Steps.Laws.{fields-mark, fields-version, fields-country, fields-names, fields-all, names-reached, code-kept, code-given, text-kept}
-use Rattle.zones.proofs.Says.{step-says, number-says}
+use Rattle.zones.proofs.Says.{step-says, edition-says}
 use Rattle.zones.proofs.fields.read_front.Statement.{statement}
 use Rattle.zones.proofs.fields.read_front.Tie as tie
 
@@ -19,10 +19,10 @@ read-mark c = sym (ap (stepOf 3 0 tt) (c .before .mark2 .given .1)) ∙ c .befor
 
 read-version : (c : tie.After-known-told2) →
     let told = c .before .before .before .before in
-    is (c .before .version2 .given .0 .0) (c .before .version2 .given .0 .1 .0 .place) ≡ through edition (version (told .before .mark2 .given .0 .0 .place) (now (told .before .before .before .before .before .args .seal)))
+    is (c .before .version2 .given .0 .0) (c .before .version2 .given .0 .1 .0 .place) ≡ version (told .before .mark2 .given .0 .0 .place) (now (told .before .before .before .before .before .args .seal))
 read-version c =
     let told = c .before .before .before .before in
-    sym (ap (numberOf 4 (told .before .mark2 .given .0 .0 .place)) (c .before .version2 .given .1)) ∙ c .before .before .before .version .ensures
+    sym (ap (editionOf (told .before .mark2 .given .0 .0 .place)) (c .before .version2 .given .1)) ∙ c .before .before .before .version .ensures
 
 read-country : (c : tie.After-known-told3) →
     let on = c .before .before .before in
@@ -38,7 +38,7 @@ read-names : (c : tie.After-known-told4) →
     let told3 = on .before .before in
     let told2 = told3 .before .before .before .before .before in
     let g = c .before .read .given .0 in
-    namesOf (on .names .last .1 .1 .1 .0) (read.Are (g .0) (g .1 .0)) ≡ through measured (names (versionOf (told2 .before .version2 .given .0 .0)) (told3 .before .code .given .0 .0 .place) (now (told2 .before .before .before .before .before .before .before .before .before .args .seal)))
+    namesOf (on .names .last .1 .1 .1 .0) (read.Are (g .0) (g .1 .0)) ≡ through measured (names (told2 .before .version2 .given .0 .0) (told3 .before .code .given .0 .0 .place) (now (told2 .before .before .before .before .before .before .before .before .before .args .seal)))
 read-names c =
     let on = c .before .before .before in
     sym (ap (namesOf (on .names .last .1 .1 .1 .0)) (c .before .read .given .1)) ∙ on .names .ensures .0
@@ -53,7 +53,7 @@ returns c =
 returns-2 : tie.Need-returns-2
 returns-2 c =
     let on = c .before .before in
-    let e1 = number-says 4 _ (on .version .result) (c .refusal2 .result) (c .before .match2 .keys2) (c .refusal2 .ensures) ∙ on .version .ensures in
+    let e1 = edition-says _ (on .version .result) (c .refusal2 .result) (c .before .match2 .keys2) (c .refusal2 .ensures) ∙ on .version .ensures in
     let item = fields-version _ _ (read-mark (on .before)) _ _ e1 in
     (item, (code-kept _ _ _ item _, text-kept _ _ _ item _))
 
