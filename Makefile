@@ -108,6 +108,7 @@ vectors:
 	@python3 vectors/der_cases.py crates/vectors_signatures signatures
 	@python3 -B vectors/seal_cases.py crates/vectors_seals
 	@python3 -B vectors/write_cases.py crates/vectors_writing
+	@python3 -B vectors/listing_cases.py crates/vectors_listing
 
 # Builds nothing, so that it can be run by another user than the one who built. Each call has a page that leads to the
 # library's.

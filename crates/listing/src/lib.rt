@@ -1,5 +1,6 @@
 // The listing of a seal (document 01, "A whole seal and its listing"), put as text into a lent buffer.
 ghost use mathlib.Core.Path.{_≡_};
+ghost use Prim.Native.Nat.{_≤_};
 ghost use lib.ListN.{length};
 ghost use Rattle.format.specs.Answers.{done, filled};
 ghost use Rattle.verdict.specs.Judge.{judge};
@@ -65,6 +66,7 @@ fn put_listing(reading: Reading, table: &[usize], text: &[u8], out: &mut [u8]) -
 pub fn list(seal: &[u8], out: &mut [u8; ROOM]) -> usize
     ensures count { λ r. ⌜ r ≡ length (listed (judge (now (seal .entry)))) ⌝ }
     ensures text { λ r. ⌜ now (out .exit) ≡ filled (done (listed (judge (now (seal .entry))))) (now (out .entry)) ⌝ }
+    ensures room { λ r. do ⌜ length (listed (judge (now (seal .entry)))) ≤ (← ⟦ROOM⟧ .entry) ⌝ }
     ensures enough { λ r. do ⌜ Enough (← ⟦READ⟧ .entry) ⌝ }
 {
     let mut table = [0usize; NUMBERS];

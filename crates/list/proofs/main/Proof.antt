@@ -52,7 +52,7 @@ list-requires : tie.Need-list-requires
 list-requires c κs = search needs
 
 put : (c : tie.After-list) → Counts (c .list .result) (c .list .last .1 .0)
-put c = listed-counts _ _ _ _ (c .list .ensures .0) (c .list .ensures .1 .0)
+put c = listed-counts _ _ _ (c .list .ensures .1 .0) _ (c .list .ensures .0)
 
 array-share-prefix-out : tie.Need-array-share-prefix-out
 array-share-prefix-out c = put c .0

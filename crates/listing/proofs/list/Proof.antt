@@ -33,7 +33,7 @@ returns c =
     let known = c .before .before .before .before .before .before .before .before .before in
     let s = known .before in
     let held = whole (now (s .args .seal)) (λ i. known .shared-slice-known .given i .fits) _ _ _ _ (read .result) (omega (arith, read .ok)) (read .ensures .0) (read .ensures .1 .0) (read .ensures .1 .1) (now (s .args .out)) _ (put .result) (omega (arith, s .good)) (put .ensures) in
-    (held .0, (held .1, enough))
+    (held .0, (held .1 .0, (held .1 .1, enough)))
 
 pub list-spec : {M : Type 1} → statement M
 list-spec =

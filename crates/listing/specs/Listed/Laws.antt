@@ -6,7 +6,7 @@ use native.Mathlib.Omega.{arith}
 use native.Mathlib.Decide.{decLe}
 use borrow.Author.Tests.{ne-eqb}
 use mathlib.Core.List.{List, [], _∷_, _++_, append-assoc}
-use lib.ListN.{length, take, drop, length-append, length-take}
+use lib.ListN.{length, take, drop, length-append, length-take, length-drop}
 use lib.Seq.{take-at, drop-at, take-all}
 use Rattle.format.specs.Choice.{pick}
 use Rattle.format.specs.Bytes.{Bytes}
@@ -93,13 +93,18 @@ word-of (refused number place) h = h
 
 -- the call: what a reading with so much table and text leaves, put down in a buffer with room for every listing
 module _ (s : List ℕ) (bytes : Bytes s) (t x t′ x′ : List ℕ) (q : Reading) (small : q .place < 18446744073709551616) where
-  pub whole : q ≡ answerOf (reading s 765 259) → t′ ≡ then (rowsIn (reading s 765 259)) t → x′ ≡ then (textIn (reading s 765 259)) x → (old new : List ℕ) (count : ℕ) → length old ≡ 8562 → Put old 0 (listing q t′ x′) new count → (count ≡ length (listed (judge s))) × (new ≡ filled (done (listed (judge s))) old)
+  pub whole : q ≡ answerOf (reading s 765 259) → t′ ≡ then (rowsIn (reading s 765 259)) t → x′ ≡ then (textIn (reading s 765 259)) x → (old new : List ℕ) (count : ℕ) → length old ≡ 8562 → Put old 0 (listing q t′ x′) new count → (count ≡ length (listed (judge s))) × ((new ≡ filled (done (listed (judge s))) old) × (length (listed (judge s)) ≤ 8562))
   whole e f g old new count long p =
       let word = word-of (judge s) (subst (λ r. r .place < 18446744073709551616) (e ∙ ap answerOf (never-12 s bytes)) small) in
+      let most = room s bytes word in
       let is : listing q t′ x′ ≡ listed (judge s) = ap (λ r. listing r t′ x′) e ∙ ap₂ (listing (answerOf (reading s 765 259))) f g ∙ listing-listed s bytes t x in
-      let held = put-whole old 0 (listed (judge s)) new count (subst (λ l. Put old 0 l new count) is p) (omega (arith, room s bytes word)) in
-      (omega (arith, held .1), held .0 ∙ over-start old (listed (judge s)))
+      let held = put-whole old 0 (listed (judge s)) new count (subst (λ l. Put old 0 l new count) is p) (omega (arith, most)) in
+      (omega (arith, held .1), (held .0 ∙ over-start old (listed (judge s)), most))
 
--- for whoever calls it: the count lies within the buffer
-pub listed-counts : (n : ℕ) (s out after : List ℕ) → n ≡ length (listed (judge s)) → after ≡ filled (done (listed (judge s))) out → Counts n after
-listed-counts n s out after e f = counts-filled n (listed (judge s)) out after e f
+-- for whoever calls it: the count lies within the buffer, which keeps its length
+module _ (s out after : List ℕ) (f : after ≡ filled (done (listed (judge s))) out) where
+  pub listed-counts : (n : ℕ) → n ≡ length (listed (judge s)) → Counts n after
+  listed-counts n e = counts-filled n (listed (judge s)) out after e f
+
+  pub listed-length : length (listed (judge s)) ≤ length out → length out ≡ length after
+  listed-length h = let text = listed (judge s) in omega (arith, ap length f, length-append text (drop (length text) out), length-drop (length text) out)
