@@ -1,5 +1,5 @@
-// The listing program (document 01, "A whole seal and its listing"): a seal on standard input, its listing on standard output. What it prints is what
-// `listing::list` promises.
+// The listing program (document 01, "A whole seal and its listing"): a seal on standard input, its listing on standard output.
+// What it prints is what `listing::list` promises.
 ghost use Rattle.list.specs.Input.{Given};
 use libc::STDERR_FILENO;
 use libc::STDIN_FILENO;

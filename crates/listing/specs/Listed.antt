@@ -64,5 +64,5 @@ listed (accepted r) =
 listed (refused number place) = line "refused " (decimalOf number then ascii " at " then decimalOf place)
 
 -- reading so many bytes of an input is enough: what is listed of them is what is listed of all
-abbrev pub Enough : ℕ → Type 0
-Enough n = (s : List ℕ) → listed (judge (take n s)) ≡ listed (judge s)
+pub record Enough (n : ℕ) : Type 0 where
+  pub same : (s : List ℕ) → listed (judge (take n s)) ≡ listed (judge s)

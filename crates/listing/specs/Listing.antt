@@ -1,4 +1,4 @@
--- What the code puts down for a reading, with the rows of the table and the text: of a seal with room enough it is the listing (Listed.antt).
+-- What the code puts down for a reading, with the rows of the table and the text: where these have room it is the listing (Listed.antt).
 -- Assumes nothing.
 pub mod Laws
 use Prim.Native.Nat.{ℕ, zero, suc}

@@ -5,7 +5,7 @@ use native.Mathlib.Omega.{arith}
 use native.Mathlib.Nat.{pow-suc}
 use native.Mathlib.Decide.{decLe}
 use borrow.Author.Tests.{lt-ltb, le-ltb}
-use mathlib.Core.Path.{_≡_, refl, ap, sym, subst, _∙_}
+use mathlib.Core.Path.{_≡_, refl, ap, sym, subst}
 use mathlib.Core.List.{List, [], _∷_, _++_}
 use lib.ListN.{length, length-append}
 use Rattle.format.specs.Bytes.{Bytes}
@@ -24,8 +24,8 @@ use Rattle.verdict.specs.Judge.Complete.{reportOf, size-small}
 use Rattle.verdict.specs.Judge.Features.{rowsOf, feature-parts}
 use Rattle.verdict.specs.Judge.Numbers.{FromList, from-list}
 use Rattle.verdict.specs.Judge.Seals.{accepted-only}
-use Rattle.lines.specs.Line.{digits, decimalOf, ascii}
-use Rattle.listing.specs.Listed.{line, lineOf, zeroBelow, two, four as fourDigits, day, part, feature, featureLines, listed}
+use Rattle.lines.specs.Line.{digits, decimalOf, ascii, _then_}
+use Rattle.listing.specs.Listed.{line, two, four as fourDigits, day, part, feature, featureLines, listed}
 
 -- a number below 10 ^ k has at most k digits
 digits-turn : (k j n : ℕ) → n < 10 ^ suc (suc k) → length (digits j (n / 10)) ≤ suc k → Dec (10 ≤ n) → length (digits (suc j) n) ≤ suc (suc k)
@@ -75,7 +75,8 @@ joined y m d p q r = simp length-append (omega arith)
 day-size : (d : Date) → Day d → length (day d) ≤ 10
 day-size d h =
     let b = day-bounds d h in
-    joined (fourDigits (d .year)) (two (d .month)) (two (d .day)) (four-size (d .year) (omega arith)) (two-size (d .month) (omega arith)) (two-size (d .day) (omega arith))
+    joined (fourDigits (d .year)) (two (d .month)) (two (d .day))
+    (four-size (d .year) (omega arith)) (two-size (d .month) (omega arith)) (two-size (d .day) (omega arith))
 
 -- where a part stands, by the digits of its length, and the line of a feature
 part-size : (k place size : ℕ) → place < 10000 → size < 10 ^ suc k → length (part place size) ≤ 16 + suc k
@@ -84,7 +85,11 @@ part-size k place size h g = simp length-append (omega (arith, decimal-size 3 pl
 feature-size : (tag place size : ℕ) → tag < 1000 → place < 10000 → size < 10000 → length (feature tag place size) ≤ 32
 feature-size tag place size h g f = simp length-append (omega (arith, decimal-size 2 tag h, decimal-size 3 place g, decimal-size 3 size f))
 
-rows-size : (v : Version) (fs : List Feature) (tags t : List ℕ) (at : ℕ) → LegalFeatures v tags fs → at + length (messageZone v fs ++ t) ≤ 4096 → length (featureLines (rowsOf v at fs)) ≤ 32 * length fs
+rows-size :
+    (v : Version) (fs : List Feature) (tags t : List ℕ) (at : ℕ) →
+    LegalFeatures v tags fs →
+    at + length (messageZone v fs ++ t) ≤ 4096 →
+    length (featureLines (rowsOf v at fs)) ≤ 32 * length fs
 unfolding featureLines rowsOf
 rows-size v [] tags t at l h = omega arith
 rows-size v (f ∷ fs) tags t at l h =
@@ -109,7 +114,26 @@ reference-size three n h = omega arith
 reference-size four n h = h .1
 
 -- the eleven parts of a listing
-eleven : (v c s r i g d k f z : List ℕ) → length v ≤ 1 → length c ≤ 3 → length s ≤ 4 → length r ≤ 255 → length i ≤ 10 → length g ≤ 10 → length d ≤ 3 → length k ≤ 3 → length f ≤ 8160 → length z ≤ 19 → length (line "accepted" [] ++ (line "version " v ++ (line "country " c ++ (line "signer " s ++ (line "reference " r ++ (line "issued " i ++ (line "signed " g ++ (line "definition " d ++ (line "category " k ++ (f ++ line "signature" z)))))))))) ≤ 8562
+abbrev joint : List ℕ → List ℕ → List ℕ → List ℕ → List ℕ → List ℕ → List ℕ → List ℕ → List ℕ → List ℕ → List ℕ
+joint v c s r i g d k f z =
+    line "accepted" []
+    then line "version " v
+    then line "country " c
+    then line "signer " s
+    then line "reference " r
+    then line "issued " i
+    then line "signed " g
+    then line "definition " d
+    then line "category " k
+    then f
+    then line "signature" z
+
+eleven :
+    (v c s r i g d k f z : List ℕ) →
+    length v ≤ 1 → length c ≤ 3 → length s ≤ 4 → length r ≤ 255 → length i ≤ 10 → length g ≤ 10 → length d ≤ 3 → length k ≤ 3 →
+    length f ≤ 8160 →
+    length z ≤ 19 →
+    length (joint v c s r i g d k f z) ≤ 8562
 eleven v c s r i g d k f z p0 p1 p2 p3 p4 p5 p6 p7 p8 p9 = simp length-append (omega arith)
 
 accepted-size : (c : Content) → Legal c → length (listed (accepted (reportOf c))) ≤ 8562
@@ -125,7 +149,9 @@ accepted-size c l =
     let size = l .size in
     let few = features-most c l in
     let rows = rows-size (h .version) (c .features) [] [] at (l .features) (omega arith) in
-    eleven (decimalOf (versionNumber (h .version))) (h .country) (h .signer) (h .reference) (day (h .issued)) (day (h .signed)) (decimalOf (h .definition)) (decimalOf (h .category)) (featureLines (rowsOf (h .version) at (c .features))) (part start (length (c .signature)))
+    eleven (decimalOf (versionNumber (h .version))) (h .country) (h .signer) (h .reference) (day (h .issued)) (day (h .signed))
+    (decimalOf (h .definition)) (decimalOf (h .category))
+    (featureLines (rowsOf (h .version) at (c .features))) (part start (length (c .signature)))
     (version-size (h .version))
     (omega (arith, l .header .country .size))
     (omega (arith, l .header .signer .size))
@@ -147,7 +173,9 @@ unfolding listed
 verdict-size s bytes (accepted r) e l w =
     let seal = accepted-only s bytes r e in
     subst (λ q. length (listed (accepted q)) ≤ 8562) (sym (seal .report-is)) (accepted-size (seal .content) (seal .legal))
-verdict-size s bytes (refused number place) e l w = simp length-append (omega (arith, decimal-size 1 number (omega (arith, l .1)), decimal-size 19 place (omega arith)))
+verdict-size s bytes (refused number place) e l w =
+    simp length-append
+    (omega (arith, decimal-size 1 number (omega (arith, l .1)), decimal-size 19 place (omega arith)))
 
 pub room : (s : List ℕ) → Bytes s → Word (judge s) → length (listed (judge s)) ≤ 8562
 room s bytes w = verdict-size s bytes (judge s) refl (from-list s) w

@@ -52,7 +52,7 @@ fn put_refused(out: &mut [u8], at: usize, number: usize, place: usize) -> usize
     put(out, o, b'\n')
 }
 
-// The listing of a reading at the start of `out`, as far as there is room, and the count of bytes put there. `table` and `text` are what `reader::read` filled.
+// Puts the listing of a reading at the start of `out`, as far as there is room, and gives the count. `reader::read` filled the other two.
 fn put_listing(reading: Reading, table: &[usize], text: &[u8], out: &mut [u8]) -> usize
     ensures { λ r. ⌜ Put (now (out .entry)) 0 (listing reading (now (table .entry)) (now (text .entry))) (now (out .exit)) r ⌝ }
 {

@@ -1,4 +1,4 @@
-// Runs the cases of data/ through `listing::list` and writes for each the listing, and a line with the count and whether the rest of the buffer was kept.
+// Runs the cases of data/ through `listing::list` and writes for each the listing, and a line with the count and whether the rest was kept.
 ghost use Rattle.casefile.specs.Line.{Within, Counts};
 use casefile::at;
 use casefile::put_number;

@@ -1,4 +1,4 @@
--- The words of the numbers that a call answers: document 01's own, "The numbers a call answers", without the places. THE table: a line a number.
+-- THE table of the words of the numbers, a line a number: document 01's own ("The numbers a call answers"), without the places.
 -- Assumes nothing.
 pub mod Laws
 use Prim.Native.Nat.{ℕ}
@@ -75,9 +75,15 @@ unfoldable pub sought : ℕ → List Row → List ℕ
 sought n [] = []
 sought n (r ∷ rs) = pick (eqb n (r .number)) (ascii (r .words)) (sought n rs)
 
--- all rows
+-- the rows from a group on, and all of them
+abbrev pub fromCodecs : List Row
+fromCodecs = codecs ++ signatures
+
+abbrev pub fromWriter : List Row
+fromWriter = writer ++ fromCodecs
+
 abbrev pub table : List Row
-table = reader ++ writer ++ codecs ++ signatures
+table = reader ++ fromWriter
 
 -- the words of a number, as bytes
 abbrev pub wordsOf : ℕ → List ℕ

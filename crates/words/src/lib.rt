@@ -1,9 +1,8 @@
 // The words of the numbers that a call answers (document 01, "The numbers a call answers"), for programs that tell them to people.
 ghost use mathlib.Core.Path.{_≡_};
-ghost use mathlib.Core.List.{_++_};
 ghost use lib.ListN.{length};
 ghost use Rattle.format.specs.Answers.{told, filled};
-ghost use Rattle.words.specs.Words.{sought, writer, codecs, signatures};
+ghost use Rattle.words.specs.Words.{sought, fromWriter, fromCodecs, signatures};
 ghost use Rattle.format.specs.Order.{inRoom};
 ghost use Rattle.words.specs.Calls.{saying, toldOf, Longest};
 
@@ -52,8 +51,8 @@ fn put_signatures(number: usize, out: &mut [u8]) -> Told
 
 // Puts down the words of a number of C40 text or of those after it.
 fn put_codecs(number: usize, out: &mut [u8]) -> Told
-    ensures answer { λ r. ⌜ toldOf r ≡ told (inRoom 63 (sought number (codecs ++ signatures)) (length (now (out .entry)))) ⌝ }
-    ensures buffer { λ r. ⌜ now (out .exit) ≡ filled (inRoom 63 (sought number (codecs ++ signatures)) (length (now (out .entry)))) (now (out .entry)) ⌝ }
+    ensures answer { λ r. ⌜ toldOf r ≡ told (inRoom 63 (sought number fromCodecs) (length (now (out .entry)))) ⌝ }
+    ensures buffer { λ r. ⌜ now (out .exit) ≡ filled (inRoom 63 (sought number fromCodecs) (length (now (out .entry)))) (now (out .entry)) ⌝ }
 {
     match number {
         40 => put_all(b"C40 bytes odd in number", out),
@@ -68,8 +67,8 @@ fn put_codecs(number: usize, out: &mut [u8]) -> Told
 
 // Puts down the words of a number of the writer or of those after it.
 fn put_writer(number: usize, out: &mut [u8]) -> Told
-    ensures answer { λ r. ⌜ toldOf r ≡ told (inRoom 63 (sought number (writer ++ codecs ++ signatures)) (length (now (out .entry)))) ⌝ }
-    ensures buffer { λ r. ⌜ now (out .exit) ≡ filled (inRoom 63 (sought number (writer ++ codecs ++ signatures)) (length (now (out .entry)))) (now (out .entry)) ⌝ }
+    ensures answer { λ r. ⌜ toldOf r ≡ told (inRoom 63 (sought number fromWriter) (length (now (out .entry)))) ⌝ }
+    ensures buffer { λ r. ⌜ now (out .exit) ≡ filled (inRoom 63 (sought number fromWriter) (length (now (out .entry)))) (now (out .entry)) ⌝ }
 {
     match number {
         20 => put_all(b"writer: version not 3 or 4", out),
@@ -117,7 +116,7 @@ fn put_reader(number: usize, out: &mut [u8]) -> Told
     }
 }
 
-// Puts the words of a number down from the start of `out`: all of them, or none where there is no room. A number that no call gives has none.
+// Puts the words of a number down from the start of `out`: all of them, or none where there is no room. Another number has none.
 pub fn put_words(number: usize, out: &mut [u8]) -> Told
     ensures answer { λ r. ⌜ toldOf r ≡ told (saying number (length (now (out .entry)))) ⌝ }
     ensures buffer { λ r. ⌜ now (out .exit) ≡ filled (saying number (length (now (out .entry)))) (now (out .entry)) ⌝ }

@@ -2,7 +2,6 @@
 -- Assumes nothing.
 use borrow.Author.Needs.{needs}
 use native.Mathlib.Omega.{arith}
-use mathlib.Core.Path.{refl}
 use denote.Ref.{now}
 use Rattle.listing.specs.Listed.Laws.{whole, enough}
 use Rattle.listing.proofs.list.Statement.{statement}
@@ -32,8 +31,13 @@ returns c =
     let read = c .before .before .before .before .before .before .read in
     let known = c .before .before .before .before .before .before .before .before .before in
     let s = known .before in
-    let held = whole (now (s .args .seal)) (λ i. known .shared-slice-known .given i .fits) _ _ _ _ (read .result) (omega (arith, read .ok)) (read .ensures .0) (read .ensures .1 .0) (read .ensures .1 .1) (now (s .args .out)) _ (put .result) (omega (arith, s .good)) (put .ensures) in
-    (held .0, (held .1 .0, (held .1 .1, enough)))
+    let seal = now (s .args .seal) in
+    let held =
+    whole seal (λ i. known .shared-slice-known .given i .fits) _ _ _ _ (read .result) (omega (arith, read .ok))
+    _ _ (omega arith) (omega arith)
+    (read .ensures .0) (read .ensures .1 .0) (read .ensures .1 .1)
+    (now (s .args .out)) _ (put .result) (omega (arith, s .good)) (put .ensures) in
+    (held .0, (held .1 .0, (omega (arith, held .1 .1, s .good), enough (omega arith))))
 
 pub list-spec : {M : Type 1} → statement M
 list-spec =

@@ -1,7 +1,7 @@
 -- The listing of a verdict is what the code puts down for its reading.
 -- Assumes nothing.
 use mathlib.Core.Path.{_≡_, refl, ap, ap₂, sym, subst, _∙_}
-use Prim.Native.Nat.{ℕ, suc, _+_, _*_, _≤_, _<_}
+use Prim.Native.Nat.{ℕ, _≤_, _<_}
 use native.Mathlib.Omega.{arith}
 use native.Mathlib.Decide.{decLe}
 use borrow.Author.Tests.{ne-eqb}
@@ -14,11 +14,11 @@ use Rattle.format.specs.Answers.{done, filled}
 use Rattle.format.specs.Buffer.Laws.{over-start}
 use Rattle.lines.specs.Line.{Put, Counts}
 use Rattle.lines.specs.Line.Laws.{counts-filled, put-whole}
-use Rattle.verdict.specs.Judge.{Row, Report, Verdict, accepted, refused, judge}
+use Rattle.verdict.specs.Judge.{Row, Verdict, accepted, refused, judge}
 use Rattle.verdict.specs.Judge.Numbers.{FromList, from-list}
 use Rattle.reader.specs.Judged.{judge-long}
 use Rattle.reader.specs.Calls.{answerOf, table, given, reading, rowsIn, textIn, then}
-use Rattle.reader.specs.Calls.Reads.{Accepted, accepted-zero, both-fit}
+use Rattle.reader.specs.Calls.Reads.{accepted-zero, both-fit}
 use Rattle.reader.specs.declared.Reading.{Reading}
 use Rattle.listing.specs.Room.{Word, room}
 use Rattle.listing.specs.Listed.{featureLines, listed, feature, Enough}
@@ -44,27 +44,34 @@ abbrev pub Signed : Verdict → Type 0
 Signed (accepted r) = length (r .header .signer) ≡ 4
 Signed (refused number place) = Unit
 
-pub listing-is : (v : Verdict) (t x : List ℕ) → FromList v → Signed v → listing (answerOf v) (then (rowsIn v) t) (then (textIn v) x) ≡ listed v
+pub listing-is :
+    (v : Verdict) (t x : List ℕ) →
+    FromList v →
+    Signed v →
+    listing (answerOf v) (then (rowsIn v) t) (then (textIn v) x) ≡ listed v
 unfolding listed nameLines dateLines put.accepted
 listing-is (accepted r) t x l four =
     let h = r .header in
     let rest = drop (length (h .signer ++ h .reference)) x in
-    simp
-    (append-assoc, signer-is (h .signer) (h .reference) rest four, reference-is (h .signer) (h .reference) rest four, rows-are (r .rows) (drop (length (table (r .rows))) t))
+    let signer = signer-is (h .signer) (h .reference) rest four in
+    let reference = reference-is (h .signer) (h .reference) rest four in
+    simp (append-assoc, signer, reference, rows-are (r .rows) (drop (length (table (r .rows))) t))
 listing-is (refused number place) t x l four =
     let n : number ≡ 0 → ⊥ = λ e. omega (arith, l .0, e) in
     ap (λ b. pick b (put.accepted (answerOf (refused number place)) t x) (put.refused number place)) (ne-eqb number 0 n)
 
 -- 765 numbers of table and 259 bytes of text are room enough for every seal, so that 12 is never answered
-fits : (s : List ℕ) → Bytes s → (v : Verdict) → judge s ≡ v → given 765 259 v ≡ v
-fits s bytes (accepted r) e =
-    let a = accepted-zero s bytes (answerOf (judge s)) refl (ap (λ v. answerOf v .number) e) in
-    let same : accepted (a .report) ≡ accepted r = sym (a .judged) ∙ e in
-    subst (λ v. given 765 259 v ≡ v) same (sym (ap (given 765 259) (a .judged)) ∙ both-fit s 765 259 (a .report) (a .judged) (omega (arith, a .few)) (omega (arith, a .reference)))
-fits s bytes (refused number place) e = refl
+module _ (numbers room : ℕ) (rows : 765 ≤ numbers) (names : 259 ≤ room) where
+  fits : (s : List ℕ) → Bytes s → (v : Verdict) → judge s ≡ v → given numbers room v ≡ v
+  fits s bytes (accepted r) e =
+      let a = accepted-zero s bytes (answerOf (judge s)) refl (ap (λ v. answerOf v .number) e) in
+      subst (λ v. given numbers room v ≡ v) (sym (a .judged) ∙ e)
+      (sym (ap (given numbers room) (a .judged))
+      ∙ both-fit s numbers room (a .report) (a .judged) (omega (arith, a .few)) (omega (arith, a .reference)))
+  fits s bytes (refused number place) e = refl
 
-pub never-12 : (s : List ℕ) → Bytes s → reading s 765 259 ≡ judge s
-never-12 s bytes = fits s bytes (judge s) refl
+  pub never-12 : (s : List ℕ) → Bytes s → reading s numbers room ≡ judge s
+  never-12 s bytes = fits s bytes (judge s) refl
 
 four-signed : (s : List ℕ) → Bytes s → (v : Verdict) → judge s ≡ v → Signed v
 four-signed s bytes (accepted r) e =
@@ -72,34 +79,53 @@ four-signed s bytes (accepted r) e =
     subst Signed (sym (a .judged) ∙ e) (a .signer)
 four-signed s bytes (refused number place) e = tt
 
--- what is put down after a reading with so much table and text
-pub listing-listed : (s : List ℕ) → Bytes s → (t x : List ℕ) → listing (answerOf (reading s 765 259)) (then (rowsIn (reading s 765 259)) t) (then (textIn (reading s 765 259)) x) ≡ listed (judge s)
-listing-listed s bytes t x =
-    ap (λ v. listing (answerOf v) (then (rowsIn v) t) (then (textIn v) x)) (never-12 s bytes)
-    ∙ listing-is (judge s) t x (from-list s) (four-signed s bytes (judge s) refl)
+-- a longer input is refused by its first 4,097 bytes, or more, as by all of them
+by-length : (n : ℕ) → 4096 < n → (s : List ℕ) → Dec (length s ≤ n) → judge (take n s) ≡ judge s
+by-length n h s (yes short) = ap judge (take-all n s short)
+by-length n h s (no long) = judge-long (take n s) (omega (arith, length-take n s)) ∙ sym (judge-long s (omega arith))
 
--- a longer input is refused by its first 4,097 bytes as by all of them
-by-length : (s : List ℕ) → Dec (length s ≤ 4097) → judge (take 4097 s) ≡ judge s
-by-length s (yes h) = ap judge (take-all 4097 s h)
-by-length s (no h) = judge-long (take 4097 s) (omega (arith, length-take 4097 s)) ∙ sym (judge-long s (omega arith))
-
-pub enough : Enough 4097
-enough s = ap listed (by-length s (decLe (length s) 4097))
+pub enough : {n : ℕ} → 4096 < n → Enough n
+enough {n} h = record { same = λ s. ap listed (by-length n h s (decLe (length s) n)) }
 
 -- a refusal's place, told by the answer
-word-of : (v : Verdict) → answerOf v .place < 18446744073709551616 → Word v
+abbrev pub Small : Reading → Type 0
+Small q = q .place < 18446744073709551616
+
+word-of : (v : Verdict) → Small (answerOf v) → Word v
 word-of (accepted r) h = tt
 word-of (refused number place) h = h
 
+-- what a call leaves that promises the listing of s: the count, and the text from the buffer's start; and there was room for it
+abbrev pub Lists : List ℕ → List ℕ → List ℕ → ℕ → Type 0
+Lists s old new count =
+    (count ≡ length (listed (judge s)))
+    × ((new ≡ filled (done (listed (judge s))) old)
+    × (length (listed (judge s)) ≤ length old))
+
 -- the call: what a reading with so much table and text leaves, put down in a buffer with room for every listing
-module _ (s : List ℕ) (bytes : Bytes s) (t x t′ x′ : List ℕ) (q : Reading) (small : q .place < 18446744073709551616) where
-  pub whole : q ≡ answerOf (reading s 765 259) → t′ ≡ then (rowsIn (reading s 765 259)) t → x′ ≡ then (textIn (reading s 765 259)) x → (old new : List ℕ) (count : ℕ) → length old ≡ 8562 → Put old 0 (listing q t′ x′) new count → (count ≡ length (listed (judge s))) × ((new ≡ filled (done (listed (judge s))) old) × (length (listed (judge s)) ≤ 8562))
-  whole e f g old new count long p =
-      let word = word-of (judge s) (subst (λ r. r .place < 18446744073709551616) (e ∙ ap answerOf (never-12 s bytes)) small) in
+module _ (s : List ℕ) (bytes : Bytes s) (t x t′ x′ : List ℕ) (q : Reading) (small : Small q) (numbers names : ℕ) where
+  pub whole :
+      765 ≤ numbers →
+      259 ≤ names →
+      q ≡ answerOf (reading s numbers names) →
+      t′ ≡ then (rowsIn (reading s numbers names)) t →
+      x′ ≡ then (textIn (reading s numbers names)) x →
+      (old new : List ℕ) (count : ℕ) →
+      8562 ≤ length old →
+      Put old 0 (listing q t′ x′) new count →
+      Lists s old new count
+  whole rows text e f g old new count long p =
+      let v = reading s numbers names in
+      let same = never-12 numbers names rows text s bytes in
+      let word = word-of (judge s) (subst Small (e ∙ ap answerOf same) small) in
       let most = room s bytes word in
-      let is : listing q t′ x′ ≡ listed (judge s) = ap (λ r. listing r t′ x′) e ∙ ap₂ (listing (answerOf (reading s 765 259))) f g ∙ listing-listed s bytes t x in
+      let is : listing q t′ x′ ≡ listed (judge s) =
+      ap (λ r. listing r t′ x′) e
+      ∙ ap₂ (listing (answerOf v)) f g
+      ∙ ap (λ w. listing (answerOf w) (then (rowsIn w) t) (then (textIn w) x)) same
+      ∙ listing-is (judge s) t x (from-list s) (four-signed s bytes (judge s) refl) in
       let held = put-whole old 0 (listed (judge s)) new count (subst (λ l. Put old 0 l new count) is p) (omega (arith, most)) in
-      (omega (arith, held .1), (held .0 ∙ over-start old (listed (judge s)), most))
+      (omega (arith, held .1), (held .0 ∙ over-start old (listed (judge s)), omega (arith, most)))
 
 -- for whoever calls it: the count lies within the buffer, which keeps its length
 module _ (s out after : List ℕ) (f : after ≡ filled (done (listed (judge s))) out) where
@@ -107,4 +133,6 @@ module _ (s out after : List ℕ) (f : after ≡ filled (done (listed (judge s))
   listed-counts n e = counts-filled n (listed (judge s)) out after e f
 
   pub listed-length : length (listed (judge s)) ≤ length out → length out ≡ length after
-  listed-length h = let text = listed (judge s) in omega (arith, ap length f, length-append text (drop (length text) out), length-drop (length text) out)
+  listed-length h =
+      let text = listed (judge s) in
+      omega (arith, ap length f, length-append text (drop (length text) out), length-drop (length text) out)

@@ -1,9 +1,7 @@
 -- `vectors_listing::run_case` meets its contract: each part goes on where the one before ended, and the count lies within the text.
 -- Assumes nothing.
 use borrow.Author.Needs.{needs}
-use native.Mathlib.Omega.{arith}
 use Rattle.lines.specs.Line.{Counts}
-use Rattle.casefile.specs.Line.{Within}
 use Rattle.casefile.specs.Line.Laws.{within-more}
 use Rattle.listing.specs.Listed.Laws.{listed-counts, listed-length}
 use Rattle.vectors_listing.proofs.run_case.Statement.{statement}
@@ -28,7 +26,9 @@ put-number-requires : tie.Need-put-number-requires
 put-number-requires c κs = search needs
 
 slice-aggregate-unchanged : tie.Need-slice-aggregate-unchanged
-slice-aggregate-unchanged c = let called = c .before .before .before .before .before .before .before .before .before .before .list in listed-length _ _ _ (called .ensures .1 .0) (called .ensures .1 .1 .0)
+slice-aggregate-unchanged c =
+    let called = c .before .before .before .before .before .before .before .before .before .before .list in
+    listed-length _ _ _ (called .ensures .1 .0) (called .ensures .1 .1 .0)
 
 unchanged-requires : tie.Need-unchanged-requires
 unchanged-requires c κs = search needs

@@ -1,7 +1,6 @@
 -- `words::put_reader` meets its contract, number by number.
 -- Assumes nothing.
-use mathlib.Core.List.{_++_}
-use Rattle.words.specs.Words.{reader, writer, codecs, signatures, sought}
+use Rattle.words.specs.Words.{reader, fromWriter, sought}
 use Rattle.words.specs.Words.Laws.{past}
 use borrow.Author.Needs.{needs}
 use Rattle.words.proofs.put_reader.Statement.{statement}
@@ -183,7 +182,9 @@ same-length-14 : tie.Need-same-length-14
 same-length-14 c = search needs
 
 returns-14 : tie.Need-returns-14
-returns-14 c = let o = c .before .before in rw (past _ reader (writer ++ codecs ++ signatures) (o .before .before .match .rest)) (o .put-writer .ensures)
+returns-14 c =
+    let o = c .before .before in
+    rw (past _ reader fromWriter (o .before .before .match .rest)) (o .put-writer .ensures)
 
 pub put-reader-spec : {M : Type 1} → statement M
 put-reader-spec =

@@ -1,7 +1,6 @@
 -- `words::put_writer` meets its contract, number by number.
 -- Assumes nothing.
-use mathlib.Core.List.{_++_}
-use Rattle.words.specs.Words.{writer, codecs, signatures, sought}
+use Rattle.words.specs.Words.{writer, fromCodecs, sought}
 use Rattle.words.specs.Words.Laws.{past}
 use borrow.Author.Needs.{needs}
 use Rattle.words.proofs.put_writer.Statement.{statement}
@@ -131,7 +130,9 @@ same-length-10 : tie.Need-same-length-10
 same-length-10 c = search needs
 
 returns-10 : tie.Need-returns-10
-returns-10 c = let o = c .before .before in rw (past _ writer (codecs ++ signatures) (o .before .before .match .rest)) (o .put-codecs .ensures)
+returns-10 c =
+    let o = c .before .before in
+    rw (past _ writer fromCodecs (o .before .before .match .rest)) (o .put-codecs .ensures)
 
 pub put-writer-spec : {M : Type 1} → statement M
 put-writer-spec =

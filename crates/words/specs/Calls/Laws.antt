@@ -23,7 +23,11 @@ module _ (bytes out : List ℕ) where
   pub not-said : length out < length bytes → Says bytes (record { number = 63; place = 0; count = 0 }) out out
   not-said h = refuses (inRoom 63 bytes (length out)) 63 0 out (in-no-room 63 bytes (length out) h)
 
-  pub said-all : length bytes ≤ length out → (after : List ℕ) → after ≡ copied bytes out 0 → Says bytes (record { number = 0; place = 0; count = length bytes }) out after
+  pub said-all :
+      length bytes ≤ length out →
+      (after : List ℕ) →
+      after ≡ copied bytes out 0 →
+      Says bytes (record { number = 0; place = 0; count = length bytes }) out after
   said-all h after e =
       gives (inRoom 63 bytes (length out)) bytes (length bytes) out after
       (in-room 63 bytes (length out) h)

@@ -30,7 +30,8 @@ apart A n (r ∷ rows) m = let p = apart (A × (n ≡ r .number → ⊥)) n rows
 passed : (n : ℕ) (rows rest : List Row) → Apart n rows → sought n (rows ++ rest) ≡ sought n rest
 unfolding sought
 passed n [] rest a = refl
-passed n (r ∷ rows) rest a = ap (λ b. pick b (ascii (r .words)) (sought n (rows ++ rest))) (ne-eqb n (r .number) (a .0)) ∙ passed n rows rest (a .1)
+passed n (r ∷ rows) rest a =
+    ap (λ b. pick b (ascii (r .words)) (sought n (rows ++ rest))) (ne-eqb n (r .number) (a .0)) ∙ passed n rows rest (a .1)
 
 -- rows that have not the number are passed over
 pub past : (n : ℕ) (rows rest : List Row) → Missed Unit n rows → sought n (rows ++ rest) ≡ sought n rest
