@@ -4,3 +4,4 @@ pub mod Pairs
 pub mod Decode
 pub mod Calls
 pub mod Exact
+pub mod OneToOne

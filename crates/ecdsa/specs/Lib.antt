@@ -4,3 +4,4 @@ pub mod Sizes
 pub mod Strict
 pub mod Calls
 pub mod Exact
+pub mod OneToOne

@@ -8,3 +8,4 @@ pub mod Table
 pub mod Answers
 pub mod Order
 pub mod Pins
+pub mod OneToOne

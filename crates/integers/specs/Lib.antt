@@ -3,3 +3,4 @@ pub mod Whole
 pub mod Calls
 pub mod Exact
 pub mod Pins
+pub mod OneToOne

@@ -1,1 +1,2 @@
 pub mod Scan
+pub mod OneToOne

@@ -7,3 +7,4 @@ pub mod Pins
 pub mod Legal
 pub mod Theorems
 pub mod Witnesses
+pub mod OneToOne
