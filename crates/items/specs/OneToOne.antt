@@ -1,5 +1,5 @@
--- The answers of the items are settled by what `byteOf`, `wholeOf`, `stepOf`, `numberOf` and `dayOf` say of them. Of a step and a number that
--- holds where the item's own number is not 2, which says that it is cut short: it is 3, 4, 5, 7 or 8 in every contract.
+-- The answers of the items are settled by what `byteOf`, `wholeOf`, `stepOf`, `numberOf`, `editionOf` and `dayOf` say of them. Of a step and a
+-- number that holds where the item's own number is not 2, which says that it is cut short: it is 3, 5, 7 or 8 in every contract.
 -- Assumes nothing.
 use mathlib.Core.Path.{_≡_, refl}
 use Prim.Native.Nat.{ℕ}
@@ -8,8 +8,9 @@ use lib.Dec.{eqb}
 use Rattle.format.specs.Choice.{pick}
 use Rattle.format.specs.OneToOne.{OneToOne, by-way-back, one-back}
 use Rattle.dates.specs.declared.Date.{Date}
+use Rattle.versions.specs.declared.Version.{Version}
 use Rattle.verdict.specs.Items.{Item, is, not}
-use Rattle.items.specs.Cases.{byteOf, wholeOf, stepOf, numberOf, dayOf}
+use Rattle.items.specs.Cases.{byteOf, wholeOf, stepOf, numberOf, editionOf, dayOf}
 use Rattle.items.specs.declared.cursor.Byte.{Byte}
 use Rattle.items.specs.declared.cursor.Byte.the-variants as byte
 use Rattle.items.specs.declared.cursor.Whole.{Whole}
@@ -18,6 +19,8 @@ use Rattle.items.specs.declared.cursor.Step.{Step}
 use Rattle.items.specs.declared.cursor.Step.the-variants as step
 use Rattle.items.specs.declared.cursor.Number.{Number}
 use Rattle.items.specs.declared.cursor.Number.the-variants as number
+use Rattle.items.specs.declared.cursor.Edition.{Edition}
+use Rattle.items.specs.declared.cursor.Edition.the-variants as edition
 use Rattle.items.specs.declared.cursor.Day.{Day}
 use Rattle.items.specs.declared.cursor.Day.the-variants as day
 
@@ -71,6 +74,19 @@ number-back wrong at other number.Wrong = rw (ne-eqb wrong 2 other) refl
 
 pub number-one : (wrong at : ℕ) → (wrong ≡ 2 → ⊥) → OneToOne (numberOf wrong at)
 number-one wrong at other = one-back (numberOf wrong at) numberBack (number-back wrong at other)
+
+editionBack : Item Version → Edition
+editionBack (is v at) = edition.Is v (record { place = at })
+editionBack (not n place) = pick (eqb n 2) edition.Cut edition.NoSuchVersion
+
+edition-back : (at : ℕ) (a : Edition) → editionBack (editionOf at a) ≡ a
+unfolding editionBack
+edition-back at (edition.Is v next) = refl
+edition-back at edition.Cut = refl
+edition-back at edition.NoSuchVersion = refl
+
+pub edition-one : (at : ℕ) → OneToOne (editionOf at)
+edition-one at = one-back (editionOf at) editionBack (edition-back at)
 
 dayBack : Item Date → Day
 dayBack (is d at) = day.Is d (record { place = at })

@@ -2,3 +2,4 @@
 -- Assumes nothing.
 pub mod Words
 pub mod Calls
+pub mod OneToOne
