@@ -45,10 +45,10 @@ Hexadecimal c = ((65 ≤ c) × (c ≤ 70)) ⊎ Digit c
 
 -- All that laws and examples use of the rule for a reference's characters: hexadecimal digits are among them, and they are letters and digits.
 hexadecimal-reference : (c : ℕ) → Hexadecimal c → ReferenceCharacter c
-hexadecimal-reference c h = ⊎-elim (λ l. inl (l .0, omega (arith, l .1))) inr h
+hexadecimal-reference c h = ⊎-elim (λ l. inl (omega (arith, l .0), omega (arith, l .1))) inr h
 
 pub reference-letter-or-digit : (c : ℕ) → ReferenceCharacter c → LetterOrDigit c
-reference-letter-or-digit c h = h
+reference-letter-or-digit c h = ⊎-elim (λ l. inl (omega (arith, l .0), omega (arith, l .1))) inr h
 
 -- country: fillers as spaces, and back
 uncarried : ℕ → ℕ
