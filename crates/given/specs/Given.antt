@@ -1,11 +1,13 @@
 -- What a call of the writer is given: header, text, rows over a values buffer, and the raw signature; and the content that they say.
 -- Assumes nothing.
+pub mod Laws
 use Prim.Native.Nat.{ℕ}
 use mathlib.Core.List.{List, [], _∷_, map}
+use mathlib.Core.Option.{Option, Option·map}
 use lib.ListN.{take, drop, getD}
-use lib.Dec.{eqb}
-use Rattle.format.specs.Choice.{pick}
-use Rattle.grammar.specs.Content.{Version, three, four, Content, Header as Headed}
+use Rattle.versions.specs.declared.Version.{Version}
+use Rattle.versions.specs.Versions.{versionOf}
+use Rattle.grammar.specs.Content.{Feature, Content, Header as Headed}
 use Rattle.verdict.specs.Judge.{Row}
 use Rattle.verdict.specs.Report.{featureOf}
 use Rattle.items.specs.declared.Header.{Header}
@@ -28,16 +30,20 @@ pub record Given : Type 0 where
 abbrev pub threeOf : List ℕ → List ℕ
 threeOf c = getD c 0 0 ∷ getD c 1 0 ∷ getD c 2 0 ∷ []
 
--- the version of a number; any but 3 is read as version 4 is
-abbrev pub versionOf : ℕ → Version
-versionOf n = pick (eqb n 3) three four
+-- the header in a version: signer and reference are the text's first four characters and the rest
+abbrev pub headerOf : Version → Header → List ℕ → Headed
+headerOf v h text = record { version = v; country = threeOf (h .country); signer = take 4 text; reference = drop 4 text; issued = h .issued; signed = h .signed; definition = h .definition; category = h .category }
 
--- the header: signer and reference are the text's first four characters and the rest
-abbrev pub headerOf : Header → List ℕ → Headed
-headerOf h text = record { version = versionOf (h .version); country = threeOf (h .country); signer = take 4 text; reference = drop 4 text; issued = h .issued; signed = h .signed; definition = h .definition; category = h .category }
+-- the features, in the order of their rows
+abbrev pub featuresOf : Given → List Feature
+featuresOf g = map (featureOf (g .values)) (rowsOf (g .table))
 
-unfoldable pub contentOf : Given → Content
-contentOf g = record { header = headerOf (g .header) (g .text); features = map (featureOf (g .values)) (rowsOf (g .table)); signature = g .signature }
+-- the content in a version, and the content that is said: none where the header's version is neither 3 nor 4
+unfoldable pub contentAs : Given → Version → Content
+contentAs g v = record { header = headerOf v (g .header) (g .text); features = featuresOf g; signature = g .signature }
+
+unfoldable pub contentOf : Given → Option Content
+contentOf g = Option·map (contentAs g) (versionOf (g .header .version))
 
 -- what is given, in the order of the call
 abbrev pub given : Header → List ℕ → List ℕ → List ℕ → List ℕ → Given

@@ -9,10 +9,10 @@ use mathlib.Core.List.{List, [], _∷_}
 use lib.Dec.{leb, eqb}
 use lib.ListN.{length, getD, drop, set, replicate, length-drop, length-set, length-replicate, getD-replicate}
 use lib.Seq.{getD-set-same, getD-set-other}
-use Rattle.format.specs.Choice.{pick}
 use Rattle.format.specs.Choice.Laws.{by-test}
 use Rattle.format.specs.Table.{both, either}
 use Rattle.format.specs.Places.{at-place}
+use Rattle.grammar.specs.Content.{Version, three, four}
 use Rattle.verdict.specs.Judge.{Row, used}
 use Rattle.given.specs.Tests.{isRow, areRows, isTable, areShort, areValues}
 use Rattle.given.specs.Given.{rowsOf}
@@ -40,10 +40,10 @@ module _ (t : List ℕ) (at : ℕ) where
   rows-here h =
       let one = at-place t at 0 (omega arith) in
       let two = at-place t (at + 1) 0 (omega arith) in
-      let three = at-place t (at + 2) 0 (omega arith) in
+      let last = at-place t (at + 2) 0 (omega arith) in
       let s : at + 1 + 1 ≡ at + 2 = omega arith in
       let u : at + 2 + 1 ≡ at + 3 = omega arith in
-      ap rowsOf (one ∙ ap (λ l. getD t at 0 ∷ l) (two ∙ ap (λ l. getD t (at + 1) 0 ∷ l) (ap (λ k. drop k t) s ∙ three ∙ ap (λ k. getD t (at + 2) 0 ∷ drop k t) u)))
+      ap rowsOf (one ∙ ap (λ l. getD t at 0 ∷ l) (two ∙ ap (λ l. getD t (at + 1) 0 ∷ l) (ap (λ k. drop k t) s ∙ last ∙ ap (λ k. getD t (at + 2) 0 ∷ drop k t) u)))
       ∙ rows-cons (getD t at 0) (getD t (at + 1) 0) (getD t (at + 2) 0) (drop (at + 3) t)
 
 -- the first k rows, the last of them first
@@ -189,12 +189,12 @@ short-cons : (r : Row) (rows : List Row) → areShort (r ∷ rows) ≡ both (leb
 unfolding areShort
 short-cons r rows = refl
 
-pub values-four : (v : ℕ) (t : List ℕ) → (v ≡ 3 → ⊥) → true ≡ areValues v t
-values-four v t h = sym (ap (λ b. pick b (areShort (rowsOf t)) true) (ne-eqb v 3 h))
+pub values-four : (v : Version) (t : List ℕ) → v ≡ four → true ≡ areValues v t
+values-four v t e = sym (ap (λ w. areValues w t) e)
 
-module _ (v : ℕ) (t : List ℕ) (at : ℕ) (three : v ≡ 3) (same : areShort (rowsOf t) ≡ areShort (rowsOf (drop at t))) where
+module _ (v : Version) (t : List ℕ) (at : ℕ) (is-three : v ≡ three) (same : areShort (rowsOf t) ≡ areShort (rowsOf (drop at t))) where
   values-is : (b : Bool) → areShort (rowsOf t) ≡ b → b ≡ areValues v t
-  values-is b e = sym (ap (λ z. pick z (areShort (rowsOf t)) true) (eq-eqb v 3 three) ∙ e)
+  values-is b e = sym (ap (λ w. areValues w t) is-three ∙ e)
 
   pub short-end : length t ≤ at + 2 → true ≡ areValues v t
   short-end h = values-is true (same ∙ ap areShort (rows-end t at h) ∙ short-none)

@@ -1,4 +1,5 @@
--- The tests of what the writer is given (document 01, numbers 20 to 25; 26 is `isSignature` of crates/verdict/specs/Judge.antt).
+-- The tests of what the writer is given (document 01, numbers 21 to 25). 20 is `versionOf` of crates/versions/specs/Versions.antt, which
+-- gives the version that the others go by, and 26 `isSignature` of crates/verdict/specs/Judge.antt.
 -- Assumes nothing.
 pub mod Laws
 use mathlib.Core.Bool.{Bool, true, false}
@@ -7,26 +8,24 @@ use mathlib.Core.List.{List, [], _∷_}
 use lib.Dec.{leb, eqb}
 use lib.ListN.{length, take, drop}
 use Rattle.format.specs.Choice.{pick}
-use Rattle.format.specs.Table.{both, either}
+use Rattle.format.specs.Table.{both}
 use Rattle.dates.specs.Days.{within, isDay}
+use Rattle.grammar.specs.Content.{Version, three, four}
 use Rattle.letters.specs.Characters.{isReference, all, isCountry, isSigner}
 use Rattle.verdict.specs.Judge.{Row, used}
 use Rattle.items.specs.declared.Header.{Header}
 use Rattle.given.specs.Given.{rowsOf}
 
--- 20: version not 3 or 4
-abbrev pub isVersion : ℕ → Bool
-isVersion n = either (eqb n 3) (eqb n 4)
-
 -- the text is signer then reference: 9 bytes in version 3, 5 to 259 in version 4
-abbrev pub isTextSize : ℕ → ℕ → Bool
-isTextSize version n = pick (eqb version 3) (eqb n 9) (within 5 259 n)
+abbrev pub isTextSize : Version → ℕ → Bool
+isTextSize three n = eqb n 9
+isTextSize four n = within 5 259 n
 
 -- 21: country, signer or reference; the header's L is the reference's length
-abbrev pub areNames : Header → List ℕ → Bool
-areNames h text =
+abbrev pub areNames : Version → Header → List ℕ → Bool
+areNames v h text =
     both (isCountry 60 (h .country))
-    (both (both (isTextSize (h .version) (length text)) (eqb (h .length + 4) (length text)))
+    (both (both (isTextSize v (length text)) (eqb (h .length + 4) (length text)))
     (both (isSigner (take 4 text)) (all isReference (drop 4 text))))
 
 -- 22: either date wrong
@@ -53,5 +52,9 @@ unfoldable pub areShort : List Row → Bool
 areShort [] = true
 areShort (r ∷ rows) = both (leb (r .size) 255) (areShort rows)
 
-abbrev pub areValues : ℕ → List ℕ → Bool
-areValues version table = pick (eqb version 3) (areShort (rowsOf table)) true
+abbrev pub areSized : Version → List Row → Bool
+areSized three rows = areShort rows
+areSized four rows = true
+
+abbrev pub areValues : Version → List ℕ → Bool
+areValues v table = areSized v (rowsOf table)

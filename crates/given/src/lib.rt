@@ -1,4 +1,5 @@
-// What the writer is given, judged (document 01, numbers 20 to 25): header and text here, rows in rows.rt. 26 is `items::is_signature`.
+// What the writer is given, judged (document 01, numbers 21 to 25): header and text here, rows in rows.rt. 20 is `Version::from_number`,
+// 26 `items::is_signature`.
 ghost use mathlib.Core.Path.{_≡_};
 ghost use Rattle.given.specs.Tests as test;
 
@@ -7,22 +8,13 @@ mod rows;
 use items::Header;
 pub use rows::are_rows;
 pub use rows::are_values;
-
-// Version 3 or 4.
-pub fn is_version(version: usize) -> bool
-    ensures { λ r. ⌜ r ≡ test.isVersion version ⌝ }
-{
-    if version == 3 {
-        return true;
-    }
-    version == 4
-}
+use versions::Version;
 
 // Whether text of so many bytes has the size that signer and reference have.
-pub fn is_text_size(version: usize, size: usize) -> bool
+pub fn is_text_size(version: Version, size: usize) -> bool
     ensures { λ r. ⌜ r ≡ test.isTextSize version size ⌝ }
 {
-    if version == 3 {
+    if let Version::Three = version {
         return size == 9;
     }
     if size < 5 {
@@ -32,15 +24,15 @@ pub fn is_text_size(version: usize, size: usize) -> bool
 }
 
 // Country, signer and reference; the header's L is the reference's length.
-pub fn are_names(header: Header, text: &[u8]) -> bool
-    ensures { λ r. ⌜ r ≡ test.areNames header (now (text .entry)) ⌝ }
+pub fn are_names(version: Version, header: Header, text: &[u8]) -> bool
+    ensures { λ r. ⌜ r ≡ test.areNames version header (now (text .entry)) ⌝ }
 {
     let country = header.country;
     if !letters::is_country(country[0], country[1], country[2], b'<') {
         return false;
     }
     let size = text.len();
-    if !is_text_size(header.version, size) {
+    if !is_text_size(version, size) {
         return false;
     }
     if header.length != size - 4 {

@@ -1,6 +1,7 @@
 // The judging of the rows (document 01, numbers 24 and 25): three numbers each, a tag and the place and length of its value.
 ghost use mathlib.Core.Path.{_≡_};
 ghost use Rattle.given.specs.Tests.{isTable, areValues};
+use versions::Version;
 
 // Rows of three, no tag over 254 or used twice, and every value inside a buffer of so many bytes. The tags so far are marked, so that one walk over the rows
 // judges them.
@@ -34,10 +35,10 @@ pub fn are_rows(rows: &[usize], size: usize) -> bool
 }
 
 // In version 3 no value is over 255 bytes.
-pub fn are_values(version: usize, rows: &[usize]) -> bool
+pub fn are_values(version: Version, rows: &[usize]) -> bool
     ensures { λ r. ⌜ r ≡ areValues version (now (rows .entry)) ⌝ }
 {
-    if version != 3 {
+    if let Version::Four = version {
         return true;
     }
     let n = rows.len();

@@ -30,13 +30,13 @@ use Rattle.reader.specs.Calls.Given.{given-accepted}
 use Rattle.reader.specs.Answer.{contentIn}
 use Rattle.reader.specs.Theorems as reader
 use Rattle.reader.specs.declared.Reading.{Reading}
-use Rattle.given.specs.Given.{Given, contentOf}
+use Rattle.given.specs.Given.{Given, featuresOf, contentOf}
 use Rattle.writer.specs.Calls.{writing}
 use Rattle.writer.specs.Legal.{Lent, Sound, written-legal, legal-written}
 use Rattle.writer.specs.Theorems as writer
 use Rattle.seal.specs.Again.{againFrom}
 use Rattle.seal.specs.Again.Laws.{again-held}
-use Rattle.seal.specs.Conditions.Laws.{zero-accepted, signer-long, again-writes, header-given, text-held, back-reads, back-content, same-text, same-header, refusal-of, verdict-listed, zero-judged, signed-first}
+use Rattle.seal.specs.Conditions.Laws.{zero-accepted, signer-long, again-writes, header-given, text-held, features-given, back-reads, back-content, same-text, same-header, refusal-of, verdict-listed, zero-judged, signed-first}
 
 -- What `read` gives for a seal and a lent table and text: its answer, and what table and text hold afterwards.
 abbrev pub answer : List ℕ → List ℕ → List ℕ → Reading
@@ -98,7 +98,7 @@ pub record ReadsBack (g : Given) (s rows names : List ℕ) : Type 0 where
   pub number : answer s rows names .number ≡ 0
   pub header : answer s rows names .header ≡ g .header
   pub text : take (length (g .text)) (textAfter s rows names) ≡ g .text
-  pub content : contentHeld s rows names ≡ some (contentOf g)
+  pub content : contentHeld s rows names ≡ contentOf g
 
 pub written-reads : (g : Given) (out : List ℕ) → Lent g → numberOf g out ≡ 0 → (rows names : List ℕ) → length (g .table) ≤ length rows → length (g .text) ≤ length names → ReadsBack g (sealIn g out) rows names
 written-reads g out lent z rows names more-rows more-names =
@@ -107,9 +107,9 @@ written-reads g out lent z rows names more-rows more-names =
     let e = sym (back-reads g (length out) s w rows names more-rows more-names) in
     record {
       number = ap (λ v. answerOf v .number) (sym e);
-      header = subst (λ v. answerOf v .header ≡ g .header) e (header-given g (w .sound));
-      text = subst (λ v. take (length (g .text)) (then (textIn v) names) ≡ g .text) e (text-held g names);
-      content = subst (λ v. contentIn s (answerOf v) (then (rowsIn v) rows) (then (textIn v) names) ≡ some (contentOf g)) e (back-content g (length out) s w rows names);
+      header = subst (λ v. answerOf v .header ≡ g .header) e (header-given g (w .content) (w .says) (w .sound));
+      text = subst (λ v. take (length (g .text)) (then (textIn v) names) ≡ g .text) e (text-held g (w .content) (w .says) names);
+      content = subst (λ v. contentIn s (answerOf v) (then (rowsIn v) rows) (then (textIn v) names) ≡ contentOf g) e (back-content g (length out) s w rows names);
     }
 
 -- "What the reader accepts writes back, given room, as the same bytes."
@@ -121,14 +121,30 @@ read-writes s bytes rows names z room fits =
     ∙ ap (λ g. writing g room) (again-held s (a .report) rows names (signer-long s bytes (a .report) j))
     ∙ again-writes s bytes (a .report) j room fits
 
--- The writer is done exactly when the content given is legal, the call's shape is sound and there is room; what it makes is the published form.
-pub writes-legal : (g : Given) (out : List ℕ) → Lent g → numberOf g out ≡ 0 → Legal (contentOf g) × (Sound g × ((length (publish (contentOf g)) ≤ length out) × (sealIn g out ≡ publish (contentOf g))))
+-- The writer is done exactly when a content is given and legal, the call's shape is sound and there is room; what it makes is the published form.
+pub record Writes (g : Given) (out : List ℕ) : Type 0 where
+  pub content : Content
+  pub says : contentOf g ≡ some content
+  pub legal : Legal content
+  pub sound : Sound g
+  pub fits : length (publish content) ≤ length out
+  pub form-is : sealIn g out ≡ publish content
+
+pub writes-legal : (g : Given) (out : List ℕ) → Lent g → numberOf g out ≡ 0 → Writes g out
 writes-legal g out lent z =
     let w = written-legal g (length out) (sealIn g out) lent (seal-made g out z) in
-    (w .legal, (w .sound, (subst (λ s. length s ≤ length out) (sym (w .form-is)) (w .fits), sym (w .form-is))))
+    record {
+      content = w .content;
+      says = w .says;
+      legal = w .legal;
+      sound = w .sound;
+      fits = subst (λ s. length s ≤ length out) (sym (w .form-is)) (w .fits);
+      form-is = sym (w .form-is);
+    }
 
-pub legal-writes : (g : Given) (out : List ℕ) → Sound g → Legal (contentOf g) → length (publish (contentOf g)) ≤ length out → numberOf g out ≡ 0
-legal-writes g out sound legal fits = ap (λ o. told o .number) (legal-written g (length out) sound legal fits)
+pub legal-writes : (g : Given) (out : List ℕ) (c : Content) → contentOf g ≡ some c →
+    Sound g → Legal c → length (publish c) ≤ length out → numberOf g out ≡ 0
+legal-writes g out c says sound legal fits = ap (λ o. told o .number) (legal-written g (length out) c says sound legal fits)
 
 -- Condition 3. "Given room for the answer, a byte string is accepted exactly when it is the published form of a legal content."
 pub record Published (s : List ℕ) : Type 0 where
@@ -200,7 +216,11 @@ zone-ends s bytes p rows names z =
     subst (λ v. reader.ZonesOf s (p .content) (answerOf v)) (sym (a .reads)) (subst (λ c. reader.ZonesOf s c (answerOf (accepted (a .report)))) e (r .zones))
 
 -- Two accepted seals with the same signed bytes say the same but for the signature.
-pub seals-apart : (s s′ : List ℕ) → Bytes s → Bytes s′ → (rows names rows′ names′ : List ℕ) → answer s rows names .number ≡ 0 → answer s′ rows′ names′ .number ≡ 0 → take (answer s rows names .ends .message) s ≡ take (answer s′ rows′ names′ .ends .message) s′ → (c c′ : Content) → contentHeld s rows names ≡ some c → contentHeld s′ rows′ names′ ≡ some c′ → (c .header ≡ c′ .header) × (c .features ≡ c′ .features)
+pub seals-apart : (s s′ : List ℕ) → Bytes s → Bytes s′ → (rows names rows′ names′ : List ℕ) →
+    answer s rows names .number ≡ 0 → answer s′ rows′ names′ .number ≡ 0 →
+    take (answer s rows names .ends .message) s ≡ take (answer s′ rows′ names′ .ends .message) s′ →
+    (c c′ : Content) → contentHeld s rows names ≡ some c → contentHeld s′ rows′ names′ ≡ some c′ →
+    (c .header ≡ c′ .header) × (c .features ≡ c′ .features)
 seals-apart s s′ bytes bytes′ rows names rows′ names′ z z′ e c c′ held held′ =
     let p = accepted-published s bytes rows names z in
     let q = accepted-published s′ bytes′ rows′ names′ z′ in
@@ -210,18 +230,29 @@ seals-apart s s′ bytes bytes′ rows names rows′ names′ z z′ e c c′ he
     (ap (λ c. c .header) f ∙ same .0 ∙ ap (λ c. c .header) (sym g), ap (λ c. c .features) f ∙ same .1 ∙ ap (λ c. c .features) (sym g))
 
 -- The signed bytes of a seal that was written are its front part too, and the rest is FF, the length and the signature given.
-pub signed-made : (g : Given) (out : List ℕ) → Lent g → numberOf g out ≡ 0 → sealIn g out ≡ signedBytes (contentOf g) ++ signatureZone (g .signature)
-signed-made g out lent z = writes-legal g out lent z .1 .1 .1 ∙ signed-first g
+pub signed-made : (g : Given) (out : List ℕ) → Lent g → numberOf g out ≡ 0 →
+    (c : Content) → contentOf g ≡ some c → sealIn g out ≡ signedBytes c ++ signatureZone (g .signature)
+signed-made g out lent z c says =
+    let w = writes-legal g out lent z in
+    let same : w .content ≡ c = Option·some-injective (w .content) c (sym (w .says) ∙ says) in
+    w .form-is ∙ ap publish same ∙ signed-first g c says
 
 -- Two calls of the writer that are done and whose seals have the same signed bytes were given the same header, text, tags and value bytes.
 pub record SameSigned (g g′ : Given) : Type 0 where
   pub header : g .header ≡ g′ .header
   pub text : g .text ≡ g′ .text
-  pub features : contentOf g .features ≡ contentOf g′ .features
+  pub features : featuresOf g ≡ featuresOf g′
 
-pub calls-apart : (g g′ : Given) (out out′ : List ℕ) → Lent g → Lent g′ → numberOf g out ≡ 0 → numberOf g′ out′ ≡ 0 → signedBytes (contentOf g) ≡ signedBytes (contentOf g′) → SameSigned g g′
-calls-apart g g′ out out′ lent lent′ z z′ e =
+pub calls-apart : (g g′ : Given) (out out′ : List ℕ) → Lent g → Lent g′ → numberOf g out ≡ 0 → numberOf g′ out′ ≡ 0 →
+    (c c′ : Content) → contentOf g ≡ some c → contentOf g′ ≡ some c′ → signedBytes c ≡ signedBytes c′ → SameSigned g g′
+calls-apart g g′ out out′ lent lent′ z z′ c c′ says says′ e =
     let w = writes-legal g out lent z in
     let w′ = writes-legal g′ out′ lent′ z′ in
-    let same = signed-apart (contentOf g) (contentOf g′) (w .0) (w′ .0) e in
-    record { header = same-header g g′ (same .0) (w .1 .0) (w′ .1 .0); text = same-text g g′ (same .0); features = same .1 }
+    let legal = subst Legal (Option·some-injective (w .content) c (sym (w .says) ∙ says)) (w .legal) in
+    let legal′ = subst Legal (Option·some-injective (w′ .content) c′ (sym (w′ .says) ∙ says′)) (w′ .legal) in
+    let same = signed-apart c c′ legal legal′ e in
+    record {
+      header = same-header g g′ c c′ says says′ (same .0) (w .sound) (w′ .sound);
+      text = same-text g g′ c c′ says says′ (same .0);
+      features = sym (features-given g c says) ∙ same .1 ∙ features-given g′ c′ says′;
+    }

@@ -14,6 +14,9 @@ bytes = (refl, refl)
 of-numbers : (versionOf 2 ≡ none) × (versionOf 3 ≡ some three) × (versionOf 4 ≡ some four) × (versionOf 5 ≡ none)
 of-numbers = (refl, refl, refl, refl)
 
+of-bytes : (versionOfByte 0x02 ≡ some three) × (versionOfByte 0x03 ≡ some four)
+of-bytes = (refl, refl)
+
 -- 258 is no byte 02 with a bit more
-of-bytes : (versionOfByte 0x01 ≡ none) × (versionOfByte 0x02 ≡ some three) × (versionOfByte 0x03 ≡ some four) × (versionOfByte 0x04 ≡ none) × (versionOfByte 258 ≡ none)
-of-bytes = (refl, refl, refl, refl, refl)
+no-version : (versionOfByte 0x01 ≡ none) × (versionOfByte 0x04 ≡ none) × (versionOfByte 258 ≡ none)
+no-version = (refl, refl, refl)

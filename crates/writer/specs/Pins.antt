@@ -14,8 +14,8 @@ use Rattle.grammar.specs.Publish.{headerZone, messageZone, signatureZone, signe
 use Rattle.grammar.specs.Examples.{uto, utab, ref-00001, spring, seal-a}
 use Rattle.items.specs.declared.Header.{Header}
 use Rattle.given.specs.Tests.{areRows, areShort}
-use Rattle.given.specs.Given.{Given, given, rowsOf, contentOf}
-use Rattle.writer.specs.Calls.{writing}
+use Rattle.given.specs.Given.{Given, given, rowsOf, contentAs}
+use Rattle.writer.specs.Calls.{writingAs, writing}
 
 abbrev header-a : Header
 header-a = record { version = 3; country = uto; length = 5; issued = spring; signed = spring; definition = 1; category = 2 }
@@ -29,38 +29,38 @@ visa01 = 0xDE ∷ 0x51 ∷ 0x58 ∷ 0x26 ∷ []
 
 -- Seal A, in a room of its size and in one of a byte less
 seal : writing (with-rows (10 ∷ 0 ∷ 4 ∷ []) visa01 56) 82 ≡ done seal-a
-unfolding writing isDay areRows rowsOf areShort publish signedBytes headerZone messageZone signatureZone contentOf c40 triple theChart valueOf date be form
+unfolding writing writingAs isDay areRows rowsOf areShort publish signedBytes headerZone messageZone signatureZone contentAs c40 triple theChart valueOf date be form
 seal = refl
 
 no-room : writing (with-rows (10 ∷ 0 ∷ 4 ∷ []) visa01 56) 81 ≡ refused 28 0
-unfolding writing isDay areRows rowsOf areShort publish signedBytes headerZone messageZone signatureZone contentOf c40 triple theChart valueOf date be form
+unfolding writing writingAs isDay areRows rowsOf areShort publish signedBytes headerZone messageZone signatureZone contentAs c40 triple theChart valueOf date be form
 no-room = refl
 
 -- a row one past the values, and a table not in threes
 outside : writing (with-rows (10 ∷ 1 ∷ 4 ∷ []) visa01 56) 82 ≡ refused 24 0
-unfolding writing isDay areRows rowsOf
+unfolding writing writingAs isDay areRows rowsOf
 outside = refl
 
 no-threes : writing (with-rows (10 ∷ 0 ∷ 4 ∷ 11 ∷ []) visa01 56) 82 ≡ refused 24 0
-unfolding writing isDay areRows rowsOf
+unfolding writing writingAs isDay areRows rowsOf
 no-threes = refl
 
 -- tag 254 and no more, and no tag twice
 tag-255 : writing (with-rows (255 ∷ 0 ∷ 4 ∷ []) visa01 56) 82 ≡ refused 24 0
-unfolding writing isDay areRows rowsOf
+unfolding writing writingAs isDay areRows rowsOf
 tag-255 = refl
 
 tag-twice : writing (with-rows (254 ∷ 0 ∷ 4 ∷ 254 ∷ 0 ∷ 4 ∷ []) visa01 56) 82 ≡ refused 24 0
-unfolding writing isDay areRows rowsOf
+unfolding writing writingAs isDay areRows rowsOf
 tag-twice = refl
 
 -- a value of 256 bytes in version 3, before a signature of 57
 long-value : writing (with-rows (10 ∷ 0 ∷ 256 ∷ []) (replicate 256 7) 57) 82 ≡ refused 25 0
-unfolding writing isDay areRows rowsOf areShort
+unfolding writing writingAs isDay areRows rowsOf areShort
 long-value = refl
 
 signature-57 : writing (with-rows (10 ∷ 0 ∷ 255 ∷ []) (replicate 255 7) 57) 82 ≡ refused 26 0
-unfolding writing isDay areRows rowsOf areShort
+unfolding writing writingAs isDay areRows rowsOf areShort
 signature-57 = refl
 
 -- version 4, reference 7, one value of so many bytes: 4,096 in all would do, 4,097 is too long whatever the room
@@ -68,11 +68,11 @@ abbrev sized : ℕ → Given
 sized n = given (record { version = 4; country = uto; length = 1; issued = spring; signed = spring; definition = 1; category = 2 }) (utab ++ (55 ∷ [])) (10 ∷ 0 ∷ n ∷ []) (replicate n 0) (replicate 56 0xAA)
 
 size-4096 : writing (sized 4016) 4095 ≡ refused 28 0
-unfolding writing isDay areRows rowsOf areShort publish signedBytes headerZone messageZone signatureZone contentOf c40 triple theChart valueOf date be form
+unfolding writing writingAs isDay areRows rowsOf areShort publish signedBytes headerZone messageZone signatureZone contentAs c40 triple theChart valueOf date be form
 size-4096 = refl
 
 size-4097 : writing (sized 4017) 4095 ≡ refused 27 0
-unfolding writing isDay areRows rowsOf areShort publish signedBytes headerZone messageZone signatureZone contentOf c40 triple theChart valueOf date be form
+unfolding writing writingAs isDay areRows rowsOf areShort publish signedBytes headerZone messageZone signatureZone contentAs c40 triple theChart valueOf date be form
 size-4097 = refl
 
 -- the names: a space in the country, L that is not the reference's length, and 20 before 21
@@ -80,13 +80,13 @@ abbrev with-header : ℕ → List ℕ → ℕ → Given
 with-header version country l = given (record { version = version; country = country; length = l; issued = spring; signed = spring; definition = 1; category = 2 }) (utab ++ ref-00001) [] [] (replicate 56 0xAA)
 
 spaced : writing (with-header 3 (68 ∷ 32 ∷ 32 ∷ []) 5) 82 ≡ refused 21 0
-unfolding writing
+unfolding writing writingAs
 spaced = refl
 
 wrong-l : writing (with-header 4 uto 4) 82 ≡ refused 21 0
-unfolding writing
+unfolding writing writingAs
 wrong-l = refl
 
 version-5 : writing (with-header 5 (68 ∷ 32 ∷ 32 ∷ []) 5) 82 ≡ refused 20 0
-unfolding writing
+unfolding writing writingAs
 version-5 = refl

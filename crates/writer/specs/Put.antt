@@ -21,16 +21,16 @@ use Rattle.c40.specs.Calls.Laws.{writing-done, text-known}
 use Rattle.dates.specs.Days.{Day, numberOf, publish as date}
 use Rattle.dates.specs.Days.Laws.{number-below}
 use Rattle.dates.specs.declared.Date.{Date}
-use Rattle.grammar.specs.Content.{Version}
+use Rattle.grammar.specs.Content.{Version, three, four}
+use Rattle.grammar.specs.Legal.{ValueSize}
 use Rattle.grammar.specs.Publish.{hexDigit, names, lengthOf, feature, messageZone}
 use Rattle.verdict.specs.Report.{featureOf}
 use Rattle.verdict.specs.Judge.{Row}
-use Rattle.given.specs.Given.{versionOf}
 use Rattle.given.specs.Given.{rowsOf}
 use Rattle.given.specs.Rows.{rowAt, rows-end, rows-here}
 use Rattle.writer.specs.Steps.{Room, Named, Measured, Fits, Fitting, spelled, sixOf}
 use Rattle.given.specs.Tests.Laws.{size-four}
-use Rattle.writer.specs.Steps.Laws.{version-three, version-four, spelled-six, six-text, reference-text}
+use Rattle.writer.specs.Steps.Laws.{spelled-six, six-text, reference-text}
 
 -- what a part of a buffer holds, from a place on, put back
 part-over : (out : List ℕ) (at : ℕ) (bytes after : List ℕ) → Room out at bytes → after ≡ bytes ++ drop (length bytes) (take (length out - at) (drop at out)) → take at out ++ (after ++ drop (length out - at) (drop at out)) ≡ over out at bytes
@@ -106,19 +106,19 @@ module _ (v : Version) (tag : ℕ) (value out : List ℕ) (at : ℕ) (room : Roo
 -- the characters of version 4's names
 pub spelled-long : (text : List ℕ) → 4 ≤ length text → length (spelled text) ≡ length text + 2
 spelled-long text h =
-    let four : length (take 4 text) ≡ 4 = length-take-le 4 text h in
+    let first : length (take 4 text) ≡ 4 = length-take-le 4 text h in
     let n = length (drop 4 text) in
     omega (arith, length-append (take 4 text ++ (hexDigit (n / 16) ∷ hexDigit (n % 16) ∷ [])) (drop 4 text), length-append (take 4 text) (hexDigit (n / 16) ∷ hexDigit (n % 16) ∷ []), length-drop 4 text)
 
 -- signer and reference, by version
-pub names-three : (v : ℕ) (t : List ℕ) → v ≡ 3 → names (versionOf v) (take 4 t) (drop 4 t) ≡ c40 t
-names-three v t e = ap (λ w. names w (take 4 t) (drop 4 t)) (version-three v e) ∙ ap c40 (take-append-drop 4 t)
+pub names-three : (v : Version) (t : List ℕ) → v ≡ three → names v (take 4 t) (drop 4 t) ≡ c40 t
+names-three v t e = ap (λ w. names w (take 4 t) (drop 4 t)) e ∙ ap c40 (take-append-drop 4 t)
 
-pub names-four : (v : ℕ) (t : List ℕ) → (v ≡ 3 → ⊥) → names (versionOf v) (take 4 t) (drop 4 t) ≡ c40 (spelled t)
-names-four v t e = ap (λ w. names w (take 4 t) (drop 4 t)) (version-four v e)
+pub names-four : (v : Version) (t : List ℕ) → v ≡ four → names v (take 4 t) (drop 4 t) ≡ c40 (spelled t)
+names-four v t e = ap (λ w. names w (take 4 t) (drop 4 t)) e
 
 -- the first six characters fill two pairs
-pub names-six : (v : ℕ) (t : List ℕ) → (v ≡ 3 → ⊥) → 4 ≤ length t → names (versionOf v) (take 4 t) (drop 4 t) ≡ c40 (sixOf t) ++ c40 (drop 4 t)
+pub names-six : (v : Version) (t : List ℕ) → v ≡ four → 4 ≤ length t → names v (take 4 t) (drop 4 t) ≡ c40 (sixOf t) ++ c40 (drop 4 t)
 names-six v t e h =
     let u = drop 4 t in
     let x = getD t 0 0 in
@@ -132,14 +132,14 @@ names-six v t e h =
     names-four v t e ∙ ap c40 (spelled-six t h) ∙ pairs u ∙ sym (append-assoc one two (c40 u)) ∙ ap (λ r. r ++ c40 u) (sym front)
 
 -- version 4's names put down: the six characters, then the reference
-module _ (v : ℕ) (t out : List ℕ) (at : ℕ) (codes : List ℕ) (n : Named v t) (other : v ≡ 3 → ⊥) (room : Room out at (names (versionOf v) (take 4 t) (drop 4 t))) (e : codes ≡ sixOf t) where
+module _ (v : Version) (t out : List ℕ) (at : ℕ) (codes : List ℕ) (n : Named v t) (other : v ≡ four) (room : Room out at (names v (take 4 t) (drop 4 t))) (e : codes ≡ sixOf t) where
   four-size : (5 ≤ length t) × (length t ≤ 259)
   four-size = size-four v (length t) other (n .size)
 
-  both-parts : names (versionOf v) (take 4 t) (drop 4 t) ≡ c40 codes ++ c40 (drop 4 t)
+  both-parts : names v (take 4 t) (drop 4 t) ≡ c40 codes ++ c40 (drop 4 t)
   both-parts = names-six v t other (omega (arith, four-size .0)) ∙ ap (λ l. c40 l ++ c40 (drop 4 t)) (sym e)
 
-  both-long : length (names (versionOf v) (take 4 t) (drop 4 t)) ≡ length (c40 codes) + length (c40 (drop 4 t))
+  both-long : length (names v (take 4 t) (drop 4 t)) ≡ length (c40 codes) + length (c40 (drop 4 t))
   both-long = ap length both-parts ∙ length-append (c40 codes) (c40 (drop 4 t))
 
   pub six-asks : Text codes × (length codes ≤ 261) × Room out at (c40 codes)
@@ -160,7 +160,7 @@ module _ (v : ℕ) (t out : List ℕ) (at : ℕ) (codes : List ℕ) (n : Named v
       omega (arith, ap (λ l. length (c40 l)) is-left, both-long, room, reach, same-room),
     )
 
-    pub names-put : (to : ℕ) (after : List ℕ) → to ≡ next + length (c40 left) → after ≡ over out1 next (c40 left) → (to ≡ at + length (names (versionOf v) (take 4 t) (drop 4 t))) × (after ≡ over out at (names (versionOf v) (take 4 t) (drop 4 t)))
+    pub names-put : (to : ℕ) (after : List ℕ) → to ≡ next + length (c40 left) → after ≡ over out1 next (c40 left) → (to ≡ at + length (names v (take 4 t) (drop 4 t))) × (after ≡ over out at (names v (take 4 t) (drop 4 t)))
     names-put to after et ea =
         let l = c40 (drop 4 t) in (
           omega (arith, et, ap (λ x. length (c40 x)) is-left, both-long, reach),
@@ -237,29 +237,29 @@ unfolding messageZone
 zone-cons v values r rows = refl
 
 -- how far the features are put down
-pub record Putting (version : ℕ) (values t out₀ : List ℕ) (start : ℕ) (out : List ℕ) (at row : ℕ) : Type 0 where
+pub record Putting (version : Version) (values t out₀ : List ℕ) (start : ℕ) (out : List ℕ) (at row : ℕ) : Type 0 where
   pub before : List ℕ
   pub reached : at ≡ start + length before
   pub is : out ≡ over out₀ start before
-  pub whole : messageZone (versionOf version) (map (featureOf values) (rowsOf t)) ≡ before ++ messageZone (versionOf version) (map (featureOf values) (rowsOf (drop row t)))
+  pub whole : messageZone version (map (featureOf values) (rowsOf t)) ≡ before ++ messageZone version (map (featureOf values) (rowsOf (drop row t)))
   pub fits : Fitting version (length values) (rowsOf (drop row t))
-  pub room : Room out₀ start (messageZone (versionOf version) (map (featureOf values) (rowsOf t)))
+  pub room : Room out₀ start (messageZone version (map (featureOf values) (rowsOf t)))
   pub inside : row ≤ length t
 
-pub putting-start : (version : ℕ) (values t out : List ℕ) (start : ℕ) → Fitting version (length values) (rowsOf t) → Room out start (messageZone (versionOf version) (map (featureOf values) (rowsOf t))) → Putting version values t out start out start 0
+pub putting-start : (version : Version) (values t out : List ℕ) (start : ℕ) → Fitting version (length values) (rowsOf t) → Room out start (messageZone version (map (featureOf values) (rowsOf t))) → Putting version values t out start out start 0
 putting-start version values t out start fits room = record { before = []; reached = omega arith; is = sym (over-none out start); whole = refl; fits = fits; room = room; inside = omega arith }
 
-module _ (version : ℕ) (values t out₀ : List ℕ) (start : ℕ) (out : List ℕ) (at row : ℕ) (p : Putting version values t out₀ start out at row) where
-  long : length (p .before) ≤ length (messageZone (versionOf version) (map (featureOf values) (rowsOf t)))
-  long = omega (arith, ap length (p .whole), length-append (p .before) (messageZone (versionOf version) (map (featureOf values) (rowsOf (drop row t)))))
+module _ (version : Version) (values t out₀ : List ℕ) (start : ℕ) (out : List ℕ) (at row : ℕ) (p : Putting version values t out₀ start out at row) where
+  long : length (p .before) ≤ length (messageZone version (map (featureOf values) (rowsOf t)))
+  long = omega (arith, ap length (p .whole), length-append (p .before) (messageZone version (map (featureOf values) (rowsOf (drop row t)))))
 
   pub putting-length : length out ≡ length out₀
   putting-length = ap length (p .is) ∙ length-over out₀ start (p .before) (omega (arith, long, p .room))
 
-  pub putting-end : length t ≤ row + 2 → (at ≡ start + length (messageZone (versionOf version) (map (featureOf values) (rowsOf t)))) × (out ≡ over out₀ start (messageZone (versionOf version) (map (featureOf values) (rowsOf t))))
+  pub putting-end : length t ≤ row + 2 → (at ≡ start + length (messageZone version (map (featureOf values) (rowsOf t)))) × (out ≡ over out₀ start (messageZone version (map (featureOf values) (rowsOf t))))
   putting-end h =
-      let all : messageZone (versionOf version) (map (featureOf values) (rowsOf t)) ≡ p .before =
-      p .whole ∙ ap (λ r. p .before ++ messageZone (versionOf version) (map (featureOf values) r)) (rows-end t row h) ∙ ap (λ z. p .before ++ z) (zone-none (versionOf version) values) ∙ append-nil (p .before) in
+      let all : messageZone version (map (featureOf values) (rowsOf t)) ≡ p .before =
+      p .whole ∙ ap (λ r. p .before ++ messageZone version (map (featureOf values) r)) (rows-end t row h) ∙ ap (λ z. p .before ++ z) (zone-none version values) ∙ append-nil (p .before) in
       (omega (arith, ap length all, p .reached), p .is ∙ ap (over out₀ start) (sym all))
 
   module _ (here : row + 2 < length t) where
@@ -270,34 +270,34 @@ module _ (version : ℕ) (values t out₀ : List ℕ) (start : ℕ) (out : List 
     pub putting-fits : Fits version (length values) (rowAt t row)
     putting-fits = all-fit .0
 
-    on : messageZone (versionOf version) (map (featureOf values) (rowsOf t)) ≡ p .before ++ (feature (versionOf version) (featureOf values (rowAt t row)) ++ messageZone (versionOf version) (map (featureOf values) (rowsOf (drop (row + 3) t))))
+    on : messageZone version (map (featureOf values) (rowsOf t)) ≡ p .before ++ (feature version (featureOf values (rowAt t row)) ++ messageZone version (map (featureOf values) (rowsOf (drop (row + 3) t))))
     on =
-        p .whole ∙ ap (λ r. p .before ++ messageZone (versionOf version) (map (featureOf values) r)) (rows-here t row here)
-        ∙ ap (λ z. p .before ++ z) (zone-cons (versionOf version) values (rowAt t row) (rowsOf (drop (row + 3) t)))
+        p .whole ∙ ap (λ r. p .before ++ messageZone version (map (featureOf values) r)) (rows-here t row here)
+        ∙ ap (λ z. p .before ++ z) (zone-cons version values (rowAt t row) (rowsOf (drop (row + 3) t)))
 
     module _ (value : List ℕ) (e : value ≡ take (getD t (row + 2) 0) (drop (getD t (row + 1) 0) values)) where
-      same : feature (versionOf version) (featureOf values (rowAt t row)) ≡ feature (versionOf version) (record { tag = getD t row 0; value = value })
-      same = ap (λ l. feature (versionOf version) (record { tag = getD t row 0; value = l })) (sym e)
+      same : feature version (featureOf values (rowAt t row)) ≡ feature version (record { tag = getD t row 0; value = value })
+      same = ap (λ l. feature version (record { tag = getD t row 0; value = l })) (sym e)
 
       sized : length value ≡ getD t (row + 2) 0
       sized = ap length e ∙ length-take-le (getD t (row + 2) 0) (drop (getD t (row + 1) 0) values) (omega (arith, putting-fits .1, length-drop (getD t (row + 1) 0) values))
 
-      fits-here : Room out at (feature (versionOf version) (record { tag = getD t row 0; value = value }))
+      fits-here : Room out at (feature version (record { tag = getD t row 0; value = value }))
       fits-here =
-          let f = feature (versionOf version) (featureOf values (rowAt t row)) in
-          let rest = messageZone (versionOf version) (map (featureOf values) (rowsOf (drop (row + 3) t))) in
+          let f = feature version (featureOf values (rowAt t row)) in
+          let rest = messageZone version (map (featureOf values) (rowsOf (drop (row + 3) t))) in
           omega (arith, ap length on, length-append (p .before) (f ++ rest), length-append f rest, ap length same, p .room, p .reached, putting-length)
 
-      pub putting-asks : (getD t row 0 < 256) × Measured version (length value) × Room out at (feature (versionOf version) (record { tag = getD t row 0; value = value }))
-      putting-asks = (omega (arith, putting-fits .0), (omega (arith, putting-fits .2 .0, sized), λ three. omega (arith, putting-fits .2 .1 three, sized)), fits-here)
+      pub putting-asks : (getD t row 0 < 256) × Measured version (length value) × Room out at (feature version (record { tag = getD t row 0; value = value }))
+      putting-asks = (omega (arith, putting-fits .0), (omega (arith, putting-fits .2 .0, sized), subst (ValueSize version) (sym sized) (putting-fits .2 .1)), fits-here)
 
-      pub putting-more : (out′ : List ℕ) (at′ : ℕ) → at′ ≡ at + length (feature (versionOf version) (record { tag = getD t row 0; value = value })) → out′ ≡ over out at (feature (versionOf version) (record { tag = getD t row 0; value = value })) → Putting version values t out₀ start out′ at′ (row + 3)
+      pub putting-more : (out′ : List ℕ) (at′ : ℕ) → at′ ≡ at + length (feature version (record { tag = getD t row 0; value = value })) → out′ ≡ over out at (feature version (record { tag = getD t row 0; value = value })) → Putting version values t out₀ start out′ at′ (row + 3)
       putting-more out′ at′ ea eo =
-          let f = feature (versionOf version) (record { tag = getD t row 0; value = value }) in record {
+          let f = feature version (record { tag = getD t row 0; value = value }) in record {
             before = p .before ++ f;
             reached = omega (arith, p .reached, ea, length-append (p .before) f);
             is = eo ∙ ap (λ o. over o at f) (p .is) ∙ ap (λ k. over (over out₀ start (p .before)) k f) (p .reached) ∙ over-over out₀ start (p .before) f (omega (arith, long, p .room));
-            whole = on ∙ ap (λ l. p .before ++ (l ++ messageZone (versionOf version) (map (featureOf values) (rowsOf (drop (row + 3) t))))) same ∙ sym (append-assoc (p .before) f (messageZone (versionOf version) (map (featureOf values) (rowsOf (drop (row + 3) t)))));
+            whole = on ∙ ap (λ l. p .before ++ (l ++ messageZone version (map (featureOf values) (rowsOf (drop (row + 3) t))))) same ∙ sym (append-assoc (p .before) f (messageZone version (map (featureOf values) (rowsOf (drop (row + 3) t)))));
             fits = all-fit .1;
             room = p .room;
             inside = omega arith;

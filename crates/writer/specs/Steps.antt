@@ -10,59 +10,59 @@ use Rattle.format.specs.Bytes.{All}
 use Rattle.c40.specs.Text.{publish as c40}
 use Rattle.dates.specs.Days.{publish as date}
 use Rattle.versions.specs.Versions.{versionByte}
+use Rattle.versions.specs.declared.Version.{Version}
+use Rattle.grammar.specs.Legal.{ValueSize}
 use Rattle.grammar.specs.Publish.{carried, hexDigits, names, publish}
 use Rattle.letters.specs.Characters.{isReference, all, isSigner}
 use Rattle.verdict.specs.Judge.{Row, isSignature}
-use Rattle.given.specs.Given.{versionOf}
 use Rattle.items.specs.declared.Header.{Header}
-use Rattle.given.specs.Tests.{isVersion, isTextSize, areNames, areDays, areLast, isTable, areValues}
-use Rattle.given.specs.Given.{Given, threeOf, contentOf}
+use Rattle.given.specs.Tests.{isTextSize, areNames, areDays, areLast, isTable, areValues}
+use Rattle.given.specs.Given.{Given, threeOf, contentAs}
 
 -- a buffer has room for these bytes from a place on
 abbrev pub Room : List ℕ → ℕ → List ℕ → Type 0
 Room out at bytes = at + length bytes ≤ length out
 
 -- a length that a seal can have: at most 4,096, and in version 3 at most 255
-abbrev pub Measured : ℕ → ℕ → Type 0
-Measured version size = (size ≤ 4096) × (version ≡ 3 → size ≤ 255)
+abbrev pub Measured : Version → ℕ → Type 0
+Measured v size = (size ≤ 4096) × ValueSize v size
 
 -- a row that was judged, over so many bytes of values
-abbrev pub Fits : ℕ → ℕ → Row → Type 0
-Fits version n r = (r .tag ≤ 254) × (r .place + r .size ≤ n) × Measured version (r .size)
+abbrev pub Fits : Version → ℕ → Row → Type 0
+Fits v n r = (r .tag ≤ 254) × (r .place + r .size ≤ n) × Measured v (r .size)
 
-abbrev pub Fitting : ℕ → ℕ → List Row → Type 0
-Fitting version n rows = All (Fits version n) rows
+abbrev pub Fitting : Version → ℕ → List Row → Type 0
+Fitting v n rows = All (Fits v n) rows
 
 -- a text that was judged
-pub record Named (version : ℕ) (text : List ℕ) : Type 0 where
-  pub size : isTextSize version (length text) ≡ true
+pub record Named (v : Version) (text : List ℕ) : Type 0 where
+  pub size : isTextSize v (length text) ≡ true
   pub signer : isSigner (take 4 text) ≡ true
   pub reference : all isReference (drop 4 text) ≡ true
 
 -- a header that was judged, with its text
-pub record Headed (h : Header) (text : List ℕ) : Type 0 where
-  pub version : isVersion (h .version) ≡ true
-  pub names : areNames h text ≡ true
+abbrev pub Headed : Version → Header → List ℕ → Type 0
+Headed v h text = areNames v h text ≡ true
 
 pub record Dated (h : Header) : Type 0 where
   pub days : areDays h ≡ true
   pub last : areLast h ≡ true
 
 -- the header's items up to the reference, and from the dates on
-abbrev pub front : Header → List ℕ → List ℕ
-front h text = 0xDC ∷ versionByte (versionOf (h .version)) ∷ (c40 (map carried (threeOf (h .country))) ++ names (versionOf (h .version)) (take 4 text) (drop 4 text))
+abbrev pub front : Version → Header → List ℕ → List ℕ
+front v h text = 0xDC ∷ versionByte v ∷ (c40 (map carried (threeOf (h .country))) ++ names v (take 4 text) (drop 4 text))
 
 abbrev pub rest : Header → List ℕ
 rest h = date (h .issued) ++ (date (h .signed) ++ (h .definition ∷ h .category ∷ []))
 
 -- all that is judged but the room
-pub record Passed (g : Given) : Type 0 where
-  pub header : Headed (g .header) (g .text)
+pub record Passed (v : Version) (g : Given) : Type 0 where
+  pub header : Headed v (g .header) (g .text)
   pub dated : Dated (g .header)
   pub table : isTable (length (g .values)) (g .table) ≡ true
-  pub values : areValues (g .header .version) (g .table) ≡ true
+  pub values : areValues v (g .table) ≡ true
   pub signature : isSignature (length (g .signature)) ≡ true
-  pub size : length (publish (contentOf g)) ≤ 4096
+  pub size : length (publish (contentAs g v)) ≤ 4096
 
 -- the characters of version 4's names: signer, the reference's length, the reference
 abbrev pub spelled : List ℕ → List ℕ

@@ -5,14 +5,13 @@ use mathlib.Core.Bool.{true, false}
 use Prim.Native.Nat.{ℕ, _+_, _-_, _*_, _/_, _%_, _≤_}
 use native.Mathlib.Omega.{arith}
 use native.Mathlib.Nat.{zero-add}
-use borrow.Author.Tests.{eqb-true, eqb-false, eq-eqb, leb-true}
+use borrow.Author.Tests.{leb-true}
 use mathlib.Core.List.{List, [], _∷_, _++_, map, append-assoc}
 use lib.Dec.{eqb, leb}
 use lib.ListN.{length, take, drop, set, length-append, length-drop, length-set}
 use lib.Seq.{length-take-le}
 use Rattle.format.specs.Bytes.{All}
 use Rattle.format.specs.Choice.{pick}
-use Rattle.format.specs.Choice.Laws.{by-test}
 use Rattle.format.specs.Table.{both}
 use Rattle.format.specs.Buffer.{over}
 use Rattle.format.specs.Buffer.Laws.{length-over, over-over, over-two, Held, held-more}
@@ -21,7 +20,7 @@ use Rattle.c40.specs.Text.Laws.{length-publish}
 use Rattle.dates.specs.Days.{isDay, publish as date}
 use Rattle.dates.specs.Days.Laws.{length-publish as length-date, within-both}
 use Rattle.der.specs.Length.{form}
-use Rattle.grammar.specs.Content.{Version, four}
+use Rattle.grammar.specs.Content.{Version, three, four}
 use Rattle.versions.specs.Versions.{versionByte}
 use Rattle.grammar.specs.Publish.{carried, names, lengthOf, feature, headerZone, messageZone, signatureZone, signedBytes, publish}
 use Rattle.format.specs.Table.Laws.{both-true}
@@ -30,63 +29,44 @@ use Rattle.verdict.specs.Report.{featureOf}
 use Rattle.verdict.specs.Judge.{Row, used, isSignature}
 use Rattle.verdict.specs.Judge.Complete.{size-small}
 use Rattle.verdict.specs.Judge.Sound.{size-of}
-use Rattle.given.specs.Given.{versionOf}
 use Rattle.items.specs.declared.Header.{Header}
-use Rattle.given.specs.Tests.Laws.{size-three, size-four}
-use Rattle.given.specs.Tests.{isVersion, isTextSize, isRow, areRows, isTable, areShort}
-use Rattle.given.specs.Given.{rowsOf, threeOf, Given, contentOf}
+use Rattle.given.specs.Tests.Laws.{size-three, size-four, sized-head}
+use Rattle.given.specs.Tests.{isTextSize, isRow, areRows, isTable, areSized}
+use Rattle.given.specs.Given.{rowsOf, threeOf, Given, contentAs}
 use Rattle.writer.specs.Steps.{Room, Fitting, Named, Headed, Dated, front, rest, Passed, spelled}
-use Rattle.writer.specs.Steps.Laws.{version-three, version-four, version-is}
 use Rattle.writer.specs.Sizes.{rowsSize, namesSize, sealSize}
 use Rattle.writer.specs.Put.{zone-none, zone-cons, names-three, names-four, spelled-long}
 
 -- what the judged names say
-pub headed-country : (h : Header) (t : List ℕ) → Headed h t → isCountry 60 (h .country) ≡ true
-headed-country h t d = both-true (isCountry 60 (h .country)) _ (d .names) .0
+pub headed-country : (v : Version) (h : Header) (t : List ℕ) → Headed v h t → isCountry 60 (h .country) ≡ true
+headed-country v h t d = both-true (isCountry 60 (h .country)) _ d .0
 
-pub headed-named : (h : Header) (t : List ℕ) → Headed h t → Named (h .version) t
-headed-named h t d =
-    let a = both-true (isCountry 60 (h .country)) _ (d .names) in
-    let b = both-true (both (isTextSize (h .version) (length t)) (eqb (h .length + 4) (length t))) _ (a .1) in
-    let s = both-true (isTextSize (h .version) (length t)) _ (b .0) in
+pub headed-named : (v : Version) (h : Header) (t : List ℕ) → Headed v h t → Named v t
+headed-named v h t d =
+    let a = both-true (isCountry 60 (h .country)) _ d in
+    let b = both-true (both (isTextSize v (length t)) (eqb (h .length + 4) (length t))) _ (a .1) in
+    let s = both-true (isTextSize v (length t)) _ (b .0) in
     let n = both-true (isSigner (take 4 t)) _ (b .1) in
     record { size = s .0; signer = n .0; reference = n .1 }
-
--- the version's byte
-pub version-byte : (v : ℕ) → isVersion v ≡ true → versionByte (versionOf v) ≡ v - 1
-version-byte v e =
-    by-test (eqb v 3)
-    (λ t. let is = eqb-true v 3 t in ap versionByte (version-three v is) ∙ omega arith)
-    (λ t. let is = version-is v e (eqb-false v 3 t) in ap versionByte (version-four v (eqb-false v 3 t)) ∙ omega arith)
-
-pub version-bounds : (v : ℕ) → isVersion v ≡ true → (3 ≤ v) × (v ≤ 4)
-version-bounds v e =
-    by-test (eqb v 3)
-    (λ t. let is = eqb-true v 3 t in (omega arith, omega arith))
-    (λ t. let is = version-is v e (eqb-false v 3 t) in (omega arith, omega arith))
 
 -- sizes of the header's parts
 code-size : (t : List ℕ) → length (c40 (map carried (threeOf t))) ≡ 2
 code-size t = length-publish (map carried (threeOf t))
 
-names-size : (v : ℕ) (t : List ℕ) → isTextSize v (length t) ≡ true → length (names (versionOf v) (take 4 t) (drop 4 t)) ≡ namesSize (versionOf v) (length t)
-names-size v t s =
-    by-test (eqb v 3)
-    (λ e.
-    let is = eqb-true v 3 e in
-    let nine = size-three v (length t) is s in
+names-size : (v : Version) (t : List ℕ) → isTextSize v (length t) ≡ true → length (names v (take 4 t) (drop 4 t)) ≡ namesSize v (length t)
+names-size three t s =
+    let nine = size-three three (length t) refl s in
     let six : length (c40 t) ≡ 6 = omega (arith, length-publish t) in
-    ap length (names-three v t is) ∙ six ∙ sym (ap (λ w. namesSize w (length t)) (version-three v is)))
-    (λ e.
-    let other = eqb-false v 3 e in
-    let least = size-four v (length t) other s in
+    ap length (names-three three t refl) ∙ six
+names-size four t s =
+    let least = size-four four (length t) refl s in
     let long : length (c40 (spelled t)) ≡ (length t + 4) / 3 * 2 = omega (arith, length-publish (spelled t), spelled-long t (omega arith)) in
-    ap length (names-four v t other) ∙ long ∙ sym (ap (λ w. namesSize w (length t)) (version-four v other)))
+    ap length (names-four four t refl) ∙ long
 
-pub front-size : (h : Header) (t : List ℕ) → Headed h t → length (front h t) ≡ 4 + namesSize (versionOf (h .version)) (length t)
-front-size h t d =
-    let n = names (versionOf (h .version)) (take 4 t) (drop 4 t) in
-    omega (arith, length-append (c40 (map carried (threeOf (h .country)))) n, code-size (h .country), names-size (h .version) t (headed-named h t d .size))
+pub front-size : (v : Version) (h : Header) (t : List ℕ) → Headed v h t → length (front v h t) ≡ 4 + namesSize v (length t)
+front-size v h t d =
+    let n = names v (take 4 t) (drop 4 t) in
+    omega (arith, length-append (c40 (map carried (threeOf (h .country)))) n, code-size (h .country), names-size v t (headed-named v h t d .size))
 
 pub rest-size : (h : Header) → length (rest h) ≡ 8
 rest-size h =
@@ -94,30 +74,30 @@ rest-size h =
     omega (arith, length-append (date (h .issued)) (date (h .signed) ++ last), length-append (date (h .signed)) last, length-date (h .issued), length-date (h .signed))
 
 -- the front put down
-module _ (h : Header) (t out : List ℕ) (d : Headed h t) (room : Room out 0 (front h t)) where
-  pub front-room : (code : List ℕ) → map carried (threeOf (h .country)) ≡ code → Room (set (set out 0 0xDC) 1 (h .version - 1)) 2 (c40 code)
+module _ (v : Version) (h : Header) (t out : List ℕ) (room : Room out 0 (front v h t)) (b : ℕ) (is-byte : b ≡ versionByte v) where
+  pub front-room : (code : List ℕ) → map carried (threeOf (h .country)) ≡ code → Room (set (set out 0 0xDC) 1 b) 2 (c40 code)
   front-room code e =
-      let n = names (versionOf (h .version)) (take 4 t) (drop 4 t) in
-      omega (arith, length-append (c40 (map carried (threeOf (h .country)))) n, ap (λ l. length (c40 l)) e, length-set (set out 0 0xDC) 1 (h .version - 1), length-set out 0 0xDC)
+      let n = names v (take 4 t) (drop 4 t) in
+      omega (arith, length-append (c40 (map carried (threeOf (h .country)))) n, ap (λ l. length (c40 l)) e, length-set (set out 0 0xDC) 1 b, length-set out 0 0xDC)
 
-  module _ (code out1 : List ℕ) (at1 : ℕ) (e : map carried (threeOf (h .country)) ≡ code) (e1 : at1 ≡ 2 + length (c40 code)) (o1 : out1 ≡ over (set (set out 0 0xDC) 1 (h .version - 1)) 2 (c40 code)) where
-    first : Held out (set (set out 0 0xDC) 1 (h .version - 1)) 2 (0xDC ∷ (h .version - 1) ∷ [])
-    first = record { many = refl; is = over-two out 0 0xDC (h .version - 1) (omega (arith, length-append (c40 (map carried (threeOf (h .country)))) (names (versionOf (h .version)) (take 4 t) (drop 4 t)))) }
+  module _ (code out1 : List ℕ) (at1 : ℕ) (e : map carried (threeOf (h .country)) ≡ code) (e1 : at1 ≡ 2 + length (c40 code)) (o1 : out1 ≡ over (set (set out 0 0xDC) 1 b) 2 (c40 code)) where
+    first : Held out (set (set out 0 0xDC) 1 b) 2 (0xDC ∷ b ∷ [])
+    first = record { many = refl; is = over-two out 0 0xDC b (omega (arith, length-append (c40 (map carried (threeOf (h .country)))) (names v (take 4 t) (drop 4 t)))) }
 
-    sum : length (front h t) ≡ at1 + length (names (versionOf (h .version)) (take 4 t) (drop 4 t))
-    sum = omega (arith, length-append (c40 (map carried (threeOf (h .country)))) (names (versionOf (h .version)) (take 4 t) (drop 4 t)), ap (λ l. length (c40 l)) e, e1)
+    sum : length (front v h t) ≡ at1 + length (names v (take 4 t) (drop 4 t))
+    sum = omega (arith, length-append (c40 (map carried (threeOf (h .country)))) (names v (take 4 t) (drop 4 t)), ap (λ l. length (c40 l)) e, e1)
 
-    second : Held out out1 at1 (0xDC ∷ (h .version - 1) ∷ c40 code)
-    second = held-more out (set (set out 0 0xDC) 1 (h .version - 1)) 2 (0xDC ∷ (h .version - 1) ∷ []) first (c40 code) out1 at1 o1 (sym e1) (omega (arith, sum))
+    second : Held out out1 at1 (0xDC ∷ b ∷ c40 code)
+    second = held-more out (set (set out 0 0xDC) 1 b) 2 (0xDC ∷ b ∷ []) first (c40 code) out1 at1 o1 (sym e1) (omega (arith, sum))
 
-    pub names-room : Room out1 at1 (names (versionOf (h .version)) (take 4 t) (drop 4 t))
-    names-room = omega (arith, sum, ap length (second .is) ∙ length-over out 0 (0xDC ∷ (h .version - 1) ∷ c40 code) (omega (arith, second .many, sum)))
+    pub names-room : Room out1 at1 (names v (take 4 t) (drop 4 t))
+    names-room = omega (arith, sum, ap length (second .is) ∙ length-over out 0 (0xDC ∷ b ∷ c40 code) (omega (arith, second .many, sum)))
 
-    pub put-front : (out2 : List ℕ) (at2 : ℕ) → at2 ≡ at1 + length (names (versionOf (h .version)) (take 4 t) (drop 4 t)) → out2 ≡ over out1 at1 (names (versionOf (h .version)) (take 4 t) (drop 4 t)) → (at2 ≡ length (front h t)) × (out2 ≡ over out 0 (front h t))
+    pub put-front : (out2 : List ℕ) (at2 : ℕ) → at2 ≡ at1 + length (names v (take 4 t) (drop 4 t)) → out2 ≡ over out1 at1 (names v (take 4 t) (drop 4 t)) → (at2 ≡ length (front v h t)) × (out2 ≡ over out 0 (front v h t))
     put-front out2 at2 e2 o2 =
-        let n = names (versionOf (h .version)) (take 4 t) (drop 4 t) in
-        let third = held-more out out1 at1 (0xDC ∷ (h .version - 1) ∷ c40 code) second n out2 at2 o2 (sym e2) (omega (arith, sum)) in
-        (omega (arith, sum), third .is ∙ ap (λ b. over out 0 (0xDC ∷ b ∷ (c40 code ++ n))) (sym (version-byte (h .version) (d .version))) ∙ ap (λ l. over out 0 (0xDC ∷ versionByte (versionOf (h .version)) ∷ (c40 l ++ n))) (sym e))
+        let n = names v (take 4 t) (drop 4 t) in
+        let third = held-more out out1 at1 (0xDC ∷ b ∷ c40 code) second n out2 at2 o2 (sym e2) (omega (arith, sum)) in
+        (omega (arith, sum), third .is ∙ ap (λ x. over out 0 (0xDC ∷ x ∷ (c40 code ++ n))) is-byte ∙ ap (λ l. over out 0 (0xDC ∷ versionByte v ∷ (c40 l ++ n))) (sym e))
 
 -- a part after a part
 pub over-then : (out : List ℕ) (at : ℕ) (p q out1 : List ℕ) (at1 : ℕ) (out2 : List ℕ) → Room out at (p ++ q) → out1 ≡ over out at p → at1 ≡ at + length p → out2 ≡ over out1 at1 q → out2 ≡ over out at (p ++ q)
@@ -155,36 +135,36 @@ zone-size v values (r ∷ rows) a =
     omega (arith, length-append (lengthOf v (length value)) value, ap (λ k. length (lengthOf v k)) long) in
     ap length (zone-cons v values r rows) ∙ length-append f (messageZone v (map (featureOf values) rows)) ∙ omega arith
 
-short-fit : (version n : ℕ) (rows : List Row) → All (Inside n) rows → rowsSize (versionOf version) rows ≤ 4096 → (version ≡ 3 → areShort rows ≡ true) → Fitting version n rows
-unfolding rowsSize areShort
-short-fit version n [] a h s = tt
-short-fit version n (r ∷ rows) a h s =
-    let ih = short-fit version n rows (a .1) (omega arith) (λ e. both-true (leb (r .size) 255) (areShort rows) (s e) .1) in
-    ((a .0 .0, a .0 .1, (omega arith, λ e. leb-true (r .size) 255 (both-true (leb (r .size) 255) (areShort rows) (s e) .0))), ih)
+short-fit : (v : Version) (n : ℕ) (rows : List Row) → All (Inside n) rows → rowsSize v rows ≤ 4096 → areSized v rows ≡ true → Fitting v n rows
+unfolding rowsSize
+short-fit v n [] a h s = tt
+short-fit v n (r ∷ rows) a h s =
+    let b = sized-head v r rows s in
+    let ih = short-fit v n rows (a .1) (omega arith) (b .1) in
+    ((a .0 .0, a .0 .1, (omega arith, b .0)), ih)
 
 -- the published form, part by part
-pub seal-parts : (g : Given) → publish (contentOf g) ≡ front (g .header) (g .text) ++ (rest (g .header) ++ (messageZone (versionOf (g .header .version)) (map (featureOf (g .values)) (rowsOf (g .table))) ++ feature four (record { tag = 0xFF; value = g .signature })))
-unfolding publish signedBytes headerZone signatureZone contentOf
-seal-parts g = simp append-assoc
+pub seal-parts : (v : Version) (g : Given) → publish (contentAs g v) ≡ front v (g .header) (g .text) ++ (rest (g .header) ++ (messageZone v (map (featureOf (g .values)) (rowsOf (g .table))) ++ feature four (record { tag = 0xFF; value = g .signature })))
+unfolding publish signedBytes headerZone signatureZone contentAs
+seal-parts v g = simp append-assoc
 
-module _ (g : Given) (h : Headed (g .header) (g .text)) (table : isTable (length (g .values)) (g .table) ≡ true) where
+module _ (v : Version) (g : Given) (h : Headed v (g .header) (g .text)) (table : isTable (length (g .values)) (g .table) ≡ true) where
   inside : All (Inside (length (g .values))) (rowsOf (g .table))
   inside = rows-inside (length (g .values)) [] (rowsOf (g .table)) (both-true (eqb (length (g .table) % 3) 0) (areRows (length (g .values)) [] (rowsOf (g .table))) table .1)
 
-  pub seal-size : length (publish (contentOf g)) ≡ sealSize (versionOf (g .header .version)) (length (g .text)) (rowsOf (g .table)) (length (g .signature))
+  pub seal-size : length (publish (contentAs g v)) ≡ sealSize v (length (g .text)) (rowsOf (g .table)) (length (g .signature))
   seal-size =
-      let a = front (g .header) (g .text) in
+      let a = front v (g .header) (g .text) in
       let b = rest (g .header) in
-      let z = messageZone (versionOf (g .header .version)) (map (featureOf (g .values)) (rowsOf (g .table))) in
+      let z = messageZone v (map (featureOf (g .values)) (rowsOf (g .table))) in
       let s = feature four (record { tag = 0xFF; value = g .signature }) in
-      ap length (seal-parts g)
-      ∙ omega (arith, length-append a (b ++ (z ++ s)), length-append b (z ++ s), length-append z s, length-append (form (length (g .signature))) (g .signature), front-size (g .header) (g .text) h, rest-size (g .header), zone-size (versionOf (g .header .version)) (g .values) (rowsOf (g .table)) inside)
+      ap length (seal-parts v g)
+      ∙ omega (arith, length-append a (b ++ (z ++ s)), length-append b (z ++ s), length-append z s, length-append (form (length (g .signature))) (g .signature), front-size v (g .header) (g .text) h, rest-size (g .header), zone-size v (g .values) (rowsOf (g .table)) inside)
 
-pub passed-fit : (g : Given) → Passed g → Fitting (g .header .version) (length (g .values)) (rowsOf (g .table))
-passed-fit g p =
-    let size = seal-size g (p .header) (p .table) in
-    short-fit (g .header .version) (length (g .values)) (rowsOf (g .table)) (inside g (p .header) (p .table)) (omega (arith, p .size))
-    (λ e. sym (ap (λ b. pick b (areShort (rowsOf (g .table))) true) (eq-eqb (g .header .version) 3 e)) ∙ p .values)
+pub passed-fit : (v : Version) (g : Given) → Passed v g → Fitting v (length (g .values)) (rowsOf (g .table))
+passed-fit v g p =
+    let size = seal-size v g (p .header) (p .table) in
+    short-fit v (length (g .values)) (rowsOf (g .table)) (inside v g (p .header) (p .table)) (omega (arith, p .size)) (p .values)
 
 -- a signature's length
 pub signature-most : (n : ℕ) → isSignature n ≡ true → n ≤ 132
@@ -228,25 +208,25 @@ module _ (h : Header) (out : List ℕ) (at : ℕ) (room : Room out at (rest h)) 
     )
 
 -- the seal's parts put down
-module _ (g : Given) (out : List ℕ) (room : Room out 0 (publish (contentOf g))) where
+module _ (v : Version) (g : Given) (out : List ℕ) (room : Room out 0 (publish (contentAs g v))) where
   abbrev zone : List ℕ
-  zone = messageZone (versionOf (g .header .version)) (map (featureOf (g .values)) (rowsOf (g .table)))
+  zone = messageZone v (map (featureOf (g .values)) (rowsOf (g .table)))
 
   abbrev mark : List ℕ
   mark = feature four (record { tag = 0xFF; value = g .signature })
 
-  whole-room : Room out 0 (front (g .header) (g .text) ++ (rest (g .header) ++ (zone ++ mark)))
-  whole-room = subst (Room out 0) (seal-parts g) room
+  whole-room : Room out 0 (front v (g .header) (g .text) ++ (rest (g .header) ++ (zone ++ mark)))
+  whole-room = subst (Room out 0) (seal-parts v g) room
 
-  pub seal-front : Room out 0 (front (g .header) (g .text))
-  seal-front = front-part out 0 (front (g .header) (g .text)) (rest (g .header) ++ (zone ++ mark)) whole-room
+  pub seal-front : Room out 0 (front v (g .header) (g .text))
+  seal-front = front-part out 0 (front v (g .header) (g .text)) (rest (g .header) ++ (zone ++ mark)) whole-room
 
-  module _ (out1 : List ℕ) (at1 : ℕ) (e1 : at1 ≡ length (front (g .header) (g .text))) (o1 : out1 ≡ over out 0 (front (g .header) (g .text))) where
-    zero-first : at1 ≡ 0 + length (front (g .header) (g .text))
-    zero-first = e1 ∙ sym (zero-add (length (front (g .header) (g .text))))
+  module _ (out1 : List ℕ) (at1 : ℕ) (e1 : at1 ≡ length (front v (g .header) (g .text))) (o1 : out1 ≡ over out 0 (front v (g .header) (g .text))) where
+    zero-first : at1 ≡ 0 + length (front v (g .header) (g .text))
+    zero-first = e1 ∙ sym (zero-add (length (front v (g .header) (g .text))))
 
     past-front : Room out1 at1 (rest (g .header) ++ (zone ++ mark))
-    past-front = then-room out 0 (front (g .header) (g .text)) (rest (g .header) ++ (zone ++ mark)) out1 at1 whole-room o1 zero-first
+    past-front = then-room out 0 (front v (g .header) (g .text)) (rest (g .header) ++ (zone ++ mark)) out1 at1 whole-room o1 zero-first
 
     pub seal-rest : Room out1 at1 (rest (g .header))
     seal-rest = front-part out1 at1 (rest (g .header)) (zone ++ mark) past-front
@@ -258,16 +238,16 @@ module _ (g : Given) (out : List ℕ) (room : Room out 0 (publish (contentOf g))
       past-rest : Room out2 at2 (zone ++ mark)
       past-rest = then-room out1 at1 (rest (g .header)) (zone ++ mark) out2 at2 past-front o2 eight
 
-      pub seal-rows : Room out2 at2 (messageZone (versionOf (g .header .version)) (map (featureOf (g .values)) (rowsOf (g .table))))
+      pub seal-rows : Room out2 at2 (messageZone v (map (featureOf (g .values)) (rowsOf (g .table))))
       seal-rows = front-part out2 at2 zone mark past-rest
 
-      module _ (out3 : List ℕ) (at3 : ℕ) (e3 : at3 ≡ at2 + length (messageZone (versionOf (g .header .version)) (map (featureOf (g .values)) (rowsOf (g .table))))) (o3 : out3 ≡ over out2 at2 (messageZone (versionOf (g .header .version)) (map (featureOf (g .values)) (rowsOf (g .table))))) where
+      module _ (out3 : List ℕ) (at3 : ℕ) (e3 : at3 ≡ at2 + length (messageZone v (map (featureOf (g .values)) (rowsOf (g .table))))) (o3 : out3 ≡ over out2 at2 (messageZone v (map (featureOf (g .values)) (rowsOf (g .table))))) where
         pub seal-mark : Room out3 at3 (feature four (record { tag = 0xFF; value = g .signature }))
         seal-mark = then-room out2 at2 zone mark out3 at3 past-rest o3 e3
 
-        pub put-seal : (out4 : List ℕ) → out4 ≡ over out3 at3 (feature four (record { tag = 0xFF; value = g .signature })) → out4 ≡ over out 0 (publish (contentOf g))
+        pub put-seal : (out4 : List ℕ) → out4 ≡ over out3 at3 (feature four (record { tag = 0xFF; value = g .signature })) → out4 ≡ over out 0 (publish (contentAs g v))
         put-seal out4 o4 =
             let third = over-then out2 at2 zone mark out3 at3 out4 past-rest o3 e3 o4 in
             let second = over-then out1 at1 (rest (g .header)) (zone ++ mark) out2 at2 out4 past-front o2 eight third in
-            over-then out 0 (front (g .header) (g .text)) (rest (g .header) ++ (zone ++ mark)) out1 at1 out4 whole-room o1 zero-first second
-            ∙ ap (over out 0) (sym (seal-parts g))
+            over-then out 0 (front v (g .header) (g .text)) (rest (g .header) ++ (zone ++ mark)) out1 at1 out4 whole-room o1 zero-first second
+            ∙ ap (over out 0) (sym (seal-parts v g))

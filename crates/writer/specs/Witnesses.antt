@@ -3,6 +3,7 @@
 use mathlib.Core.Path.{_≡_, refl}
 use Prim.Native.Nat.{ℕ}
 use mathlib.Core.List.{List, [], _∷_, _++_, map}
+use mathlib.Core.Option.{some}
 use lib.ListN.{replicate}
 use Rattle.format.specs.Bytes.{All}
 use Rattle.format.specs.Numbers.{be}
@@ -16,8 +17,8 @@ use Rattle.grammar.specs.Publish.{headerZone, messageZone, signatureZone, signe
 use Rattle.grammar.specs.Examples.{uto, utab, ref-00001, d-fillers, spring, content-a, seal-a, content-b, signed-b}
 use Rattle.items.specs.declared.Header.{Header}
 use Rattle.given.specs.Tests.{areRows, areShort}
-use Rattle.given.specs.Given.{rowsOf, Given, contentOf, given}
-use Rattle.writer.specs.Calls.{writing}
+use Rattle.given.specs.Given.{rowsOf, Given, contentAs, contentOf, given}
+use Rattle.writer.specs.Calls.{writingAs, writing}
 
 -- Seal A as it is given: header, text, one row over four bytes, signature
 abbrev headed : ℕ → List ℕ → ℕ → Date → ℕ → Header
@@ -41,12 +42,12 @@ signature-a = replicate 56 0xAA
 abbrev pub given-a : Given
 given-a = given header-a text-a table-a values-a signature-a
 
-a-content : contentOf given-a ≡ content-a
-unfolding contentOf rowsOf
+a-content : contentOf given-a ≡ some content-a
+unfolding contentOf contentAs rowsOf
 a-content = refl
 
 pub seal-a-written : writing given-a 82 ≡ done seal-a
-unfolding writing contentOf rowsOf areRows areShort isDay publish signedBytes headerZone messageZone signatureZone date be c40 triple theChart valueOf form
+unfolding writing writingAs contentAs rowsOf areRows areShort isDay publish signedBytes headerZone messageZone signatureZone date be c40 triple theChart valueOf form
 seal-a-written = refl
 
 -- B, version 4, where no two fields are alike: the rows stand in another order than their values, and the last value is empty at the buffer's end
@@ -59,12 +60,12 @@ given-b =
     (9 ∷ replicate 128 7)
     (replicate 128 0xAA)
 
-b-content : contentOf given-b ≡ content-b
-unfolding contentOf rowsOf
+b-content : contentOf given-b ≡ some content-b
+unfolding contentOf contentAs rowsOf
 b-content = refl
 
 pub seal-b-written : writing given-b 288 ≡ done (signed-b ++ (0xFF ∷ 0x81 ∷ 0x80 ∷ replicate 128 0xAA))
-unfolding writing contentOf rowsOf areRows areShort isDay publish signedBytes headerZone messageZone signatureZone date be c40 triple theChart valueOf form
+unfolding writing writingAs contentAs rowsOf areRows areShort isDay publish signedBytes headerZone messageZone signatureZone date be c40 triple theChart valueOf form
 seal-b-written = refl
 
 -- a call, the room lent and the number of the refusal
@@ -121,7 +122,7 @@ witnesses =
     ∷ []
 
 pub each-is-given : All Refused witnesses
-unfolding writing contentOf rowsOf areRows areShort isDay publish signedBytes headerZone messageZone signatureZone date be c40 triple theChart valueOf form
+unfolding writing writingAs contentAs rowsOf areRows areShort isDay publish signedBytes headerZone messageZone signatureZone date be c40 triple theChart valueOf form
 each-is-given = (refl, (refl, (refl, (refl, (refl, (refl, (refl, (refl, (refl, (refl, (refl, (refl, (refl, (refl, (refl, (refl, (refl, (refl, (refl, tt)))))))))))))))))))
 
 -- they are 20 to 28, none left out
@@ -146,5 +147,5 @@ in-order =
     ∷ []
 
 pub each-in-order : All Refused in-order
-unfolding writing contentOf rowsOf areRows areShort isDay publish signedBytes headerZone messageZone signatureZone date be c40 triple theChart valueOf form
+unfolding writing writingAs contentAs rowsOf areRows areShort isDay publish signedBytes headerZone messageZone signatureZone date be c40 triple theChart valueOf form
 each-in-order = (refl, (refl, (refl, (refl, (refl, (refl, (refl, (refl, (refl, tt)))))))))

@@ -10,6 +10,8 @@ mod put;
 mod size;
 
 use items::Header;
+use versions::Stated;
+use versions::Version;
 
 // What a writing answers; `writingOf` of specs/Calls.antt gives each case its number.
 pub enum Writing {
@@ -48,10 +50,10 @@ pub fn write(
     ensures answer { λ r. ⌜ writingOf r ≡ told (writing (given header (now (text .entry)) (now (rows .entry)) (now (values .entry)) (now (signature .entry))) (length (now (out .entry)))) ⌝ }
     ensures buffer { λ r. ⌜ now (out .exit) ≡ filled (writing (given header (now (text .entry)) (now (rows .entry)) (now (values .entry)) (now (signature .entry))) (length (now (out .entry)))) (now (out .entry)) ⌝ }
 {
-    if !given::is_version(header.version) {
+    let Stated::Is(version) = Version::from_number(header.version) else {
         return Writing::Version;
-    }
-    if !given::are_names(header, text) {
+    };
+    if !given::are_names(version, header, text) {
         return Writing::Names;
     }
     if !given::are_days(header) {
@@ -63,19 +65,19 @@ pub fn write(
     if !given::are_rows(rows, values.len()) {
         return Writing::Rows;
     }
-    if !given::are_values(header.version, rows) {
+    if !given::are_values(version, rows) {
         return Writing::Values;
     }
     if !items::is_signature(signature.len()) {
         return Writing::Signature;
     }
-    let size = size::seal_size(header.version, text.len(), rows, signature.len());
+    let size = size::seal_size(version, text.len(), rows, signature.len());
     if 4096 < size {
         return Writing::TooLong;
     }
     if out.len() < size {
         return Writing::NoRoom;
     }
-    put::put_seal(header, text, rows, values, signature, out);
+    put::put_seal(version, header, text, rows, values, signature, out);
     Writing::Done(size)
 }

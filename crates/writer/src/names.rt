@@ -5,8 +5,8 @@ ghost use lib.ListN.{length, take, drop};
 ghost use Rattle.format.specs.Buffer.{over};
 ghost use Rattle.c40.specs.Text.{Text, publish as c40In};
 ghost use Rattle.grammar.specs.Publish.{carried as carriedIn, names as namesIn, hexDigit};
-ghost use Rattle.given.specs.Given.{versionOf};
 ghost use Rattle.writer.specs.Steps.{Room, Named};
+use versions::Version;
 
 // Puts down text in C40 by the codec; its characters are in the chart and there is room, so nothing is refused.
 pub(crate) fn put_left(text: &[u8], out: &mut [u8], at: usize) -> usize
@@ -62,12 +62,12 @@ pub(crate) fn hex_digit(n: usize) -> u8
 }
 
 // Puts down signer and reference.
-pub(crate) fn put_names(version: usize, text: &[u8], out: &mut [u8], at: usize) -> usize
-    requires { ⌜ Named version (now text) × Room (now out) at (namesIn (versionOf version) (take 4 (now text)) (drop 4 (now text))) ⌝ }
-    ensures place { λ r. ⌜ r ≡ at + length (namesIn (versionOf version) (take 4 (now (text .entry))) (drop 4 (now (text .entry)))) ⌝ }
-    ensures buffer { λ r. ⌜ now (out .exit) ≡ over (now (out .entry)) at (namesIn (versionOf version) (take 4 (now (text .entry))) (drop 4 (now (text .entry)))) ⌝ }
+pub(crate) fn put_names(version: Version, text: &[u8], out: &mut [u8], at: usize) -> usize
+    requires { ⌜ Named version (now text) × Room (now out) at (namesIn version (take 4 (now text)) (drop 4 (now text))) ⌝ }
+    ensures place { λ r. ⌜ r ≡ at + length (namesIn version (take 4 (now (text .entry))) (drop 4 (now (text .entry)))) ⌝ }
+    ensures buffer { λ r. ⌜ now (out .exit) ≡ over (now (out .entry)) at (namesIn version (take 4 (now (text .entry))) (drop 4 (now (text .entry)))) ⌝ }
 {
-    if version == 3 {
+    if let Version::Three = version {
         return put_text(text, out, at);
     }
     // signer and length fill two pairs, so the reference begins one

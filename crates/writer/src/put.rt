@@ -7,8 +7,7 @@ ghost use Rattle.format.specs.Buffer.{over};
 ghost use Rattle.dates.specs.Days.{Day, publish as dateIn};
 ghost use Rattle.grammar.specs.Publish.{lengthOf, feature, messageZone, publish};
 ghost use Rattle.verdict.specs.Report.{featureOf};
-ghost use Rattle.given.specs.Given.{versionOf};
-ghost use Rattle.given.specs.Given.{given, rowsOf, contentOf};
+ghost use Rattle.given.specs.Given.{given, rowsOf, contentAs};
 ghost use Rattle.writer.specs.Steps.{Room, Measured, Fitting, Headed, Dated, front, rest, Passed};
 use crate::names::carried;
 use crate::names::put_names;
@@ -16,6 +15,7 @@ use crate::names::put_text;
 use dates::Date;
 use dates::Numbered;
 use items::Header;
+use versions::Version;
 
 // Puts down a date.
 pub(crate) fn put_date(date: Date, out: &mut [u8], at: usize) -> usize
@@ -33,15 +33,14 @@ pub(crate) fn put_date(date: Date, out: &mut [u8], at: usize) -> usize
 }
 
 // Puts down the header's first items: DC, the version, country, signer and reference.
-pub(crate) fn put_front(header: Header, text: &[u8], out: &mut [u8]) -> usize
-    requires { ⌜ Headed header (now text) × Room (now out) 0 (front header (now text)) ⌝ }
-    ensures place { λ r. ⌜ r ≡ length (front header (now (text .entry))) ⌝ }
-    ensures buffer { λ r. ⌜ now (out .exit) ≡ over (now (out .entry)) 0 (front header (now (text .entry))) ⌝ }
+pub(crate) fn put_front(version: Version, header: Header, text: &[u8], out: &mut [u8]) -> usize
+    requires { ⌜ Headed version header (now text) × Room (now out) 0 (front version header (now text)) ⌝ }
+    ensures place { λ r. ⌜ r ≡ length (front version header (now (text .entry))) ⌝ }
+    ensures buffer { λ r. ⌜ now (out .exit) ≡ over (now (out .entry)) 0 (front version header (now (text .entry))) ⌝ }
 {
-    let version = header.version;
     let country = header.country;
     out[0] = 0xDC;
-    out[1] = (version - 1) as u8;
+    out[1] = version.byte();
     let code = [
         carried(country[0]),
         carried(country[1]),
@@ -65,12 +64,12 @@ pub(crate) fn put_rest(header: Header, out: &mut [u8], at: usize) -> usize
 }
 
 // Puts down a length: one plain byte in version 3 and a DER length in version 4.
-pub(crate) fn put_length(version: usize, size: usize, out: &mut [u8], at: usize) -> usize
-    requires { ⌜ Measured version size × Room (now out) at (lengthOf (versionOf version) size) ⌝ }
-    ensures place { λ r. ⌜ r ≡ at + length (lengthOf (versionOf version) size) ⌝ }
-    ensures buffer { λ r. ⌜ now (out .exit) ≡ over (now (out .entry)) at (lengthOf (versionOf version) size) ⌝ }
+pub(crate) fn put_length(version: Version, size: usize, out: &mut [u8], at: usize) -> usize
+    requires { ⌜ Measured version size × Room (now out) at (lengthOf version size) ⌝ }
+    ensures place { λ r. ⌜ r ≡ at + length (lengthOf version size) ⌝ }
+    ensures buffer { λ r. ⌜ now (out .exit) ≡ over (now (out .entry)) at (lengthOf version size) ⌝ }
 {
-    if version == 3 {
+    if let Version::Three = version {
         out[at] = size as u8;
         return at + 1;
     }
@@ -106,15 +105,15 @@ pub(crate) fn put_value(value: &[u8], out: &mut [u8], at: usize) -> usize
 
 // Puts down a feature; the signature is put down as one too, after its mark FF and with a DER length.
 pub(crate) fn put_feature(
-    version: usize,
+    version: Version,
     tag: usize,
     value: &[u8],
     out: &mut [u8],
     at: usize,
 ) -> usize
-    requires { ⌜ (tag < 256) × Measured version (length (now value)) × Room (now out) at (feature (versionOf version) (record { tag = tag; value = now value })) ⌝ }
-    ensures place { λ r. ⌜ r ≡ at + length (feature (versionOf version) (record { tag = tag; value = now (value .entry) })) ⌝ }
-    ensures buffer { λ r. ⌜ now (out .exit) ≡ over (now (out .entry)) at (feature (versionOf version) (record { tag = tag; value = now (value .entry) })) ⌝ }
+    requires { ⌜ (tag < 256) × Measured version (length (now value)) × Room (now out) at (feature version (record { tag = tag; value = now value })) ⌝ }
+    ensures place { λ r. ⌜ r ≡ at + length (feature version (record { tag = tag; value = now (value .entry) })) ⌝ }
+    ensures buffer { λ r. ⌜ now (out .exit) ≡ over (now (out .entry)) at (feature version (record { tag = tag; value = now (value .entry) })) ⌝ }
 {
     out[at] = tag as u8;
     let next = put_length(version, value.len(), out, at + 1);
@@ -123,15 +122,15 @@ pub(crate) fn put_feature(
 
 // Puts down the features of the rows.
 pub(crate) fn put_rows(
-    version: usize,
+    version: Version,
     rows: &[usize],
     values: &[u8],
     out: &mut [u8],
     start: usize,
 ) -> usize
-    requires { ⌜ Fitting version (length (now values)) (rowsOf (now rows)) × Room (now out) start (messageZone (versionOf version) (map (featureOf (now values)) (rowsOf (now rows)))) ⌝ }
-    ensures place { λ r. ⌜ r ≡ start + length (messageZone (versionOf version) (map (featureOf (now (values .entry))) (rowsOf (now (rows .entry))))) ⌝ }
-    ensures buffer { λ r. ⌜ now (out .exit) ≡ over (now (out .entry)) start (messageZone (versionOf version) (map (featureOf (now (values .entry))) (rowsOf (now (rows .entry))))) ⌝ }
+    requires { ⌜ Fitting version (length (now values)) (rowsOf (now rows)) × Room (now out) start (messageZone version (map (featureOf (now values)) (rowsOf (now rows)))) ⌝ }
+    ensures place { λ r. ⌜ r ≡ start + length (messageZone version (map (featureOf (now (values .entry))) (rowsOf (now (rows .entry))))) ⌝ }
+    ensures buffer { λ r. ⌜ now (out .exit) ≡ over (now (out .entry)) start (messageZone version (map (featureOf (now (values .entry))) (rowsOf (now (rows .entry))))) ⌝ }
 {
     let n = rows.len();
     if n < 3 {
@@ -151,6 +150,7 @@ pub(crate) fn put_rows(
 
 // Puts down a seal whose parts were judged, from the start of `out`, which has room for it.
 pub(crate) fn put_seal(
+    version: Version,
     header: Header,
     text: &[u8],
     rows: &[usize],
@@ -158,11 +158,11 @@ pub(crate) fn put_seal(
     signature: &[u8],
     out: &mut [u8],
 )
-    requires { ⌜ Passed (given header (now text) (now rows) (now values) (now signature)) × Room (now out) 0 (publish (contentOf (given header (now text) (now rows) (now values) (now signature)))) ⌝ }
-    ensures { λ r. ⌜ now (out .exit) ≡ over (now (out .entry)) 0 (publish (contentOf (given header (now (text .entry)) (now (rows .entry)) (now (values .entry)) (now (signature .entry))))) ⌝ }
+    requires { ⌜ Passed version (given header (now text) (now rows) (now values) (now signature)) × Room (now out) 0 (publish (contentAs (given header (now text) (now rows) (now values) (now signature)) version)) ⌝ }
+    ensures { λ r. ⌜ now (out .exit) ≡ over (now (out .entry)) 0 (publish (contentAs (given header (now (text .entry)) (now (rows .entry)) (now (values .entry)) (now (signature .entry))) version)) ⌝ }
 {
-    let at = put_front(header, text, out);
+    let at = put_front(version, header, text, out);
     let message = put_rest(header, out, at);
-    let end = put_rows(header.version, rows, values, out, message);
-    put_feature(4, 0xFF, signature, out, end);
+    let end = put_rows(version, rows, values, out, message);
+    put_feature(Version::Four, 0xFF, signature, out, end);
 }

@@ -3,16 +3,16 @@ ghost use mathlib.Core.Path.{_≡_};
 ghost use Prim.Native.Nat.{min, _+_, _≤_};
 ghost use lib.ListN.{length};
 ghost use Rattle.grammar.specs.Publish.{lengthOf};
-ghost use Rattle.given.specs.Given.{versionOf};
 ghost use Rattle.given.specs.Given.{rowsOf};
 ghost use Rattle.writer.specs.Sizes.{rowsSize, namesSize, sealSize};
+use versions::Version;
 
 // How many bytes a length takes.
-pub(crate) fn width_of(version: usize, size: usize) -> usize
+pub(crate) fn width_of(version: Version, size: usize) -> usize
     requires { ⌜ size ≤ 4096 ⌝ }
-    ensures { λ r. ⌜ r ≡ length (lengthOf (versionOf version) size) ⌝ }
+    ensures { λ r. ⌜ r ≡ length (lengthOf version size) ⌝ }
 {
-    if version == 3 {
+    if let Version::Three = version {
         return 1;
     }
     if size < 0x80 {
@@ -25,9 +25,9 @@ pub(crate) fn width_of(version: usize, size: usize) -> usize
 }
 
 // A start and the size of the features after it.
-pub(crate) fn rows_size(version: usize, rows: &[usize], start: usize) -> usize
+pub(crate) fn rows_size(version: Version, rows: &[usize], start: usize) -> usize
     requires { ⌜ start ≤ 4096 ⌝ }
-    ensures { λ r. ⌜ r ≡ min (start + rowsSize (versionOf version) (rowsOf (now (rows .entry)))) 4097 ⌝ }
+    ensures { λ r. ⌜ r ≡ min (start + rowsSize version (rowsOf (now (rows .entry)))) 4097 ⌝ }
 {
     let n = rows.len();
     let mut total = start;
@@ -47,21 +47,21 @@ pub(crate) fn rows_size(version: usize, rows: &[usize], start: usize) -> usize
 }
 
 // How many bytes signer and reference take, of so many characters.
-pub(crate) fn names_size(version: usize, text: usize) -> usize
+pub(crate) fn names_size(version: Version, text: usize) -> usize
     requires { ⌜ text ≤ 259 ⌝ }
-    ensures { λ r. ⌜ r ≡ namesSize (versionOf version) text ⌝ }
+    ensures { λ r. ⌜ r ≡ namesSize version text ⌝ }
 {
-    if version == 3 {
+    if let Version::Three = version {
         return 6;
     }
     (text + 4) / 3 * 2
 }
 
 // The size of a seal with so many bytes of text and of signature.
-pub(crate) fn seal_size(version: usize, text: usize, rows: &[usize], signature: usize) -> usize
+pub(crate) fn seal_size(version: Version, text: usize, rows: &[usize], signature: usize) -> usize
     requires { ⌜ (text ≤ 259) × (signature ≤ 132) ⌝ }
-    ensures { λ r. ⌜ r ≡ min (sealSize (versionOf version) text (rowsOf (now (rows .entry))) signature) 4097 ⌝ }
+    ensures { λ r. ⌜ r ≡ min (sealSize version text (rowsOf (now (rows .entry))) signature) 4097 ⌝ }
 {
-    let fixed = 12 + names_size(version, text) + 1 + width_of(4, signature) + signature;
+    let fixed = 12 + names_size(version, text) + 1 + width_of(Version::Four, signature) + signature;
     rows_size(version, rows, fixed)
 }

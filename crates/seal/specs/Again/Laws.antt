@@ -1,23 +1,24 @@
 -- A seal made anew says what was read, and the call has a sound shape.
 -- Assumes nothing.
 use mathlib.Core.Path.{_≡_, refl, ap, sym, subst, _∙_}
-use mathlib.Core.Logic.{_⊎_, inl, inr}
 use Prim.Native.Nat.{ℕ, _+_, _*_, _≤_}
 use native.Mathlib.Omega.{arith}
 use mathlib.Core.List.{List, [], _∷_, _++_, map, append-nil}
+use mathlib.Core.Option.{some}
 use lib.ListN.{length, drop, length-append}
 use lib.Seq.{take-at, drop-at}
 use Rattle.format.specs.Bytes.{All}
-use Rattle.grammar.specs.Content.{Version, three, four, Feature, Content}
+use Rattle.grammar.specs.Content.{Version, Feature, Content}
 use Rattle.grammar.specs.Publish.{headerZone, messageZone, publish, lengthOf}
 use Rattle.grammar.specs.Theorems.{zones-add-up}
-use Rattle.versions.specs.Versions.{versionNumber}
+use Rattle.versions.specs.Versions.Laws.{number-back}
 use Rattle.verdict.specs.Judge.{Row, Report, accepted}
 use Rattle.verdict.specs.Judge.Complete.{reportOf}
 use Rattle.verdict.specs.Judge.Features.{rowsOf as rowsFrom, feature-parts}
 use Rattle.verdict.specs.Report.{part, featureOf, contentOf as contentRead}
 use Rattle.reader.specs.Calls.{answerOf, table, text, then}
-use Rattle.given.specs.Given.{rowsOf, versionOf, contentOf}
+use Rattle.given.specs.Given.{rowsOf, contentAs, contentOf}
+use Rattle.given.specs.Given.Laws.{said}
 use Rattle.writer.specs.Legal.{Sound}
 use Rattle.writer.specs.Legal.Names.{three-of}
 use Rattle.writer.specs.Legal.Rows.{Inside}
@@ -42,22 +43,21 @@ unfolding rowsOf table
 features-again s [] = refl
 features-again s (r ∷ rows) = let ih = features-again s rows in ap (λ u. featureOf s r ∷ u) ih
 
-version-back : (v : Version) → versionOf (versionNumber v) ≡ v
-version-back three = refl
-version-back four = refl
-
-pub content-again : (s : List ℕ) (r : Report) → length (r .header .signer) ≡ 4 → length (r .header .country) ≡ 3 → contentOf (again s r) ≡ contentRead s r
-unfolding contentOf contentRead
-content-again s r long three-long =
+content-as : (s : List ℕ) (r : Report) → length (r .header .signer) ≡ 4 → length (r .header .country) ≡ 3 → contentAs (again s r) (r .header .version) ≡ contentRead s r
+unfolding contentAs contentRead
+content-as s r long three-long =
     let h = r .header in
     let signer = take-at (h .signer) (h .reference) 4 long in
     let reference = drop-at (h .signer) (h .reference) 4 long in
     let country = three-of (h .country) three-long in
     λ i. record {
-      header = record { version = version-back (h .version) i; country = country i; signer = signer i; reference = reference i; issued = h .issued; signed = h .signed; definition = h .definition; category = h .category };
+      header = record { version = h .version; country = country i; signer = signer i; reference = reference i; issued = h .issued; signed = h .signed; definition = h .definition; category = h .category };
       features = features-again s (r .rows) i;
       signature = part (r .signature-place) (r .signature-size) s;
     }
+
+pub content-again : (s : List ℕ) (r : Report) → length (r .header .signer) ≡ 4 → length (r .header .country) ≡ 3 → contentOf (again s r) ≡ some (contentRead s r)
+content-again s r long three-long = said (again s r) (r .header .version) (number-back (r .header .version)) ∙ ap some (content-as s r long three-long)
 
 -- each value read stands inside the seal
 zone-size : (v : Version) (f : Feature) (fs : List Feature) → length (messageZone v (f ∷ fs)) ≡ 1 + length (lengthOf v (length (f .value))) + length (f .value) + length (messageZone v fs)
@@ -74,10 +74,6 @@ rows-inside v at n (f ∷ fs) h =
     let ih = rows-inside v (at + 1 + length (lengthOf v (length (f .value))) + length (f .value)) n fs (omega arith) in
     (omega arith, ih)
 
-edition-is : (v : Version) → (versionNumber v ≡ 3) ⊎ (versionNumber v ≡ 4)
-edition-is three = inl refl
-edition-is four = inr refl
-
 inside-again : (c : Content) → All (Inside (length (publish c))) (rowsOf (table (reportOf c .rows)))
 unfolding reportOf
 inside-again c =
@@ -88,7 +84,6 @@ sound-again s r c form same long three-long =
     let h = r .header in
     record {
       country = three-long;
-      version = edition-is (h .version);
       measured = omega (arith, length-append (h .signer) (h .reference));
       threes = omega (arith, table-size (r .rows));
       inside = subst (λ u. All (Inside (length u)) (rowsOf (table (r .rows)))) form (subst (λ q. All (Inside (length (publish c))) (rowsOf (table (q .rows)))) (sym same) (inside-again c));

@@ -1,7 +1,6 @@
 -- The longer proofs of what Conditions.antt states.
 -- Assumes nothing.
 use mathlib.Core.Path.{_≡_, refl, ap, sym, subst, _∙_}
-use mathlib.Core.Logic.{_⊎_, ⊎-elim}
 use mathlib.Core.Bool.{Bool, true, false}
 use Prim.Native.Nat.{ℕ, _+_, _*_, _≤_}
 use native.Mathlib.Omega.{arith}
@@ -15,8 +14,9 @@ use Rattle.format.specs.Answers.{done}
 use Rattle.format.specs.Bytes.{Bytes}
 use Rattle.grammar.specs.Content.{Content}
 use Rattle.grammar.specs.Publish.{signatureZone, signedBytes, publish}
-use Rattle.grammar.specs.Legal.{Legal}
-use Rattle.versions.specs.Versions.{versionNumber}
+use Rattle.versions.specs.declared.Version.{Version}
+use Rattle.versions.specs.Versions.{versionNumber, versionOf}
+use Rattle.versions.specs.Versions.Laws.{number-of}
 use Rattle.verdict.specs.Judge.{Report, Verdict, accepted, refused, judge}
 use Rattle.verdict.specs.Judge.Numbers.{FromList, from-list}
 use Rattle.verdict.specs.Judge.Complete.{reportOf}
@@ -28,7 +28,8 @@ use Rattle.reader.specs.Answer.{contentIn}
 use Rattle.reader.specs.Answer.Laws.{held}
 use Rattle.reader.specs.Theorems.{accepted-when}
 use Rattle.writer.specs.Legal.Names.{three-of}
-use Rattle.given.specs.Given.{rowsOf, versionOf, Given, contentOf}
+use Rattle.given.specs.Given.{rowsOf, Given, featuresOf, contentAs, contentOf}
+use Rattle.given.specs.Given.Laws.{Says, says}
 use Rattle.writer.specs.Calls.{writing}
 use Rattle.writer.specs.Legal.{Sound, Written, legal-written}
 use Rattle.seal.specs.Again.{again}
@@ -37,6 +38,11 @@ use Rattle.seal.specs.Again.Laws.{content-again, sound-again}
 report-header : (c : Content) → reportOf c .header ≡ c .header
 unfolding reportOf
 report-header c = refl
+
+-- the header that is answered goes by the content's alone
+header-answered : (c c′ : Content) → c .header ≡ c′ .header → answerOf (accepted (reportOf c)) .header ≡ answerOf (accepted (reportOf c′)) .header
+unfolding reportOf
+header-answered c c′ e = ap (λ h. record { version = versionNumber (h .version); country = h .country; length = length (h .reference); issued = h .issued; signed = h .signed; definition = h .definition; category = h .category }) e
 
 -- a verdict that is an acceptance
 pub record IsAccepted (v : Verdict) : Type 0 where
@@ -61,10 +67,9 @@ again-writes s bytes r j room fits =
     let c = seal .content in
     let long = signer-long s bytes r j in
     let three-long = country-long s bytes r j in
-    let same : contentOf (again s r) ≡ c = content-again s r long three-long ∙ seal .reports in
-    let form : publish (contentOf (again s r)) ≡ s = ap publish same ∙ seal .form-is in
-    legal-written (again s r) room (sound-again s r c (seal .form-is) (seal .report-is) long three-long) (subst Legal (sym same) (seal .legal)) (subst (λ u. length u ≤ room) (sym form) fits)
-    ∙ ap done form
+    let same : contentOf (again s r) ≡ some c = content-again s r long three-long ∙ ap some (seal .reports) in
+    legal-written (again s r) room c same (sound-again s r c (seal .form-is) (seal .report-is) long three-long) (seal .legal) (subst (λ u. length u ≤ room) (sym (seal .form-is)) fits)
+    ∙ ap done (seal .form-is)
 
 -- how much table and text a call's content takes
 rows-most : (table : List ℕ) → 3 * length (rowsOf table) ≤ length table
@@ -74,66 +79,86 @@ rows-most (tag ∷ []) = omega arith
 rows-most (tag ∷ place ∷ []) = omega arith
 rows-most (tag ∷ place ∷ size ∷ table) = let ih = rows-most table in omega arith
 
-features-room : (g : Given) → 3 * length (contentOf g .features) ≤ length (g .table)
-unfolding contentOf
-features-room g = omega (arith, rows-most (g .table), length-map (rowsOf (g .table)) (featureOf (g .values)))
+-- what a call's content says of the call, in its version
+module _ (g : Given) (v : Version) where
+  features-room : 3 * length (contentAs g v .features) ≤ length (g .table)
+  unfolding contentAs
+  features-room = omega (arith, rows-most (g .table), length-map (rowsOf (g .table)) (featureOf (g .values)))
 
-text-room : (g : Given) → Sound g → 4 + length (contentOf g .header .reference) ≡ length (g .text)
-unfolding contentOf
-text-room g sound = omega (arith, length-drop 4 (g .text), sound .measured)
+  text-room : Sound g → 4 + length (contentAs g v .header .reference) ≡ length (g .text)
+  unfolding contentAs
+  text-room sound = omega (arith, length-drop 4 (g .text), sound .measured)
 
--- the version, and L, as they were given
-edition-back : (n : ℕ) → (n ≡ 3) ⊎ (n ≡ 4) → versionNumber (versionOf n) ≡ n
-edition-back n e = ⊎-elim (λ f. ap (λ k. versionNumber (versionOf k)) f ∙ sym f) (λ f. ap (λ k. versionNumber (versionOf k)) f ∙ sym f) e
+  header-as : versionOf (g .header .version) ≡ some v → Sound g → answerOf (accepted (reportOf (contentAs g v))) .header ≡ g .header
+  unfolding reportOf contentAs
+  header-as stated sound =
+      let h = g .header in
+      let version = sym (number-of (h .version) v stated) in
+      let size : length (drop 4 (g .text)) ≡ h .length = omega (arith, length-drop 4 (g .text), sound .measured) in
+      let country = three-of (h .country) (sound .country) in
+      λ i. record { version = version i; country = country i; length = size i; issued = h .issued; signed = h .signed; definition = h .definition; category = h .category }
 
-pub header-given : (g : Given) → Sound g → answerOf (accepted (reportOf (contentOf g))) .header ≡ g .header
-unfolding reportOf contentOf
-header-given g sound =
-    let h = g .header in
-    let version = edition-back (h .version) (sound .version) in
-    let size : length (drop 4 (g .text)) ≡ h .length = omega (arith, length-drop 4 (g .text), sound .measured) in
-    let country = three-of (h .country) (sound .country) in
-    λ i. record { version = version i; country = country i; length = size i; issued = h .issued; signed = h .signed; definition = h .definition; category = h .category }
+  text-as : text (reportOf (contentAs g v)) ≡ g .text
+  unfolding reportOf contentAs
+  text-as = take-append-drop 4 (g .text)
 
-text-given : (g : Given) → text (reportOf (contentOf g)) ≡ g .text
-unfolding reportOf contentOf
-text-given g = take-append-drop 4 (g .text)
+  features-as : contentAs g v .features ≡ featuresOf g
+  unfolding contentAs
+  features-as = refl
 
-pub text-held : (g : Given) (names : List ℕ) → take (length (g .text)) (then (text (reportOf (contentOf g))) names) ≡ g .text
-text-held g names =
-    let t = text (reportOf (contentOf g)) in
-    take-at t (drop (length t) names) (length (g .text)) (ap length (text-given g)) ∙ text-given g
+  -- the signed bytes stand first in what is published
+  signed-as : publish (contentAs g v) ≡ signedBytes (contentAs g v) ++ signatureZone (g .signature)
+  unfolding publish contentAs
+  signed-as = refl
+
+-- the same of the content that the call says
+module _ (g : Given) (c : Content) (e : contentOf g ≡ some c) where
+  call : Says g c
+  call = says g c e
+
+  pub header-given : Sound g → answerOf (accepted (reportOf c)) .header ≡ g .header
+  header-given sound = ap (λ d. answerOf (accepted (reportOf d)) .header) (sym (call .content)) ∙ header-as g (call .version) (call .stated) sound
+
+  text-given : text (reportOf c) ≡ g .text
+  text-given = ap (λ d. text (reportOf d)) (sym (call .content)) ∙ text-as g (call .version)
+
+  pub features-given : c .features ≡ featuresOf g
+  features-given = ap (λ d. d .features) (sym (call .content)) ∙ features-as g (call .version)
+
+  pub text-held : (names : List ℕ) → take (length (g .text)) (then (text (reportOf c)) names) ≡ g .text
+  text-held names =
+      let t = text (reportOf c) in
+      take-at t (drop (length t) names) (length (g .text)) (ap length text-given) ∙ text-given
+
+  rows-fit : 3 * length (c .features) ≤ length (g .table)
+  rows-fit = subst (λ d. 3 * length (d .features) ≤ length (g .table)) (call .content) (features-room g (call .version))
+
+  text-fits : Sound g → 4 + length (c .header .reference) ≡ length (g .text)
+  text-fits sound = ap (λ d. 4 + length (d .header .reference)) (sym (call .content)) ∙ text-room g (call .version) sound
+
+  pub signed-first : publish c ≡ signedBytes c ++ signatureZone (g .signature)
+  signed-first = subst (λ d. publish d ≡ signedBytes d ++ signatureZone (g .signature)) (call .content) (signed-as g (call .version))
 
 -- a seal that was written, read with enough table and text
 module _ (g : Given) (room : ℕ) (s : List ℕ) (w : Written g room s) (rows names : List ℕ) where
-  pub back-reads : length (g .table) ≤ length rows → length (g .text) ≤ length names → reading s (length rows) (length names) ≡ accepted (reportOf (contentOf g))
+  pub back-reads : length (g .table) ≤ length rows → length (g .text) ≤ length names → reading s (length rows) (length names) ≡ accepted (reportOf (w .content))
   back-reads more-rows more-names =
       ap (λ u. reading u (length rows) (length names)) (sym (w .form-is))
-      ∙ accepted-when (contentOf g) (w .legal) (length rows) (length names) (omega (arith, features-room g)) (omega (arith, text-room g (w .sound)))
+      ∙ accepted-when (w .content) (w .legal) (length rows) (length names) (omega (arith, rows-fit g (w .content) (w .says))) (omega (arith, text-fits g (w .content) (w .says) (w .sound)))
 
-  pub back-content : contentIn s (answerOf (accepted (reportOf (contentOf g)))) (then (table (reportOf (contentOf g) .rows)) rows) (then (text (reportOf (contentOf g))) names) ≡ some (contentOf g)
+  pub back-content : contentIn s (answerOf (accepted (reportOf (w .content)))) (then (table (reportOf (w .content) .rows)) rows) (then (text (reportOf (w .content))) names) ≡ contentOf g
   back-content =
-      let c = contentOf g in
+      let c = w .content in
       let long : length (reportOf c .header .signer) ≡ 4 = ap (λ z. length (z .signer)) (report-header c) ∙ w .legal .header .signer .size in
-      held s (reportOf c) rows names long ∙ ap some (ap (λ u. contentRead u (reportOf c)) (sym (w .form-is)) ∙ reported c)
+      held s (reportOf c) rows names long ∙ ap some (ap (λ u. contentRead u (reportOf c)) (sym (w .form-is)) ∙ reported c) ∙ sym (w .says)
 
 -- two calls whose contents have the same header
-module _ (g g′ : Given) (e : contentOf g .header ≡ contentOf g′ .header) where
+module _ (g g′ : Given) (c c′ : Content) (says-c : contentOf g ≡ some c) (says-c′ : contentOf g′ ≡ some c′) (e : c .header ≡ c′ .header) where
   pub same-text : g .text ≡ g′ .text
-  unfolding contentOf
-  same-text = sym (take-append-drop 4 (g .text)) ∙ ap (λ h. h .signer ++ h .reference) e ∙ take-append-drop 4 (g′ .text)
-
-  same-version : Sound g → Sound g′ → g .header .version ≡ g′ .header .version
-  unfolding contentOf
-  same-version a b = sym (edition-back (g .header .version) (a .version)) ∙ ap (λ h. versionNumber (h .version)) e ∙ edition-back (g′ .header .version) (b .version)
+  same-text = sym (text-given g c says-c) ∙ ap (λ h. h .signer ++ h .reference) (report-header c ∙ e ∙ sym (report-header c′)) ∙ text-given g′ c′ says-c′
 
   pub same-header : Sound g → Sound g′ → g .header ≡ g′ .header
-  unfolding contentOf
-  same-header a b =
-      let version = same-version a b in
-      let size : g .header .length ≡ g′ .header .length = omega (arith, a .measured, b .measured, ap length same-text) in
-      let country = sym (three-of (g .header .country) (a .country)) ∙ ap (λ h. h .country) e ∙ three-of (g′ .header .country) (b .country) in
-      λ i. record { version = version i; country = country i; length = size i; issued = e i .issued; signed = e i .signed; definition = e i .definition; category = e i .category }
+  same-header a b = sym (header-given g c says-c a) ∙ header-answered c c′ e ∙ header-given g′ c′ says-c′ b
 
 -- number 0 is given to a seal that is accepted, and to no other
 abbrev ZeroAccepts : Verdict → Type 0
@@ -166,8 +191,3 @@ verdict-listed (refused number place) l = l .1
 pub zero-judged : (v : Verdict) → FromList v → answerOf v .number ≡ 0 → IsAccepted v
 zero-judged (accepted r) l e = record { report = r; reads = refl }
 zero-judged (refused number place) l e = absurd (omega (arith, l .0, e))
-
--- the signed bytes stand first in what is published
-pub signed-first : (g : Given) → publish (contentOf g) ≡ signedBytes (contentOf g) ++ signatureZone (g .signature)
-unfolding publish contentOf
-signed-first g = refl

@@ -2,12 +2,11 @@
 -- Assumes nothing.
 use mathlib.Core.Path.{_≡_, refl, ap, sym, _∙_}
 use mathlib.Core.Bool.{Bool, true, false}
-use mathlib.Core.Option.{Option, none, some, Option·some-injective, Option·none-ne-some}
+use mathlib.Core.Option.{none, some, Option·some-injective, Option·none-ne-some}
 use Prim.Native.Nat.{ℕ}
 use borrow.Author.Tests.{eq-eqb, ne-eqb, eqb-true}
 use lib.Dec.{eqb}
 use Rattle.format.specs.Choice.{pick}
-use Rattle.format.specs.Choice.Laws.{by-test}
 use Rattle.versions.specs.Versions.{versionNumber, versionByte, versionOf, versionOfByte}
 use Rattle.versions.specs.declared.Version.{Version}
 use Rattle.versions.specs.declared.Version.the-variants.{Three as three, Four as four}
@@ -25,7 +24,10 @@ pub one-version : (a b : Version) → versionByte a ≡ versionByte b → a ≡ 
 one-version a b e = Option·some-injective a b (sym (byte-back a) ∙ ap versionOfByte e ∙ byte-back b)
 
 -- a choice of two by two tests that gives a version gives the one of them whose test is passed
-chosen : (f : Version → ℕ) (n : ℕ) (b c : Bool) → (b ≡ true → n ≡ f three) → (c ≡ true → n ≡ f four) → (v : Version) → pick b (some three) (pick c (some four) none) ≡ some v → n ≡ f v
+abbrev Chosen : (Version → ℕ) → ℕ → Bool → Bool → Type 0
+Chosen f n b c = (v : Version) → pick b (some three) (pick c (some four) none) ≡ some v → n ≡ f v
+
+chosen : (f : Version → ℕ) (n : ℕ) (b c : Bool) → (b ≡ true → n ≡ f three) → (c ≡ true → n ≡ f four) → Chosen f n b c
 chosen f n true c first second v e = first refl ∙ ap f (Option·some-injective three v e)
 chosen f n false true first second v e = second refl ∙ ap f (Option·some-injective four v e)
 chosen f n false false first second v e = absurd (Option·none-ne-some v e)

@@ -1,8 +1,8 @@
--- The tests of 20 and 21 against the grammar: version, country, signer and reference, both ways.
+-- The tests of 21 against the grammar: country, signer and reference, both ways.
 -- Assumes nothing.
 use mathlib.Core.Path.{_≡_, refl, sym, subst}
 use mathlib.Core.Logic.{_⊎_, inl, inr, ⊎-elim}
-use mathlib.Core.Bool.{Bool, true, false}
+use mathlib.Core.Bool.{true}
 use Prim.Native.Nat.{ℕ, _+_, _-_, _≤_}
 use native.Mathlib.Omega.{arith}
 use borrow.Author.Tests.{eqb-true, eq-eqb}
@@ -10,28 +10,18 @@ use mathlib.Core.List.{List, [], _∷_}
 use lib.Dec.{eqb}
 use lib.ListN.{length, take, drop, length-drop}
 use lib.Seq.{length-take-le}
-use Rattle.format.specs.Choice.{pick}
 use Rattle.format.specs.Table.{both, either}
 use Rattle.format.specs.Bytes.{All}
-use Rattle.dates.specs.Days.{within}
-use Rattle.grammar.specs.Content.{three, four}
+use Rattle.grammar.specs.Content.{Version, three, four}
 use Rattle.grammar.specs.Legal.{Letter, Filler, Country, Signer, ReferenceCharacter, ReferenceSize}
 use Rattle.grammar.specs.Pins.{filled-three}
 use Rattle.dates.specs.Days.Laws.{within-true, within-both}
 use Rattle.format.specs.Table.Laws.{both-true, both-are, either-true, either-left, either-right}
 use Rattle.letters.specs.Characters.Grammar.{letter, reference-passes, all-pass, signer-passes, reference-of, all-of, signer-of}
 use Rattle.letters.specs.Characters.{isLetter, isReference, all, isSigner, isCountry}
-use Rattle.given.specs.Given.{versionOf}
 use Rattle.items.specs.declared.Header.{Header}
-use Rattle.given.specs.Tests.{isVersion, isTextSize, areNames}
+use Rattle.given.specs.Tests.{isTextSize, areNames}
 use Rattle.given.specs.Given.{threeOf}
-
--- version 3 or 4
-pub version-is : (n : ℕ) → isVersion n ≡ true → (n ≡ 3) ⊎ (n ≡ 4)
-version-is n e = ⊎-elim (λ f. inl (eqb-true n 3 f)) (λ f. inr (eqb-true n 4 f)) (either-true (eqb n 3) (eqb n 4) e)
-
-pub version-passes : (n : ℕ) → (n ≡ 3) ⊎ (n ≡ 4) → isVersion n ≡ true
-version-passes n e = ⊎-elim (λ f. either-left (eqb n 3) (eqb n 4) (eq-eqb n 3 f)) (λ f. either-right (eqb n 3) (eqb n 4) (eq-eqb n 4 f)) e
 
 -- a country of three characters
 third-is : (c : ℕ) → either (isLetter c) (eqb c 60) ≡ true → Letter c ⊎ Filler c
@@ -84,49 +74,48 @@ country-passes (a ∷ b ∷ c ∷ []) l =
     (l .letters .1 .0))
 
 -- the size of the text, by the version
+text-size : (v : Version) (n : ℕ) → isTextSize v n ≡ true → (4 ≤ n) × ReferenceSize v (n - 4)
+text-size three n e = let f = eqb-true n 9 e in (omega arith, omega arith)
+text-size four n e = let w = within-both 5 259 n e in (omega arith, (omega arith, omega arith))
 
-text-size : (b : Bool) (n : ℕ) → pick b (eqb n 9) (within 5 259 n) ≡ true → (4 ≤ n) × ReferenceSize (pick b three four) (n - 4)
-text-size true n e = let f = eqb-true n 9 e in (omega arith, omega arith)
-text-size false n e = let w = within-both 5 259 n e in (omega arith, (omega arith, omega arith))
-
-text-passes : (b : Bool) (n : ℕ) → 4 ≤ n → ReferenceSize (pick b three four) (n - 4) → pick b (eqb n 9) (within 5 259 n) ≡ true
-text-passes true n h r = eq-eqb n 9 (omega arith)
-text-passes false n h r = within-true 5 259 n (omega (arith, r .0)) (omega (arith, r .1))
+text-passes : (v : Version) (n : ℕ) → 4 ≤ n → ReferenceSize v (n - 4) → isTextSize v n ≡ true
+text-passes three n h r = eq-eqb n 9 (omega arith)
+text-passes four n h r = within-true 5 259 n (omega (arith, r .0)) (omega (arith, r .1))
 
 -- the names of a call that passes, and back
-pub record LegalNames (h : Header) (text : List ℕ) : Type 0 where
+pub record LegalNames (v : Version) (h : Header) (text : List ℕ) : Type 0 where
   pub country : Country (threeOf (h .country))
   pub signer : Signer (take 4 text)
   pub reference : All ReferenceCharacter (drop 4 text)
-  pub size : ReferenceSize (versionOf (h .version)) (length (drop 4 text))
+  pub size : ReferenceSize v (length (drop 4 text))
   pub measured : h .length + 4 ≡ length text
 
-pub names-legal : (h : Header) (text : List ℕ) → areNames h text ≡ true → LegalNames h text
-names-legal h text e =
-    let sized = both (isTextSize (h .version) (length text)) (eqb (h .length + 4) (length text)) in
+pub names-legal : (v : Version) (h : Header) (text : List ℕ) → areNames v h text ≡ true → LegalNames v h text
+names-legal v h text e =
+    let sized = both (isTextSize v (length text)) (eqb (h .length + 4) (length text)) in
     let spelt = both (isSigner (take 4 text)) (all isReference (drop 4 text)) in
     let p = both-true (isCountry 60 (h .country)) (both sized spelt) e in
     let q = both-true sized spelt (p .1) in
-    let r = both-true (isTextSize (h .version) (length text)) (eqb (h .length + 4) (length text)) (q .0) in
+    let r = both-true (isTextSize v (length text)) (eqb (h .length + 4) (length text)) (q .0) in
     let s = both-true (isSigner (take 4 text)) (all isReference (drop 4 text)) (q .1) in
-    let n = text-size (eqb (h .version) 3) (length text) (r .0) in
+    let n = text-size v (length text) (r .0) in
     record {
       country = country-legal (threeOf (h .country)) refl (p .0);
       signer = signer-of (take 4 text) (length-take-le 4 text (n .0)) (s .0);
       reference = all-of ReferenceCharacter isReference reference-of (drop 4 text) (s .1);
-      size = subst (ReferenceSize (versionOf (h .version))) (sym (length-drop 4 text)) (n .1);
+      size = subst (ReferenceSize v) (sym (length-drop 4 text)) (n .1);
       measured = eqb-true (h .length + 4) (length text) (r .1);
     }
 
-pub names-pass : (h : Header) (text : List ℕ) → LegalNames h text → areNames h text ≡ true
-names-pass h text l =
-    let sized = both (isTextSize (h .version) (length text)) (eqb (h .length + 4) (length text)) in
+pub names-pass : (v : Version) (h : Header) (text : List ℕ) → LegalNames v h text → areNames v h text ≡ true
+names-pass v h text l =
+    let sized = both (isTextSize v (length text)) (eqb (h .length + 4) (length text)) in
     let spelt = both (isSigner (take 4 text)) (all isReference (drop 4 text)) in
     let long : 4 ≤ length text = omega (arith, l .measured) in
     both-are (isCountry 60 (h .country)) (both sized spelt) (country-passes (threeOf (h .country)) (l .country))
     (both-are sized spelt
-    (both-are (isTextSize (h .version) (length text)) (eqb (h .length + 4) (length text))
-    (text-passes (eqb (h .version) 3) (length text) long (subst (ReferenceSize (versionOf (h .version))) (length-drop 4 text) (l .size)))
+    (both-are (isTextSize v (length text)) (eqb (h .length + 4) (length text))
+    (text-passes v (length text) long (subst (ReferenceSize v) (length-drop 4 text) (l .size)))
     (eq-eqb (h .length + 4) (length text) (l .measured)))
     (both-are (isSigner (take 4 text)) (all isReference (drop 4 text)) (signer-passes (take 4 text) (l .signer))
     (all-pass ReferenceCharacter isReference reference-passes (drop 4 text) (l .reference))))

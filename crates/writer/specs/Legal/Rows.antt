@@ -12,13 +12,14 @@ use Rattle.format.specs.Choice.Laws.{by-test}
 use Rattle.format.specs.Table.{both, either}
 use Rattle.format.specs.Bytes.{Bytes, All}
 use Rattle.format.specs.Bytes.Laws.{bytes-take, bytes-drop}
-use Rattle.grammar.specs.Content.{three, four}
+use Rattle.grammar.specs.Content.{Version}
 use Rattle.grammar.specs.Legal.{ValueSize, Unused, LegalFeatures}
 use Rattle.format.specs.Table.Laws.{not-true, both-true, both-are}
 use Rattle.verdict.specs.Report.{featureOf}
 use Rattle.verdict.specs.Judge.{Row, used}
 use Rattle.verdict.specs.Items.Sound.{taken-size}
-use Rattle.given.specs.Tests.{isRow, areRows, areShort}
+use Rattle.given.specs.Tests.{isRow, areRows, areSized}
+use Rattle.given.specs.Tests.Laws.{sized-head, sized-cons, sized-none}
 
 -- a value inside the values buffer, of so many bytes
 abbrev pub Inside : ℕ → Row → Type 0
@@ -55,47 +56,28 @@ row-passes n before r h u i =
     both-are (leb (r .tag) 254) (both (pick (used (r .tag) before) false true) (leb (r .place + r .size) n)) (le-leb (r .tag) 254 h)
     (both-are (pick (used (r .tag) before) false true) (leb (r .place + r .size) n) (ap (λ b. pick b false true) (used-none (r .tag) before u)) (le-leb (r .place + r .size) n i))
 
--- 25 is asked in version 3 only
-abbrev pub Short : Bool → List Row → Type 0
-Short b rows = pick b (areShort rows) true ≡ true
-
-short-head : (b : Bool) (r : Row) (rows : List Row) → Short b (r ∷ rows) → ValueSize (pick b three four) (r .size) × Short b rows
-unfolding areShort
-short-head true r rows e = let p = both-true (leb (r .size) 255) (areShort rows) e in (leb-true (r .size) 255 (p .0), p .1)
-short-head false r rows e = (tt, refl)
-
-short-cons : (b : Bool) (r : Row) (rows : List Row) → ValueSize (pick b three four) (r .size) → Short b rows → Short b (r ∷ rows)
-unfolding areShort
-short-cons true r rows h e = both-are (leb (r .size) 255) (areShort rows) (le-leb (r .size) 255 h) e
-short-cons false r rows h e = refl
-
-short-nil : (b : Bool) → Short b []
-unfolding areShort
-short-nil true = refl
-short-nil false = refl
-
 module _ (values : List ℕ) where
   -- a value inside has its row's size
   value-size : (r : Row) → Inside (length values) r → length (featureOf values r .value) ≡ r .size
   value-size r h = taken-size (r .size) (r .place) values h
 
-  pub rows-legal : (b : Bool) (before rows : List Row) → Bytes values → areRows (length values) before rows ≡ true → Short b rows → LegalFeatures (pick b three four) (tags before) (map (featureOf values) rows) × All (Inside (length values)) rows
+  pub rows-legal : (v : Version) (before rows : List Row) → Bytes values → areRows (length values) before rows ≡ true → (areSized v rows ≡ true) → LegalFeatures v (tags before) (map (featureOf values) rows) × All (Inside (length values)) rows
   unfolding areRows
-  rows-legal b before [] bytes e s = (tt, tt)
-  rows-legal b before (r ∷ rows) bytes e s =
+  rows-legal v before [] bytes e s = (tt, tt)
+  rows-legal v before (r ∷ rows) bytes e s =
       let n = length values in
       let p = both-true (isRow n before r) (areRows n (r ∷ before) rows) e in
       let q = row-is n before r (p .0) in
-      let t = short-head b r rows s in
-      let ih = rows-legal b (r ∷ before) rows bytes (p .1) (t .1) in
-      ((q .0, q .1 .0, subst (ValueSize (pick b three four)) (sym (value-size r (q .1 .1))) (t .0), bytes-take (r .size) (drop (r .place) values) (bytes-drop (r .place) values bytes), ih .0), (q .1 .1, ih .1))
+      let t = sized-head v r rows s in
+      let ih = rows-legal v (r ∷ before) rows bytes (p .1) (t .1) in
+      ((q .0, q .1 .0, subst (ValueSize v) (sym (value-size r (q .1 .1))) (t .0), bytes-take (r .size) (drop (r .place) values) (bytes-drop (r .place) values bytes), ih .0), (q .1 .1, ih .1))
 
-  pub legal-rows : (b : Bool) (before rows : List Row) → LegalFeatures (pick b three four) (tags before) (map (featureOf values) rows) → All (Inside (length values)) rows → (areRows (length values) before rows ≡ true) × Short b rows
+  pub legal-rows : (v : Version) (before rows : List Row) → LegalFeatures v (tags before) (map (featureOf values) rows) → All (Inside (length values)) rows → (areRows (length values) before rows ≡ true) × (areSized v rows ≡ true)
   unfolding areRows
-  legal-rows b before [] l i = (refl, short-nil b)
-  legal-rows b before (r ∷ rows) l i =
+  legal-rows v before [] l i = (refl, sized-none v)
+  legal-rows v before (r ∷ rows) l i =
       let n = length values in
-      let ih = legal-rows b (r ∷ before) rows (l .4) (i .1) in (
+      let ih = legal-rows v (r ∷ before) rows (l .4) (i .1) in (
         both-are (isRow n before r) (areRows n (r ∷ before) rows) (row-passes n before r (l .0) (l .1) (i .0)) (ih .0),
-        short-cons b r rows (subst (ValueSize (pick b three four)) (value-size r (i .0)) (l .2)) (ih .1),
+        sized-cons v r rows (subst (ValueSize v) (value-size r (i .0)) (l .2)) (ih .1),
       )

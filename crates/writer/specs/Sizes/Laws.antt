@@ -1,8 +1,8 @@
 -- Laws of the sizes: the width of a length, and that a seal's size is the sum of its parts'.
 -- Assumes nothing.
 use mathlib.Core.Path.{_≡_, refl, ap, sym, _∙_}
-use borrow.Author.Tests.{eqb-true, eqb-false, ltb-true, ltb-false}
-use lib.Dec.{ltb, eqb}
+use borrow.Author.Tests.{ltb-true, ltb-false}
+use lib.Dec.{ltb}
 use Rattle.format.specs.Choice.Laws.{by-test}
 use Prim.Native.Nat.{ℕ, _+_, _*_, _/_, _<_, _≤_, min}
 use native.Mathlib.Omega.{arith}
@@ -10,25 +10,24 @@ use mathlib.Core.List.{List, [], _∷_}
 use lib.ListN.{length, getD, drop}
 use Rattle.grammar.specs.Publish.{lengthOf}
 use Rattle.verdict.specs.Judge.{Row}
-use Rattle.given.specs.Given.{versionOf}
-use Rattle.grammar.specs.Content.{Version}
+use Rattle.grammar.specs.Content.{Version, three, four}
 use Rattle.given.specs.Given.{rowsOf}
 use Rattle.given.specs.Rows.{rowAt, rows-end, rows-here}
 use Rattle.writer.specs.Sizes.{rowsSize, namesSize}
-use Rattle.writer.specs.Steps.Laws.{version-three, version-four, length-plain, length-short, length-one, length-two}
+use Rattle.writer.specs.Steps.Laws.{length-plain, length-short, length-one, length-two}
 
-module _ (v n : ℕ) where
-  pub width-three : v ≡ 3 → 1 ≡ length (lengthOf (versionOf v) n)
+module _ (v : Version) (n : ℕ) where
+  pub width-three : v ≡ three → 1 ≡ length (lengthOf v n)
   width-three e = sym (ap length (length-plain v n e))
 
-  module _ (other : v ≡ 3 → ⊥) where
-    pub width-short : n < 0x80 → 1 ≡ length (lengthOf (versionOf v) n)
+  module _ (other : v ≡ four) where
+    pub width-short : n < 0x80 → 1 ≡ length (lengthOf v n)
     width-short h = sym (ap length (length-short v n other h))
 
-    pub width-one : 0x80 ≤ n → n < 0x100 → 2 ≡ length (lengthOf (versionOf v) n)
+    pub width-one : 0x80 ≤ n → n < 0x100 → 2 ≡ length (lengthOf v n)
     width-one h l = sym (ap length (length-one v n other h l))
 
-    pub width-two : 0x100 ≤ n → n ≤ 4096 → 3 ≡ length (lengthOf (versionOf v) n)
+    pub width-two : 0x100 ≤ n → n ≤ 4096 → 3 ≡ length (lengthOf v n)
     width-two h l = sym (ap length (length-two v n other h l))
 
 size-none : (v : Version) → rowsSize v [] ≡ 0
@@ -67,25 +66,24 @@ module _ (v : Version) (t : List ℕ) (start total at : ℕ) (s : Summed v t sta
       summed-more h = record { inside = omega arith; small = h; same = omega (arith, s .same, on, w) }
 
 -- the width of a length is small
-pub width-small : (v n : ℕ) → n ≤ 4096 → length (lengthOf (versionOf v) n) ≤ 3
-width-small v n h =
-    by-test (eqb v 3)
-    (λ e. omega (arith, width-three v n (eqb-true v 3 e)))
-    (λ e.
+pub width-small : (v : Version) (n : ℕ) → n ≤ 4096 → length (lengthOf v n) ≤ 3
+width-small three n h = omega arith
+width-small four n h =
     by-test (ltb n 0x80)
-    (λ a. omega (arith, width-short v n (eqb-false v 3 e) (ltb-true n 0x80 a)))
+    (λ a. omega (arith, width-short four n refl (ltb-true n 0x80 a)))
     (λ a.
     by-test (ltb n 0x100)
-    (λ b. omega (arith, width-one v n (eqb-false v 3 e) (ltb-false n 0x80 a) (ltb-true n 0x100 b)))
-    (λ b. omega (arith, width-two v n (eqb-false v 3 e) (ltb-false n 0x100 b) h))))
+    (λ b. omega (arith, width-one four n refl (ltb-false n 0x80 a) (ltb-true n 0x100 b)))
+    (λ b. omega (arith, width-two four n refl (ltb-false n 0x100 b) h)))
 
 -- signer and reference, by version
-module _ (v text : ℕ) where
-  pub names-plain : v ≡ 3 → 6 ≡ namesSize (versionOf v) text
-  names-plain e = sym (ap (λ w. namesSize w text) (version-three v e))
+module _ (v : Version) (text : ℕ) where
+  pub names-plain : v ≡ three → 6 ≡ namesSize v text
+  names-plain e = sym (ap (λ w. namesSize w text) e)
 
-  pub names-long : (v ≡ 3 → ⊥) → (text + 4) / 3 * 2 ≡ namesSize (versionOf v) text
-  names-long e = sym (ap (λ w. namesSize w text) (version-four v e))
+  pub names-long : v ≡ four → (text + 4) / 3 * 2 ≡ namesSize v text
+  names-long e = sym (ap (λ w. namesSize w text) e)
 
-  pub names-most : text ≤ 259 → namesSize (versionOf v) text ≤ 176
-  names-most h = by-test (eqb v 3) (λ e. omega (arith, names-plain (eqb-true v 3 e))) (λ e. omega (arith, names-long (eqb-false v 3 e)))
+pub names-most : (v : Version) (text : ℕ) → text ≤ 259 → namesSize v text ≤ 176
+names-most three text h = omega arith
+names-most four text h = omega arith

@@ -4,12 +4,11 @@ use mathlib.Core.Path.{_≡_, refl, ap, sym, subst, _∙_}
 use mathlib.Core.Bool.{Bool, true, false}
 use Prim.Native.Nat.{ℕ, _+_, _/_, _%_, _<_, _≤_}
 use native.Mathlib.Omega.{arith}
-use borrow.Author.Tests.{eq-eqb, ne-eqb, ltb-true, ltb-false, eqb-true}
+use borrow.Author.Tests.{ne-eqb, ltb-true, ltb-false}
 use mathlib.Core.List.{List, [], _∷_, _++_}
 use lib.Dec.{ltb, eqb}
 use lib.ListN.{length, take, drop, take-append-drop}
 use Rattle.format.specs.Bytes.Laws.{all-append}
-use Rattle.format.specs.Choice.{pick}
 use Rattle.format.specs.Choice.Laws.{by-test}
 use Rattle.format.specs.Table.{either}
 use Rattle.format.specs.Numbers.{be}
@@ -19,7 +18,7 @@ use Rattle.c40.specs.Chart.Laws.{letter-in, digit-in, space-in}
 use Rattle.c40.specs.Text.{Text}
 use Rattle.der.specs.Length.{form}
 use Rattle.der.specs.Length.Exact.{form-short, form-long}
-use Rattle.grammar.specs.Content.{three, four}
+use Rattle.grammar.specs.Content.{Version, three, four}
 use Rattle.grammar.specs.Publish.{carried, hexDigit, hexDigits, lengthOf}
 use Rattle.dates.specs.Days.Laws.{within-both}
 use Rattle.format.specs.Table.Laws.{both-true}
@@ -27,8 +26,6 @@ use Rattle.grammar.specs.Legal.{ReferenceCharacter}
 use Rattle.grammar.specs.Parts.{reference-text as text-of}
 use Rattle.letters.specs.Characters.{isLetter, isDigit, isLetterOrDigit, isReference, isSigner, all, isCountry}
 use Rattle.letters.specs.Characters.Grammar.{reference-of, all-of}
-use Rattle.given.specs.Given.{versionOf}
-use Rattle.given.specs.Tests.{isVersion}
 use Rattle.writer.specs.Steps.{Named, spelled, sixOf}
 
 pub either-is : {C : Type 0} (a b : Bool) → either a b ≡ true → (a ≡ true → C) → (b ≡ true → C) → C
@@ -76,10 +73,10 @@ signer-text t e =
     let b = both-true (all isLetter (take 2 t)) _ e in
     subst Text (take-append-drop 2 t) (all-append InChart (take 2 t) (drop 2 t) (all-text isLetter letter-text (take 2 t) (b .0)) (all-text isLetterOrDigit letter-or-digit-text (drop 2 t) (b .1)))
 
-pub reference-text : (v : ℕ) (t : List ℕ) → Named v t → Text (drop 4 t)
+pub reference-text : (v : Version) (t : List ℕ) → Named v t → Text (drop 4 t)
 reference-text v t n = text-of (drop 4 t) (all-of ReferenceCharacter isReference reference-of (drop 4 t) (n .reference))
 
-pub named-text : (v : ℕ) (t : List ℕ) → Named v t → Text t
+pub named-text : (v : Version) (t : List ℕ) → Named v t → Text t
 named-text v t n =
     subst Text (take-append-drop 4 t) (all-append InChart (take 4 t) (drop 4 t) (signer-text (take 4 t) (n .signer)) (reference-text v t n))
 
@@ -104,37 +101,27 @@ six-is (a ∷ b ∷ []) h = absurd (omega arith)
 six-is (a ∷ b ∷ c ∷ []) h = absurd (omega arith)
 six-is (a ∷ b ∷ c ∷ d ∷ t) h = refl
 
-pub six-text : (v : ℕ) (t : List ℕ) → Named v t → 4 ≤ length t → length (drop 4 t) ≤ 255 → Text (sixOf t)
+pub six-text : (v : Version) (t : List ℕ) → Named v t → 4 ≤ length t → length (drop 4 t) ≤ 255 → Text (sixOf t)
 six-text v t n low h =
     let k = length (drop 4 t) in
     let hex : Text (hexDigits k) = (hex-digit-in (k / 16) (omega arith), (hex-digit-in (k % 16) (omega arith), tt)) in
     subst Text (six-is t low) (all-append InChart (take 4 t) (hexDigits k) (signer-text (take 4 t) (n .signer)) hex)
 
--- the version of a number
-pub version-three : (v : ℕ) → v ≡ 3 → versionOf v ≡ three
-version-three v e = ap (λ b. pick b three four) (eq-eqb v 3 e)
-
-pub version-four : (v : ℕ) → (v ≡ 3 → ⊥) → versionOf v ≡ four
-version-four v e = ap (λ b. pick b three four) (ne-eqb v 3 e)
-
-pub version-is : (v : ℕ) → isVersion v ≡ true → (v ≡ 3 → ⊥) → v ≡ 4
-version-is v e h = eqb-true v 4 (sym (ap (λ b. either b (eqb v 4)) (ne-eqb v 3 h)) ∙ e)
-
 -- the forms of a length up to 4,096
-module _ (v n : ℕ) where
-  pub length-plain : v ≡ 3 → lengthOf (versionOf v) n ≡ n ∷ []
-  length-plain e = ap (λ w. lengthOf w n) (version-three v e)
+module _ (v : Version) (n : ℕ) where
+  pub length-plain : v ≡ three → lengthOf v n ≡ n ∷ []
+  length-plain e = ap (λ w. lengthOf w n) e
 
-  module _ (other : v ≡ 3 → ⊥) where
-    length-der : lengthOf (versionOf v) n ≡ form n
-    length-der = ap (λ w. lengthOf w n) (version-four v other)
+  module _ (other : v ≡ four) where
+    length-der : lengthOf v n ≡ form n
+    length-der = ap (λ w. lengthOf w n) other
 
-    pub length-short : n < 0x80 → lengthOf (versionOf v) n ≡ n ∷ []
+    pub length-short : n < 0x80 → lengthOf v n ≡ n ∷ []
     length-short h = length-der ∙ form-short n h
 
-    pub length-one : 0x80 ≤ n → n < 0x100 → lengthOf (versionOf v) n ≡ 0x81 ∷ n ∷ []
+    pub length-one : 0x80 ≤ n → n < 0x100 → lengthOf v n ≡ 0x81 ∷ n ∷ []
     unfolding be
     length-one h l = let low : n % 256 ≡ n = omega arith in length-der ∙ form-long 1 (omega arith) (omega arith) n h l ∙ ap (λ x. 0x81 ∷ x ∷ []) low
 
-    pub length-two : 0x100 ≤ n → n ≤ 4096 → lengthOf (versionOf v) n ≡ 0x82 ∷ (n / 256) ∷ (n % 256) ∷ []
+    pub length-two : 0x100 ≤ n → n ≤ 4096 → lengthOf v n ≡ 0x82 ∷ (n / 256) ∷ (n % 256) ∷ []
     length-two h l = length-der ∙ form-long 2 (omega arith) (omega arith) n h (omega arith) ∙ ap (λ s. 0x82 ∷ s) (be-two n (omega arith))

@@ -1,6 +1,6 @@
 -- The steps item by item, one law for each answer.
 -- Assumes nothing.
-use mathlib.Core.Path.{_≡_, refl, ap, ap₂, sym, _∙_}
+use mathlib.Core.Path.{_≡_, refl, ap, sym, _∙_}
 use mathlib.Core.Bool.{true, false}
 use Prim.Native.Nat.{ℕ, _+_, _≤_, _<_}
 use native.Mathlib.Omega.{arith}
@@ -11,7 +11,6 @@ use Rattle.dates.specs.declared.Date.{Date}
 use Rattle.versions.specs.declared.Version.{Version}
 use Rattle.verdict.specs.Items.{Item, is, not, next, whole, mark, version, country, names, date, last, derLength, Names}
 use Rattle.verdict.specs.Items.Laws.{unread}
-use Rattle.verdict.specs.Items.Sound.{same-value, same-place}
 use Rattle.items.specs.Cases.{through, valueOr}
 use Rattle.names.specs.Cases.{Measured, measured, textOver}
 use Rattle.items.specs.Cases.Laws.{Past, judged}

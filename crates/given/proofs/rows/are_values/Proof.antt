@@ -1,5 +1,6 @@
 -- `are_values` meets its contract. The loop's invariant: no row before has a value over 255 bytes.
 -- Assumes nothing.
+use borrow.Author.Needs.{needs}
 use native.Mathlib.Omega.{arith}
 use mathlib.Core.Path.{_≡_, refl}
 use Prim.Native.Nat.{_-_, _≤_}
@@ -12,13 +13,19 @@ use Rattle.given.proofs.rows.are_values.Statement.{statement}
 use Rattle.given.proofs.rows.are_values.Tie as tie
 
 abbrev Inv-loop : tie.InvT-loop
-Inv-loop version rows n at₀ at = (at ≤ length rows) × (areShort (rowsOf rows) ≡ areShort (rowsOf (drop at rows)))
+Inv-loop rows n at₀ at = (at ≤ length rows) × (areShort (rowsOf rows) ≡ areShort (rowsOf (drop at rows)))
 
 abbrev μ-loop : tie.MeasureT-loop
-μ-loop version rows n at₀ at = length rows - at
+μ-loop rows n at₀ at = length rows - at
+
+enum-told : tie.Need-enum-told Inv-loop μ-loop
+enum-told c = search needs
+
+enum-told-2 : tie.Need-enum-told-2 Inv-loop μ-loop
+enum-told-2 c = search needs
 
 returns : tie.Need-returns Inv-loop μ-loop
-returns c = values-four (c .before .args .version) (now (c .before .args .rows)) (c .if1 .taken)
+returns c = let a = c .before .before .args in values-four (a .version) (now (a .rows)) (c .enum-told .given .1)
 
 loop-holds : tie.Need-loop-holds Inv-loop μ-loop
 loop-holds c = (omega arith, refl)
@@ -26,17 +33,17 @@ loop-holds c = (omega arith, refl)
 add-loop : tie.Need-add-loop Inv-loop μ-loop
 add-loop c = omega arith
 
-add-if2 : tie.Need-add-if2 Inv-loop μ-loop
-add-if2 c = omega arith
+add-if1 : tie.Need-add-if1 Inv-loop μ-loop
+add-if1 c = omega arith
 
-mul-if2 : tie.Need-mul-if2 Inv-loop μ-loop
-mul-if2 c = omega arith
+mul-if1 : tie.Need-mul-if1 Inv-loop μ-loop
+mul-if1 c = omega arith
 
-shared-slice-read-if2 : tie.Need-shared-slice-read-if2 Inv-loop μ-loop
-shared-slice-read-if2 c = omega arith
+shared-slice-read-if1 : tie.Need-shared-slice-read-if1 Inv-loop μ-loop
+shared-slice-read-if1 c = omega arith
 
 returns-2 : tie.Need-returns-2 Inv-loop μ-loop
-returns-2 c = let on = c .before .before .before in short-stops (on .before .before .args .version) (now (on .before .before .args .rows)) (on .loop .at) (on .before .if1 .left) (on .loop .inv .1) (omega arith) (omega arith)
+returns-2 c = let on = c .before .before .before in short-stops (on .before .before .before .args .version) (now (on .before .before .before .args .rows)) (on .loop .at) (on .before .enum-told2 .given .1) (on .loop .inv .1) (omega arith) (omega arith)
 
 add-at : tie.Need-add-at Inv-loop μ-loop
 add-at c = omega arith
@@ -45,10 +52,10 @@ loop-less : tie.Need-loop-less Inv-loop μ-loop
 loop-less c = omega arith
 
 loop-again : tie.Need-loop-again Inv-loop μ-loop
-loop-again c = let on = c .before .before .before in (omega arith, short-more (on .before .before .args .version) (now (on .before .before .args .rows)) (on .loop .at) (on .before .if1 .left) (on .loop .inv .1) (omega arith) (omega arith))
+loop-again c = let on = c .before .before .before in (omega arith, short-more (on .before .before .before .args .version) (now (on .before .before .before .args .rows)) (on .loop .at) (on .before .enum-told2 .given .1) (on .loop .inv .1) (omega arith) (omega arith))
 
 returns-3 : tie.Need-returns-3 Inv-loop μ-loop
-returns-3 c = let on = c .before in short-end (on .before .before .args .version) (now (on .before .before .args .rows)) (on .loop .at) (on .before .if1 .left) (on .loop .inv .1) (omega arith)
+returns-3 c = let on = c .before in short-end (on .before .before .before .args .version) (now (on .before .before .before .args .rows)) (on .loop .at) (on .before .enum-told2 .given .1) (on .loop .inv .1) (omega arith)
 
 pub are-values-spec : {M : Type 1} → statement M
 are-values-spec =
@@ -56,12 +63,14 @@ are-values-spec =
     (tie.spec
     Inv-loop
     μ-loop
+    enum-told
     returns
+    enum-told-2
     loop-holds
     add-loop
-    add-if2
-    mul-if2
-    shared-slice-read-if2
+    add-if1
+    mul-if1
+    shared-slice-read-if1
     returns-2
     add-at
     loop-less

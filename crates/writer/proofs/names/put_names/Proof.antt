@@ -18,14 +18,14 @@ use Rattle.writer.proofs.names.put_names.Statement.{statement}
 use Rattle.writer.proofs.names.put_names.Tie as tie
 
 -- the text in version 4
-abbrev text : tie.Else1 → List ℕ
-text c = now (c .before .before .before .args .text)
+abbrev text : tie.After-enum-told2 → List ℕ
+text c = now (c .before .before .before .before .args .text)
 
-long : (c : tie.Else1) → 5 ≤ length (text c)
-long c = let s = c .before .before .before in size-four (s .args .version) (length (text c)) (c .if1 .left) (s .pre .0 .size) .0
+long : (c : tie.After-enum-told2) → 5 ≤ length (text c)
+long c = let s = c .before .before .before .before in size-four (s .args .version) (length (text c)) (c .enum-told2 .given .1) (s .pre .0 .size) .0
 
-short : (c : tie.Else1) → length (text c) ≤ 259
-short c = let s = c .before .before .before in size-four (s .args .version) (length (text c)) (c .if1 .left) (s .pre .0 .size) .1
+short : (c : tie.After-enum-told2) → length (text c) ≤ 259
+short c = let s = c .before .before .before .before in size-four (s .args .version) (length (text c)) (c .enum-told2 .given .1) (s .pre .0 .size) .1
 
 -- the six characters
 abbrev codes : tie.After-hex-digit2 → List ℕ
@@ -41,38 +41,44 @@ six c =
     λ i. getD t 0 0 ∷ getD t 1 0 ∷ getD t 2 0 ∷ getD t 3 0 ∷ high i ∷ low i ∷ []
 
 -- the part that is lent is the reference
-reference : (c : tie.Else1) → take (length (text c) - 4) (drop 4 (text c)) ≡ drop 4 (text c)
+reference : (c : tie.After-enum-told2) → take (length (text c) - 4) (drop 4 (text c)) ≡ drop 4 (text c)
 reference c = take-all (length (text c) - 4) (drop 4 (text c)) (omega (arith, length-drop 4 (text c)))
 
+enum-told : tie.Need-enum-told
+enum-told c = search needs
+
+enum-told-2 : tie.Need-enum-told-2
+enum-told-2 c = search needs
+
 put-text-requires : tie.Need-put-text-requires
-put-text-requires c κs = let s = c .before .before .before .before in
+put-text-requires c κs = let s = c .before .before .before .before .before in
     let t = now (s .args .text) in
-    let nine = size-three (s .args .version) (length t) (c .before .if1 .taken) (s .pre .0 .size) in
-    (named-text (s .args .version) t (s .pre .0), omega arith, subst (Room (now (s .args .out)) (s .args .at)) (names-three (s .args .version) t (c .before .if1 .taken)) (s .pre .1))
+    let nine = size-three (s .args .version) (length t) (c .before .enum-told .given .1) (s .pre .0 .size) in
+    (named-text (s .args .version) t (s .pre .0), omega arith, subst (Room (now (s .args .out)) (s .args .at)) (names-three (s .args .version) t (c .before .enum-told .given .1)) (s .pre .1))
 
 same-length : tie.Need-same-length
 same-length c = search needs
 
 returns : tie.Need-returns
-returns c = let s = c .before .before .before .before .before .before .before in
+returns c = let s = c .before .before .before .before .before .before .before .before in
     let p = c .before .before .put-text in
-    let e = names-three (s .args .version) (now (s .args .text)) (c .before .before .before .before .if1 .taken) in
+    let e = names-three (s .args .version) (now (s .args .text)) (c .before .before .before .before .enum-told .given .1) in
     (p .ensures .0 ∙ ap (λ l. s .args .at + length l) (sym e), p .ensures .1 ∙ ap (over (now (s .args .out)) (s .args .at)) (sym e))
 
 sub-size : tie.Need-sub-size
 sub-size c = let l = long c in omega arith
 
-shared-slice-read-t13 : tie.Need-shared-slice-read-t13
-shared-slice-read-t13 c = let l = long (c .before) in omega arith
+shared-slice-read-t12 : tie.Need-shared-slice-read-t12
+shared-slice-read-t12 c = let l = long (c .before) in omega arith
 
-shared-slice-read-t15 : tie.Need-shared-slice-read-t15
-shared-slice-read-t15 c = let l = long (c .before .before) in omega arith
+shared-slice-read-t14 : tie.Need-shared-slice-read-t14
+shared-slice-read-t14 c = let l = long (c .before .before) in omega arith
 
-shared-slice-read-t17 : tie.Need-shared-slice-read-t17
-shared-slice-read-t17 c = let l = long (c .before .before .before) in omega arith
+shared-slice-read-t16 : tie.Need-shared-slice-read-t16
+shared-slice-read-t16 c = let l = long (c .before .before .before) in omega arith
 
-shared-slice-read-t19 : tie.Need-shared-slice-read-t19
-shared-slice-read-t19 c = let l = long (c .before .before .before .before) in omega arith
+shared-slice-read-t18 : tie.Need-shared-slice-read-t18
+shared-slice-read-t18 c = let l = long (c .before .before .before .before) in omega arith
 
 hex-digit-requires : tie.Need-hex-digit-requires
 hex-digit-requires c κs = let l = short (c .before .before .before .before) in omega arith
@@ -85,8 +91,8 @@ slice-aggregate-put-text c = search needs
 
 put-text-requires-2 : tie.Need-put-text-requires-2
 put-text-requires-2 c κs = let on = c .before .before in
-    let s = c .before .before .before .before .before .before .before .before .before .before .before in
-    six-asks (s .args .version) (now (s .args .text)) (now (s .args .out)) (s .args .at) (codes on) (s .pre .0) (c .before .before .before .before .before .before .before .before .if1 .left) (s .pre .1) (six on)
+    let s = c .before .before .before .before .before .before .before .before .before .before .before .before in
+    six-asks (s .args .version) (now (s .args .text)) (now (s .args .out)) (s .args .at) (codes on) (s .pre .0) (c .before .before .before .before .before .before .before .before .enum-told2 .given .1) (s .pre .1) (six on)
 
 sub-put-text : tie.Need-sub-put-text
 sub-put-text c = let l = long (c .before .before .before .before .before .before .before .before .before .before .before) in omega arith
@@ -99,34 +105,36 @@ part-put-text-end c = search needs
 
 put-text-requires-3 : tie.Need-put-text-requires-3
 put-text-requires-3 c κs = let on = c .before .before .before .before .before .before .before in
-    let s = c .before .before .before .before .before .before .before .before .before .before .before .before .before .before .before .before in
+    let s = c .before .before .before .before .before .before .before .before .before .before .before .before .before .before .before .before .before in
     let p = c .before .before .before .before .put-text2 in
     let e = c .before .before .before .before .before .before .before .before .before .before .before .before .before in
-    reference-asks (s .args .version) (now (s .args .text)) (now (s .args .out)) (s .args .at) (codes on) (s .pre .0) (e .if1 .left) (s .pre .1) (six on) (p .result) _ (p .ensures .0) (p .ensures .1) _ (reference e)
+    reference-asks (s .args .version) (now (s .args .text)) (now (s .args .out)) (s .args .at) (codes on) (s .pre .0) (e .enum-told2 .given .1) (s .pre .1) (six on) (p .result) _ (p .ensures .0) (p .ensures .1) _ (reference e)
 
 same-length-2 : tie.Need-same-length-2
 same-length-2 c = search needs
 
 returns-2 : tie.Need-returns-2
 returns-2 c = let on = c .before .before .before .before .before .before .before .before .before .before in
-    let s = c .before .before .before .before .before .before .before .before .before .before .before .before .before .before .before .before .before .before .before in
+    let s = c .before .before .before .before .before .before .before .before .before .before .before .before .before .before .before .before .before .before .before .before in
     let p = c .before .before .before .before .before .before .before .put-text2 in
     let q = c .before .before .put-text3 in
     let e = c .before .before .before .before .before .before .before .before .before .before .before .before .before .before .before .before in
-    names-put (s .args .version) (now (s .args .text)) (now (s .args .out)) (s .args .at) (codes on) (s .pre .0) (e .if1 .left) (s .pre .1) (six on) (p .result) _ (p .ensures .0) (p .ensures .1) _ (reference e) _ _ (q .ensures .0) (q .ensures .1)
+    names-put (s .args .version) (now (s .args .text)) (now (s .args .out)) (s .args .at) (codes on) (s .pre .0) (e .enum-told2 .given .1) (s .pre .1) (six on) (p .result) _ (p .ensures .0) (p .ensures .1) _ (reference e) _ _ (q .ensures .0) (q .ensures .1)
 
 pub put-names-spec : {M : Type 1} → statement M
 put-names-spec =
     tie.close
     (tie.spec
+    enum-told
     put-text-requires
     same-length
     returns
+    enum-told-2
     sub-size
-    shared-slice-read-t13
-    shared-slice-read-t15
-    shared-slice-read-t17
-    shared-slice-read-t19
+    shared-slice-read-t12
+    shared-slice-read-t14
+    shared-slice-read-t16
+    shared-slice-read-t18
     hex-digit-requires
     hex-digit-requires-2
     slice-aggregate-put-text

@@ -10,11 +10,12 @@ use lib.ListN.{length, getD, set, length-set}
 use Rattle.format.specs.Buffer.{over}
 use Rattle.format.specs.Buffer.Laws.{length-over}
 use Rattle.c40.specs.Text.{Text}
+use Rattle.versions.specs.Versions.{versionByte}
 use Rattle.grammar.specs.Publish.{carried}
 use Rattle.given.specs.Given.{threeOf}
 use Rattle.writer.specs.Steps.{front}
 use Rattle.writer.specs.Steps.Laws.{country-text}
-use Rattle.writer.specs.Whole.{headed-country, headed-named, version-bounds, front-room, names-room, put-front}
+use Rattle.writer.specs.Whole.{headed-country, headed-named, front-room, names-room, put-front}
 use Rattle.writer.proofs.put.put_front.Statement.{statement}
 use Rattle.writer.proofs.put.put_front.Tie as tie
 
@@ -22,29 +23,30 @@ use Rattle.writer.proofs.put.put_front.Tie as tie
 abbrev codes : tie.After-carried3 → List ℕ
 codes c = c .before .before .carried .result ∷ c .before .carried2 .result ∷ c .carried3 .result ∷ []
 
-coded : (c : tie.After-carried3) → map carried (threeOf (c .before .before .before .before .before .before .args .header .country)) ≡ codes c
+coded : (c : tie.After-carried3) → map carried (threeOf (c .before .before .before .before .before .before .before .args .header .country)) ≡ codes c
 coded c = λ i. sym (c .before .before .carried .ensures) i ∷ sym (c .before .carried2 .ensures) i ∷ sym (c .carried3 .ensures) i ∷ []
 
+-- the version's byte, as it was stored
+stored : (c : tie.After-carried3) → c .before .before .before .byte .result ≡ versionByte (c .before .before .before .before .before .before .before .args .version)
+stored c = c .before .before .before .byte .ensures
+
 -- what was put down
-put : (c : tie.After-slice-known3) → let s = c .before .before .before .before .before .before .before .before .before .before .before .before .before .before .before in (c .before .before .put-names .result ≡ length (front (s .args .header) (now (s .args .text)))) × (c .before .before .put-names .last .1 .1 .0 ≡ over (now (s .args .out)) 0 (front (s .args .header) (now (s .args .text))))
+put : (c : tie.After-slice-known3) → let s = c .before .before .before .before .before .before .before .before .before .before .before .before .before .before .before .before in (c .before .before .put-names .result ≡ length (front (s .args .version) (s .args .header) (now (s .args .text)))) × (c .before .before .put-names .last .1 .1 .0 ≡ over (now (s .args .out)) 0 (front (s .args .version) (s .args .header) (now (s .args .text))))
 put c =
-    let s = c .before .before .before .before .before .before .before .before .before .before .before .before .before .before .before in
+    let s = c .before .before .before .before .before .before .before .before .before .before .before .before .before .before .before .before in
     let on = c .before .before .before .before .before .before .before .before .before in
     let p = c .before .before .before .before .before .before .put-text in
     let q = c .before .before .put-names in
-    put-front (s .args .header) (now (s .args .text)) (now (s .args .out)) (s .pre .0) (s .pre .1) (codes on) (p .last .1 .0) (p .result) (coded on) (p .ensures .0) (p .ensures .1) (q .last .1 .1 .0) (q .result) (q .ensures .0) (q .ensures .1)
+    put-front (s .args .version) (s .args .header) (now (s .args .text)) (now (s .args .out)) (s .pre .1) _ (stored on) (codes on) (p .last .1 .0) (p .result) (coded on) (p .ensures .0) (p .ensures .1) (q .last .1 .1 .0) (q .result) (q .ensures .0) (q .ensures .1)
 
 slice-write-out : tie.Need-slice-write-out
 slice-write-out c = search needs
 
-sub-out : tie.Need-sub-out
-sub-out c = let s = c .before .before .before in let v = version-bounds (s .args .header .version) (s .pre .0 .version) in omega arith
-
-cast-out : tie.Need-cast-out
-cast-out c = let s = c .before .before .before in let v = version-bounds (s .args .header .version) (s .pre .0 .version) in omega arith
+byte-requires : tie.Need-byte-requires
+byte-requires c κs = search needs
 
 slice-write-out-2 : tie.Need-slice-write-out-2
-slice-write-out-2 c = let s = c .before .before .before in let p : 1 < length (set (now (s .args .out)) 0 0xDC) = simp length-set (omega (arith, s .pre .1)) in p
+slice-write-out-2 c = let s = c .before .before .before .before in let p : 1 < length (set (now (s .args .out)) 0 0xDC) = simp length-set (omega (arith, s .pre .1)) in p
 
 array-read-carried : tie.Need-array-read-carried
 array-read-carried c = search needs
@@ -68,19 +70,19 @@ slice-aggregate-put-text : tie.Need-slice-aggregate-put-text
 slice-aggregate-put-text c = search needs
 
 put-text-requires : tie.Need-put-text-requires
-put-text-requires c κs = let s = c .before .before .before .before .before .before .before .before in
+put-text-requires c κs = let s = c .before .before .before .before .before .before .before .before .before in
     let on = c .before .before in
     let k = s .args .header .country in
-    (subst Text (coded on) (country-text (getD k 0 0) (getD k 1 0) (getD k 2 0) (headed-country (s .args .header) (now (s .args .text)) (s .pre .0))), omega arith, front-room (s .args .header) (now (s .args .text)) (now (s .args .out)) (s .pre .0) (s .pre .1) (codes on) (coded on))
+    (subst Text (coded on) (country-text (getD k 0 0) (getD k 1 0) (getD k 2 0) (headed-country (s .args .version) (s .args .header) (now (s .args .text)) (s .pre .0))), omega arith, front-room (s .args .version) (s .args .header) (now (s .args .text)) (now (s .args .out)) (s .pre .1) _ (stored on) (codes on) (coded on))
 
 put-names-requires : tie.Need-put-names-requires
-put-names-requires c κs = let s = c .before .before .before .before .before .before .before .before .before .before .before .before in
+put-names-requires c κs = let s = c .before .before .before .before .before .before .before .before .before .before .before .before .before in
     let on = c .before .before .before .before .before .before in
     let p = c .before .before .before .put-text in
-    (headed-named (s .args .header) (now (s .args .text)) (s .pre .0), names-room (s .args .header) (now (s .args .text)) (now (s .args .out)) (s .pre .0) (s .pre .1) (codes on) (p .last .1 .0) (p .result) (coded on) (p .ensures .0) (p .ensures .1))
+    (headed-named (s .args .version) (s .args .header) (now (s .args .text)) (s .pre .0), names-room (s .args .version) (s .args .header) (now (s .args .text)) (now (s .args .out)) (s .pre .1) _ (stored on) (codes on) (p .last .1 .0) (p .result) (coded on) (p .ensures .0) (p .ensures .1))
 
 same-length : tie.Need-same-length
-same-length c = let s = c .before .before .before .before .before .before .before .before .before .before .before .before .before .before .before in ap length (put c .1) ∙ length-over (now (s .args .out)) 0 (front (s .args .header) (now (s .args .text))) (s .pre .1)
+same-length c = let s = c .before .before .before .before .before .before .before .before .before .before .before .before .before .before .before .before in ap length (put c .1) ∙ length-over (now (s .args .out)) 0 (front (s .args .version) (s .args .header) (now (s .args .text))) (s .pre .1)
 
 returns : tie.Need-returns
 returns c = put c
@@ -90,8 +92,7 @@ put-front-spec =
     tie.close
     (tie.spec
     slice-write-out
-    sub-out
-    cast-out
+    byte-requires
     slice-write-out-2
     array-read-carried
     carried-requires

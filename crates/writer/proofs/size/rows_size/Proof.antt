@@ -4,13 +4,12 @@ use native.Mathlib.Omega.{arith}
 use Prim.Native.Nat.{_+_, _-_, _≤_}
 use denote.Ref.{now}
 use lib.ListN.{length, getD}
-use Rattle.given.specs.Given.{versionOf}
 use Rattle.writer.specs.Sizes.Laws.{Summed, summed-start, summed-end, summed-great, summed-past, summed-more, width-small}
 use Rattle.writer.proofs.size.rows_size.Statement.{statement}
 use Rattle.writer.proofs.size.rows_size.Tie as tie
 
 abbrev Inv-loop : tie.InvT-loop
-Inv-loop version rows start n total₀ at₀ total at = Summed (versionOf version) rows start total at
+Inv-loop version rows start n total₀ at₀ total at = Summed version rows start total at
 
 abbrev μ-loop : tie.MeasureT-loop
 μ-loop version rows start n total₀ at₀ total at = length rows - at

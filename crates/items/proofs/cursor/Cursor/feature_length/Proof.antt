@@ -1,7 +1,7 @@
 -- `Cursor::feature_length` meets its contract, by the version.
 -- Assumes nothing.
 use borrow.Author.Needs.{needs}
-use mathlib.Core.Path.{_≡_, _∙_, ap, sym}
+use mathlib.Core.Path.{_∙_, ap, sym}
 use denote.Ref.{now}
 use Rattle.verdict.specs.Items.{featureLength}
 use Rattle.items.specs.Cases.{byteOf}
