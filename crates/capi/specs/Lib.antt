@@ -1,5 +1,3 @@
--- What the contracts of the C face cite: its structs, field by field; that nothing is lost in them; and computed examples.
+-- Computed examples of the calls. What their contracts cite stands with the calls beneath and, of the structs, in the crate `face`.
 -- Assumes nothing.
-pub mod Face
-pub mod Kept
 pub mod Pins

@@ -1,4 +1,4 @@
--- Computed examples of the face: a header and a reading in which no two fields are alike, and answers of the calls from the input to the struct.
+-- Computed examples of the calls: their answers, from the input to the struct.
 -- Assumes nothing.
 use mathlib.Core.Path.{_≡_, refl}
 use mathlib.Core.List.{[], _∷_}
@@ -19,26 +19,9 @@ use Rattle.integers.specs.Calls.{reading as readInteger}
 use Rattle.ecdsa.specs.Signature.{isSize}
 use Rattle.ecdsa.specs.Strict.{rawOf}
 use Rattle.ecdsa.specs.Calls.{toDer, toRaw, hashFor}
-use Rattle.items.specs.declared.Header.{Header}
 use Rattle.given.specs.Given.{given}
 use Rattle.writer.specs.Calls.{writing}
-use Rattle.capi.specs.declared.types.FrHeader.{FrHeader}
-use Rattle.capi.specs.Face.{headerOf, readingOf, filledWith, filledOf, datedOf, numberedOf, integerOf, hashedOf, innerHeader}
-
-abbrev header : Header
-header = record { version = 4; country = 68 ∷ 60 ∷ 61 ∷ []; length = 7; issued = record { month = 1; day = 2; year = 3 }; signed = record { month = 12; day = 31; year = 9999 }; definition = 8; category = 9 }
-
-abbrev face : FrHeader
-face = record { version = 4; country = 68 ∷ 60 ∷ 61 ∷ []; length = 7; «issued_on» = record { month = 1; day = 2; year = 3 }; «signed_on» = record { month = 12; day = 31; year = 9999 }; definition = 8; category = 9 }
-
-header-out : headerOf header ≡ face
-header-out = refl
-
-header-in : innerHeader face ≡ header
-header-in = refl
-
-reading-out : readingOf (record { number = 10; place = 11; header = header; ends = record { header = 13; message = 14; seal = 15 }; signature = record { place = 16; length = 17 }; count = 18 }) ≡ record { number = 10; place = 11; header = face; ends = record { header = 13; message = 14; seal = 15 }; signature = record { place = 16; length = 17 }; count = 18 }
-reading-out = refl
+use Rattle.face.specs.Face.{filledWith, filledOf, datedOf, numberedOf, integerOf, hashedOf}
 
 -- the writer: version 5
 version-5 : filledOf (told (writing (given (record { version = 5; country = []; length = 0; issued = record { month = 0; day = 0; year = 0 }; signed = record { month = 0; day = 0; year = 0 }; definition = 0; category = 0 }) [] [] [] []) 0)) ≡ filledWith 20 0 0

@@ -29,10 +29,15 @@ fn header_text() -> String {
     text_of(&in_repository("include/fenderrope.h"))
 }
 
-/// All Rattle sources of the face, one after another.
+/// All Rattle sources of the face, one after another: the structs, then the calls.
 fn rattle_text() -> String {
-    let folder = in_repository("crates/capi/src");
-    let entries = fs::read_dir(&folder).unwrap_or_else(|error| panic!("{}: {error}", folder.display()));
+    let folders = ["crates/face/src", "crates/capi/src"].map(in_repository);
+    folders.iter().map(|folder| sources_of(folder)).collect()
+}
+
+/// The Rattle sources of a folder, one after another.
+fn sources_of(folder: &Path) -> String {
+    let entries = fs::read_dir(folder).unwrap_or_else(|error| panic!("{}: {error}", folder.display()));
     let paths = entries.map(|entry| entry.expect("a folder that can be listed").path());
     let mut sources: Vec<_> = paths.filter(|path| path.extension().is_some_and(|end| end == "rt")).collect();
     sources.sort();

@@ -2,7 +2,7 @@
 -- Assumes nothing.
 use borrow.Author.Needs.{needs}
 use mathlib.Core.Path.{ap, _∙_}
-use Rattle.capi.specs.Face.{datedOf}
+use Rattle.face.specs.Face.{datedOf}
 use Rattle.capi.proofs.numbers.fr_date_from_number.Statement.{statement}
 use Rattle.capi.proofs.numbers.fr_date_from_number.Tie as tie
 

@@ -3,7 +3,7 @@
 use borrow.Author.Needs.{needs}
 use mathlib.Core.Path.{ap, _∙_}
 use Rattle.dates.specs.Calls.{toNumber}
-use Rattle.capi.specs.Face.{numberedOf}
+use Rattle.face.specs.Face.{numberedOf}
 use Rattle.capi.proofs.numbers.fr_date_to_number.Statement.{statement}
 use Rattle.capi.proofs.numbers.fr_date_to_number.Tie as tie
 

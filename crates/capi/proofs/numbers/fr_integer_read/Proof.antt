@@ -2,7 +2,7 @@
 -- Assumes nothing.
 use borrow.Author.Needs.{needs}
 use mathlib.Core.Path.{ap, _∙_}
-use Rattle.capi.specs.Face.{integerOf}
+use Rattle.face.specs.Face.{integerOf}
 use Rattle.capi.proofs.numbers.fr_integer_read.Statement.{statement}
 use Rattle.capi.proofs.numbers.fr_integer_read.Tie as tie
 

@@ -7,7 +7,7 @@ use lib.ListN.{length}
 use mir.Facts.{toZ-ofZ}
 use Rattle.format.specs.Answers.{told, filled}
 use Rattle.integers.specs.Calls.{writing}
-use Rattle.capi.specs.Face.{filledOf}
+use Rattle.face.specs.Face.{filledOf}
 use Rattle.capi.proofs.numbers.fr_integer_write.Statement.{statement}
 use Rattle.capi.proofs.numbers.fr_integer_write.Tie as tie
 

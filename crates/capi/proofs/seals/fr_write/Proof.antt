@@ -8,7 +8,7 @@ use Rattle.format.specs.Answers.{Outcome, told, filled}
 use Rattle.items.specs.declared.Header.{Header}
 use Rattle.given.specs.Given.{given}
 use Rattle.writer.specs.Calls.{writing}
-use Rattle.capi.specs.Face.{filledOf}
+use Rattle.face.specs.Face.{filledOf}
 use Rattle.capi.proofs.seals.fr_write.Statement.{statement}
 use Rattle.capi.proofs.seals.fr_write.Tie as tie
 

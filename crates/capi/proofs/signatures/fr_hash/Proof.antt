@@ -2,7 +2,7 @@
 -- Assumes nothing.
 use borrow.Author.Needs.{needs}
 use mathlib.Core.Path.{ap, _∙_}
-use Rattle.capi.specs.Face.{hashedOf}
+use Rattle.face.specs.Face.{hashedOf}
 use Rattle.capi.proofs.signatures.fr_hash.Statement.{statement}
 use Rattle.capi.proofs.signatures.fr_hash.Tie as tie
 

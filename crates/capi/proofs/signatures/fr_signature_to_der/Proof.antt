@@ -2,7 +2,7 @@
 -- Assumes nothing.
 use borrow.Author.Needs.{needs}
 use mathlib.Core.Path.{ap, _∙_}
-use Rattle.capi.specs.Face.{filledOf}
+use Rattle.face.specs.Face.{filledOf}
 use Rattle.capi.proofs.signatures.fr_signature_to_der.Statement.{statement}
 use Rattle.capi.proofs.signatures.fr_signature_to_der.Tie as tie
 

@@ -2,7 +2,7 @@
 -- Assumes nothing.
 use borrow.Author.Needs.{needs}
 use mathlib.Core.Path.{ap, _∙_}
-use Rattle.capi.specs.Face.{filledOf}
+use Rattle.face.specs.Face.{filledOf}
 use Rattle.capi.proofs.telling.fr_words.Statement.{statement}
 use Rattle.capi.proofs.telling.fr_words.Tie as tie
 

@@ -1,3 +1,0 @@
--- Proofs of the C face; Told is the one step that they share.
--- Assumes nothing.
-mod Told
