@@ -7,12 +7,13 @@
 # make test   the gate: looks for its tools; the tests in C and Rust, of the programs and of the installing; then prove
 #             everything from nothing, try the must-fail edits, run the programs
 # make face   the C tests alone, in C and C++, with each compiler that is there
-# make rust   the Rust tests alone; the differential test has GATE_INPUTS inputs
+# make rust   the Rust tests alone; GATE_INPUTS says how many inputs the differential test has
 # make difference  the differential test at its full size (FR_INPUTS, FR_SEED in the environment change it)
-# make peers  end to end with openssl, zint and dmtxread
-# make fuzz   fuzz the library for FUZZ_SECONDS (needs clang)
+# make peers  end to end with openssl, zint and dmtxread (on an x86-64 machine)
+# make fuzz   fuzz the library for FUZZ_SECONDS (needs clang, on an x86-64 machine)
 # make fmt    lay out every .rt and .antt file
-# make bench  instructions and nanoseconds of each call beside plain C and Rust (BLOCKS=1: the C with memcpy, memchr)
+# make bench  instructions and nanoseconds of each call beside plain C and Rust (BLOCKS=1: the C with memcpy, memchr; on
+#             an x86-64 machine)
 # make vectors  reckon the files of cases anew from document 01 (needs python3)
 # make install    put what was made under PREFIX (below DESTDIR): programs, library, header, pkg-config file, man pages,
 #                 docs, example
@@ -20,11 +21,12 @@
 # make clean  remove what was made
 # What rt prints stands in target/log/make-*: its last line is shown, and all of it where it fails. The gate's rt ci
 # prints as it goes.
+# All that is built is for x86-64. What stands after tests/x86 is run on another machine too, by a toolchain that is laid
+# there once, or is named as not run.
 
 VERSION := 0.1.0
 PREFIX ?= /usr/local
 FUZZ_SECONDS ?= 60
-GATE_INPUTS ?= 400000
 
 RT := $(shell command -v rt 2>/dev/null)
 LIST := target/bin/list
@@ -32,7 +34,6 @@ LIB := target/lib/libfenderrope.a
 MADE := target/lib/made
 CHECKER := target/bin/fenderrope-check
 STRICT := -std=c11 -O2 -Wall -Wextra -Wpedantic -Werror
-CARGO := cd rust && CARGO_TARGET_DIR=$(CURDIR)/target/rust cargo
 CALLS := $(shell sed -n 's/^fr_[a-z]* \(fr_[a-z0-9_]*\).*/\1/p' include/fenderrope.h)
 TO = $(DESTDIR)$(PREFIX)
 DOC = $(TO)/share/doc/fenderrope
@@ -49,7 +50,7 @@ unchanged = test -f $(LIB) && rt version | cmp -s - $(MADE) && \
 	test -z "$$(find crates/*/src crates/*/specs crates/*/proofs crates.txt -newer $(MADE) | head -n 1)"
 
 .PHONY: all base list seal-a lib checker test face rust difference peers fuzz fmt bench vectors install uninstall clean
-.PHONY: kit
+.PHONY: kit native $(CHECKER)
 .NOTPARALLEL:
 
 all: kit
@@ -73,6 +74,9 @@ lib: kit
 
 checker: lib
 	@mkdir -p target/bin
+	@tests/x86 $(MAKE) -s $(CHECKER)
+
+$(CHECKER):
 	@$(CC) $(STRICT) $(CFLAGS) -Iinclude programs/check.c $(LIB) $(LDFLAGS) -o $(CHECKER)
 
 test:
@@ -82,24 +86,24 @@ test:
 	@rt ci
 
 face: lib
-	@tests/face
+	@tests/x86 tests/face
 
 rust: lib
-	@export FR_INPUTS=$(GATE_INPUTS) && $(CARGO) test --offline
+	@tests/x86 tests/rust
 
 difference: lib
-	@$(CARGO) test --offline --package fenderrope --test difference -- --nocapture
+	@tests/x86 tests/rust difference
 
-peers: lib
+peers: native lib
 	@peers/run
 
-fuzz: lib
+fuzz: native lib
 	@FUZZ_SECONDS=$(FUZZ_SECONDS) fuzz/run
 
 fmt: kit
 	@rt fmt
 
-bench: lib
+bench: native lib
 	@bench/run
 
 vectors:
@@ -145,3 +149,7 @@ kit:
 		{ echo "missing: rt, the command of the Rattle kit; put the kit's bin folder on the PATH" >&2; exit 1; }
 	@rt version | cmp -s - kit.txt || \
 		echo "warning: the kit is '$$(rt version)', and this was proved with '$$(cat kit.txt)' (kit.txt)" >&2
+
+native:
+	@test "$$(uname -m)" = x86_64 || \
+		{ echo "make peers, make fuzz and make bench need an x86-64 machine; this one is $$(uname -m)" >&2; exit 1; }
