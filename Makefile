@@ -21,8 +21,8 @@
 # make clean  remove what was made
 # What rt prints stands in target/log/make-*: its last line is shown, and all of it where it fails. The gate's rt ci
 # prints as it goes.
-# All that is built is for x86-64. What stands after tests/x86 is run on another machine too, by a toolchain that is laid
-# there once, or is named as not run.
+# All that is built is for x86-64. What stands after tests/x86 is run on another machine too, by a toolchain that is
+# laid there once, or is named as not run.
 
 VERSION := 0.1.0
 PREFIX ?= /usr/local
