@@ -43,7 +43,8 @@ letter-or-digit-in c h = ⊎-elim (λ l. letter-in c (l .0) (l .1)) (λ d. digit
 abbrev pub Hexadecimal : ℕ → Type 0
 Hexadecimal c = ((65 ≤ c) × (c ≤ 70)) ⊎ Digit c
 
--- All that laws and examples use of the rule for a reference's characters: hexadecimal digits are among them, and they are letters and digits.
+-- All that laws and examples use of the rule for a reference's characters: hexadecimal digits are among them, and they are letters
+-- and digits.
 hexadecimal-reference : (c : ℕ) → Hexadecimal c → ReferenceCharacter c
 hexadecimal-reference c h = ⊎-elim (λ l. inl (omega (arith, l .0), omega (arith, l .1))) inr h
 

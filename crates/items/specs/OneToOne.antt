@@ -1,5 +1,6 @@
--- The answers of the items are settled by what `byteOf`, `wholeOf`, `stepOf`, `numberOf`, `editionOf` and `dayOf` say of them. Of a step and a
--- number that holds where the item's own number is not 2, which says that it is cut short: it is 3, 5, 7 or 8 in every contract.
+-- The answers of the items are settled by what `byteOf`, `wholeOf`, `stepOf`, `numberOf`, `editionOf` and `dayOf` say of them. Of a
+-- step and a number that holds where the item's own number is not 2, which says that it is cut short: it is 3, 5, 7 or 8 in every
+-- contract.
 -- Assumes nothing.
 use mathlib.Core.Path.{_≡_, refl}
 use Prim.Native.Nat.{ℕ}
@@ -60,7 +61,8 @@ step-back wrong at other value step.Wrong = rw (ne-eqb wrong 2 other) refl
 
 -- whatever the value is that stands elsewhere
 pub step-one : {A : Type 0} (wrong at : ℕ) → (wrong ≡ 2 → ⊥) → (x y : A) (a b : Step) → stepOf wrong at x a ≡ stepOf wrong at y b → a ≡ b
-step-one wrong at other x y = by-way-back (stepOf wrong at x) (stepOf wrong at y) stepBack (step-back wrong at other x) (step-back wrong at other y)
+step-one wrong at other x y =
+    by-way-back (stepOf wrong at x) (stepOf wrong at y) stepBack (step-back wrong at other x) (step-back wrong at other y)
 
 numberBack : Item ℕ → Number
 numberBack (is n at) = number.Is n (record { place = at })

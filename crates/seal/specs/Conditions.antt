@@ -206,14 +206,16 @@ signed-front s bytes p rows names z =
     let r = reader.accepted-exactly s bytes rows names (a .report) (a .reads) in
     ap (λ v. take (answerOf v .ends .message) s) (a .reads) ∙ r .signed ∙ ap signedBytes (sym (r .only (p .content) (p .legal) (p .form-is)))
 
--- The zone ends that the answer gives, and the signature's part, are those of the only content (`ZonesOf` in crates/reader/specs/Theorems.antt):
+-- The zone ends that the answer gives, and the signature's part, are those of the only content (`ZonesOf`: crates/reader/specs/Theorems.antt):
 -- header end the header zone's length, message end that and the message zone's, seal end the seal's length, and the part the raw signature.
-pub zone-ends : (s : List ℕ) → Bytes s → (p : Published s) (rows names : List ℕ) → answer s rows names .number ≡ 0 → reader.ZonesOf s (p .content) (answer s rows names)
+pub zone-ends : (s : List ℕ) → Bytes s → (p : Published s) (rows names : List ℕ) → answer s rows names .number ≡ 0 →
+    reader.ZonesOf s (p .content) (answer s rows names)
 zone-ends s bytes p rows names z =
     let a = zero-accepted s (length rows) (length names) z in
     let r = reader.accepted-exactly s bytes rows names (a .report) (a .reads) in
     let e : r .content ≡ p .content = sym (r .only (p .content) (p .legal) (p .form-is)) in
-    subst (λ v. reader.ZonesOf s (p .content) (answerOf v)) (sym (a .reads)) (subst (λ c. reader.ZonesOf s c (answerOf (accepted (a .report)))) e (r .zones))
+    subst (λ v. reader.ZonesOf s (p .content) (answerOf v)) (sym (a .reads))
+    (subst (λ c. reader.ZonesOf s c (answerOf (accepted (a .report)))) e (r .zones))
 
 -- Two accepted seals with the same signed bytes say the same but for the signature.
 pub seals-apart : (s s′ : List ℕ) → Bytes s → Bytes s′ → (rows names rows′ names′ : List ℕ) →

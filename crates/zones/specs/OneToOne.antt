@@ -26,7 +26,8 @@ front-back code text (front.Is version size at) = refl
 front-back code text (front.Not why) = refl
 
 pub front-one : (code text code′ text′ : List ℕ) (a b : Front) → frontOf code text a ≡ frontOf code′ text′ b → a ≡ b
-front-one code text code′ text′ = by-way-back (frontOf code text) (frontOf code′ text′) frontBack (front-back code text) (front-back code′ text′)
+front-one code text code′ text′ =
+    by-way-back (frontOf code text) (frontOf code′ text′) frontBack (front-back code text) (front-back code′ text′)
 
 restBack : Item Dated → Rest
 restBack (is d at) = rest.Is (d .issued) (d .signed) (d .definition) (d .category) (record { place = at })

@@ -44,7 +44,8 @@ signer-passes (a ∷ b ∷ c ∷ d ∷ e ∷ t) l = let f = l .size in absurd (o
 
 -- what passes the tests is legal
 letter-or-digit-of : (c : ℕ) → isLetterOrDigit c ≡ true → LetterOrDigit c
-letter-or-digit-of c e = ⊎-elim (λ f. inl (within-both 65 90 c f)) (λ f. inr (within-both 48 57 c f)) (either-true (isLetter c) (isDigit c) e)
+letter-or-digit-of c e =
+    ⊎-elim (λ f. inl (within-both 65 90 c f)) (λ f. inr (within-both 48 57 c f)) (either-true (isLetter c) (isDigit c) e)
 
 pub reference-of : (c : ℕ) → isReference c ≡ true → ReferenceCharacter c
 reference-of c e = letter-or-digit-of c e

@@ -14,11 +14,13 @@ digits : (isDigit 47 ≡ false) × (isDigit 48 ≡ true) × (isDigit 57 ≡ true
 digits = (refl, refl, refl, refl)
 
 -- G, Z and 9, a space and a filler
-letters-or-digits : (isLetterOrDigit 71 ≡ true) × (isLetterOrDigit 90 ≡ true) × (isLetterOrDigit 57 ≡ true) × (isLetterOrDigit 32 ≡ false) × (isLetterOrDigit 60 ≡ false)
+letters-or-digits : (isLetterOrDigit 71 ≡ true) × (isLetterOrDigit 90 ≡ true) × (isLetterOrDigit 57 ≡ true)
+    × (isLetterOrDigit 32 ≡ false) × (isLetterOrDigit 60 ≡ false)
 letters-or-digits = (refl, refl, refl, refl, refl)
 
 -- of a reference, too
-references : (isReference 71 ≡ true) × (isReference 90 ≡ true) × (isReference 57 ≡ true) × (isReference 32 ≡ false) × (isReference 60 ≡ false)
+references : (isReference 71 ≡ true) × (isReference 90 ≡ true) × (isReference 57 ≡ true)
+    × (isReference 32 ≡ false) × (isReference 60 ≡ false)
 references = (refl, refl, refl, refl, refl)
 
 -- UTO, D and two fillers, UT and one; a filler first, a letter after a filler, a space for a filler

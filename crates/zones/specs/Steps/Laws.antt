@@ -37,10 +37,12 @@ names-back v c (is n at) = refl
 names-back v c (not number place) = refl
 
 -- the lent country and text stay where the fields are not read, and the country is theirs where they are
-pub code-kept : (s : List ℕ) (number place : ℕ) → not number place ≡ fields s → (code : List ℕ) → code ≡ valueOr code (through codeIn (fields s))
+pub code-kept : (s : List ℕ) (number place : ℕ) → not number place ≡ fields s → (code : List ℕ) →
+    code ≡ valueOr code (through codeIn (fields s))
 code-kept s number place e code = ap (λ i. valueOr code (through codeIn i)) e
 
-pub code-given : (s : List ℕ) (f : Fields) (at : ℕ) → is f at ≡ fields s → (code : List ℕ) → f .country ≡ valueOr code (through codeIn (fields s))
+pub code-given : (s : List ℕ) (f : Fields) (at : ℕ) → is f at ≡ fields s → (code : List ℕ) →
+    f .country ≡ valueOr code (through codeIn (fields s))
 code-given s f at e code = ap (λ i. valueOr code (through codeIn i)) e
 
 pub text-kept : (s : List ℕ) (number place : ℕ) → not number place ≡ fields s → (text : List ℕ) → text ≡ textOver text (through namesIn (fields s))
