@@ -18,7 +18,7 @@ use Rattle.verdict.specs.Judge.{Row, Verdict, accepted, refused, judge}
 use Rattle.verdict.specs.Judge.Numbers.{FromList, from-list}
 use Rattle.reader.specs.Judged.{judge-long}
 use Rattle.reader.specs.Calls.{answerOf, table, given, reading, rowsIn, textIn, then}
-use Rattle.reader.specs.Calls.Reads.{accepted-zero, both-fit}
+use Rattle.reader.specs.Calls.Reads.{accepted-report, both-fit}
 use Rattle.reader.specs.declared.Reading.{Reading}
 use Rattle.listing.specs.Room.{Word, room}
 use Rattle.listing.specs.Listed.{featureLines, listed, feature, Enough}
@@ -64,7 +64,7 @@ listing-is (refused number place) t x l four =
 module _ (numbers room : ℕ) (rows : 765 ≤ numbers) (names : 259 ≤ room) where
   fits : (s : List ℕ) → Bytes s → (v : Verdict) → judge s ≡ v → given numbers room v ≡ v
   fits s bytes (accepted r) e =
-      let a = accepted-zero s bytes (answerOf (judge s)) refl (ap (λ v. answerOf v .number) e) in
+      let a = accepted-report s bytes (answerOf (judge s)) (r .header .version) r refl refl e in
       subst (λ v. given numbers room v ≡ v) (sym (a .judged) ∙ e)
       (sym (ap (given numbers room) (a .judged))
       ∙ both-fit s numbers room (a .report) (a .judged) (omega (arith, a .few)) (omega (arith, a .reference)))
@@ -75,7 +75,7 @@ module _ (numbers room : ℕ) (rows : 765 ≤ numbers) (names : 259 ≤ room) wh
 
 four-signed : (s : List ℕ) → Bytes s → (v : Verdict) → judge s ≡ v → Signed v
 four-signed s bytes (accepted r) e =
-    let a = accepted-zero s bytes (answerOf (judge s)) refl (ap (λ v. answerOf v .number) e) in
+    let a = accepted-report s bytes (answerOf (judge s)) (r .header .version) r refl refl e in
     subst Signed (sym (a .judged) ∙ e) (a .signer)
 four-signed s bytes (refused number place) e = tt
 

@@ -90,7 +90,8 @@ walk s r e =
     let same = same-value _ r _ (v .end) (i2 .goes-on) in
     subst (λ q. features 256 (q .header .version) [] (q .header-end) s ≡ is (q .rows) (q .message-end)) same (i1 .read))
 
-accepted-report : (s : List ℕ) → Bytes s → (q : Reading) (v : Version) (r : Report) → q ≡ answerOf (judge s) → v ≡ r .header .version → judge s ≡ accepted r → Accepted s q v
+-- and so of every seal that is accepted
+pub accepted-report : (s : List ℕ) → Bytes s → (q : Reading) (v : Version) (r : Report) → q ≡ answerOf (judge s) → v ≡ r .header .version → judge s ≡ accepted r → Accepted s q v
 unfolding reportOf
 accepted-report s bytes q v r a same-version e =
     let seal = accepted-only s bytes r e in
