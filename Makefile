@@ -65,7 +65,7 @@ list: kit
 	@$(call logged,list,rt check list)
 
 seal-a: list
-	@$(LIST) <examples/seal-a
+	@tests/x86 sh -c '$${FR_RUN:+"$$FR_RUN"} $(LIST)' <examples/seal-a
 
 # The stamp is as old as the beginning of the work, so that a source that changes meanwhile is younger.
 lib: kit
