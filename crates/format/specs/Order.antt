@@ -36,6 +36,10 @@ inRoom number bytes room = inOrder (test number 0 (leb (length bytes) room) ∷ 
 abbrev pub valueInOrder : {A : Type 0} → A → List Test → Given A → Given A
 valueInOrder zero tests g = firstFailed (λ number place. refusal zero number) tests g
 
+-- the number of the first test that is not passed, and 0 where all are
+abbrev pub firstNumber : List Test → ℕ
+firstNumber tests = firstFailed (λ number place. number) tests 0
+
 -- all tests are passed
 abbrev pub Passed : List Test → Type 0
 Passed [] = Unit

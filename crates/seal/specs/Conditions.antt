@@ -15,6 +15,7 @@ use mathlib.Core.Option.{Option, some, Option·some-injective}
 use lib.ListN.{length, take}
 use lib.Seq.{take-at}
 use Rattle.format.specs.Answers.{done, refused as refusedWith, told, filled}
+use Rattle.format.specs.Order.{firstNumber}
 use Rattle.format.specs.Bytes.{Bytes}
 use Rattle.format.specs.Bytes.Laws.{bytes-take}
 use Rattle.grammar.specs.Content.{Content}
@@ -75,7 +76,7 @@ pub writer-listed : (g : Given) (out : List ℕ) → (numberOf g out ≡ 0) ⊎ 
 writer-listed g out = ⊎-elim (λ e. inl (ap (λ o. o .number) e)) (λ e. inr (e .0)) (writer.listed g (length out))
 
 -- "Writer: 20 to 28 in order" (document 01): the number of the first test that is not passed
-pub writer-in-order : (g : Given) (out : List ℕ) → numberOf g out ≡ writer.first (writer.tests g (length out))
+pub writer-in-order : (g : Given) (out : List ℕ) → numberOf g out ≡ firstNumber (writer.tests g (length out))
 writer-in-order g out = writer.in-order g (length out)
 
 -- "A refusal carries its number and place and changes nothing in the buffers we lent." Every other field of the answer is 0.

@@ -2,12 +2,12 @@
 -- Assumes nothing.
 pub mod Laws
 use Prim.Native.Nat.{ℕ}
-use mathlib.Core.List.{List}
+use mathlib.Core.List.{List, [], _∷_}
 use mathlib.Core.Option.{Option, none, some}
-use lib.Dec.{ltb}
+use lib.Dec.{leb}
 use lib.ListN.{length}
-use Rattle.format.specs.Choice.{pick}
 use Rattle.format.specs.Answers.{Outcome, Answer, done, refused}
+use Rattle.format.specs.Order.{Test, test, inOrder}
 use Rattle.versions.specs.declared.Version.{Version}
 use Rattle.versions.specs.Versions.{versionOf}
 use Rattle.grammar.specs.Publish.{publish}
@@ -17,27 +17,21 @@ use Rattle.given.specs.Given.{Given, contentAs}
 use Rattle.writer.specs.declared.Writing.{Writing}
 use Rattle.writer.specs.declared.Writing.the-variants as write
 
--- 27: seal would pass 4,096; 28: no room for the whole seal
-abbrev pub inRoom : ℕ → List ℕ → Outcome
-inRoom room seal = pick (ltb 4096 (length seal)) (refused 27 0) (pick (ltb room (length seal)) (refused 28 0) (done seal))
+-- 21 to 28 in order, in a version
+abbrev pub testsAs : Given → ℕ → Version → List Test
+testsAs g room v =
+    test 21 0 (areNames v (g .header) (g .text))
+    ∷ test 22 0 (areDays (g .header))
+    ∷ test 23 0 (areLast (g .header))
+    ∷ test 24 0 (isTable (length (g .values)) (g .table))
+    ∷ test 25 0 (areValues v (g .table))
+    ∷ test 26 0 (isSignature (length (g .signature)))
+    ∷ test 27 0 (leb (length (publish (contentAs g v))) 4096)
+    ∷ test 28 0 (leb (length (publish (contentAs g v))) room)
+    ∷ []
 
--- 21 to 28 in order, in a version; 26: signature length
 unfoldable pub writingAs : Given → ℕ → Version → Outcome
-writingAs g room v =
-    let h = g .header in
-    pick (areNames v h (g .text))
-    (pick (areDays h)
-    (pick (areLast h)
-    (pick (isTable (length (g .values)) (g .table))
-    (pick (areValues v (g .table))
-    (pick (isSignature (length (g .signature)))
-    (inRoom room (publish (contentAs g v)))
-    (refused 26 0))
-    (refused 25 0))
-    (refused 24 0))
-    (refused 23 0))
-    (refused 22 0))
-    (refused 21 0)
+writingAs g room v = inOrder (testsAs g room v) (done (publish (contentAs g v)))
 
 -- 20, before the others: version not 3 or 4
 abbrev pub inVersion : Option Version → (Version → Outcome) → Outcome

@@ -11,7 +11,7 @@ use Rattle.format.specs.Choice.{pick}
 use Rattle.format.specs.Choice.Laws.{by-test}
 use Rattle.format.specs.Answers.{Outcome, done, refused}
 use Rattle.format.specs.Bytes.{All}
-use Rattle.format.specs.Order.{Test, firstFailed, inOrder, inRoom, Passed}
+use Rattle.format.specs.Order.{Test, firstFailed, inOrder, inRoom, firstNumber, Passed}
 
 module _ {A : Type 0} (refuse : ℕ → ℕ → A) where
   pub all-passed : (tests : List Test) (a : A) → Passed tests → firstFailed refuse tests a ≡ a
@@ -35,6 +35,10 @@ module _ {A : Type 0} (refuse : ℕ → ℕ → A) where
   each-way P (t ∷ tests) a h p =
       by-pick P (t .passed) (firstFailed refuse tests a) (refuse (t .number) (t .place)) (each-way P tests a (h .1) p) (h .0)
 
+chosen : (b : Bool) (x y : Outcome) (n : ℕ) → x .number ≡ n → pick b x y .number ≡ pick b n (y .number)
+chosen true x y n e = e
+chosen false x y n e = refl
+
 -- what is done passed every test
 pub done-passed : (tests : List Test) (o : Outcome) (s : List ℕ) → All (λ t. 0 < t .number) tests → inOrder tests o ≡ done s → Passed tests × (o ≡ done s)
 done-passed [] o s n e = (tt, e)
@@ -46,6 +50,11 @@ done-passed (t ∷ tests) o s n e =
     (λ h.
     let z : t .number ≡ 0 = ap (λ x. x .number) (ap (λ b. pick b (inOrder tests o) (refused (t .number) (t .place))) (sym h) ∙ e) in
     absurd (omega (arith, n .0)))
+
+-- the number answered is that of the first test that is not passed
+pub first-number : (tests : List Test) (s : List ℕ) → inOrder tests (done s) .number ≡ firstNumber tests
+first-number [] s = refl
+first-number (t ∷ tests) s = chosen (t .passed) (inOrder tests (done s)) (refused (t .number) (t .place)) (firstNumber tests) (first-number tests s)
 
 -- bytes in a room, by the room
 module _ (number : ℕ) (bytes : List ℕ) (room : ℕ) where

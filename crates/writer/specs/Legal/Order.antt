@@ -1,32 +1,22 @@
 -- The order 20 to 28: a call is answered 0 exactly when it passes each test, and then the seal is the published form.
 -- Assumes nothing.
-use mathlib.Core.Path.{_≡_, refl, ap}
-use mathlib.Core.Bool.{Bool, true, false}
-use Prim.Native.Nat.{ℕ, _<_, _≤_}
+use mathlib.Core.Path.{_≡_, refl, ap, _∙_}
+use mathlib.Core.Bool.{true}
+use Prim.Native.Nat.{ℕ, suc, _<_, _≤_}
 use native.Mathlib.Omega.{arith}
-use borrow.Author.Tests.{le-ltb, ltb-false}
+use borrow.Author.Tests.{le-leb, leb-true}
 use mathlib.Core.List.{List}
 use mathlib.Core.Option.{Option, none, some}
-use lib.Dec.{ltb}
 use lib.ListN.{length}
-use Rattle.format.specs.Choice.{pick}
-use Rattle.format.specs.Answers.{Outcome, done, refused}
+use Rattle.format.specs.Answers.{done, refused}
+use Rattle.format.specs.Order.Laws.{all-passed, done-passed}
 use Rattle.versions.specs.declared.Version.{Version}
 use Rattle.versions.specs.Versions.{versionOf}
 use Rattle.grammar.specs.Publish.{publish}
 use Rattle.verdict.specs.Judge.{isSignature}
 use Rattle.given.specs.Tests.{areNames, areDays, areLast, isTable, areValues}
 use Rattle.given.specs.Given.{Given, contentAs}
-use Rattle.writer.specs.Calls.{inRoom, inVersion, writingAs, writing}
-
--- a test that is passed, and one that a refusal follows
-peel : (b : Bool) (x : Outcome) (n : ℕ) (s : List ℕ) → 0 < n → pick b x (refused n 0) ≡ done s → (b ≡ true) × (x ≡ done s)
-peel true x n s h e = (refl, e)
-peel false x n s h e = let z : n ≡ 0 = ap (λ o. o .number) e in absurd (omega arith)
-
-peel-not : (b : Bool) (x : Outcome) (n : ℕ) (s : List ℕ) → 0 < n → pick b (refused n 0) x ≡ done s → (b ≡ false) × (x ≡ done s)
-peel-not true x n s h e = let z : n ≡ 0 = ap (λ o. o .number) e in absurd (omega arith)
-peel-not false x n s h e = (refl, e)
+use Rattle.writer.specs.Calls.{inVersion, testsAs, writingAs, writing}
 
 -- the tests of 20 to 28, in a version
 pub record Passes (v : Version) (g : Given) (room : ℕ) : Type 0 where
@@ -49,37 +39,24 @@ pub record Done (g : Given) (room : ℕ) (s : List ℕ) : Type 0 where
 passes-as : (g : Given) (room : ℕ) (s : List ℕ) (v : Version) → versionOf (g .header .version) ≡ some v → writingAs g room v ≡ done s → Done g room s
 unfolding writingAs
 passes-as g room s v version e =
-    let h = g .header in
     let seal = publish (contentAs g v) in
-    let x8 = pick (ltb room (length seal)) (refused 28 0) (done seal) in
-    let x7 = inRoom room seal in
-    let x6 = pick (isSignature (length (g .signature))) x7 (refused 26 0) in
-    let x5 = pick (areValues v (g .table)) x6 (refused 25 0) in
-    let x4 = pick (isTable (length (g .values)) (g .table)) x5 (refused 24 0) in
-    let x3 = pick (areLast h) x4 (refused 23 0) in
-    let x2 = pick (areDays h) x3 (refused 22 0) in
-    let p1 = peel (areNames v h (g .text)) x2 21 s (omega arith) e in
-    let p2 = peel (areDays h) x3 22 s (omega arith) (p1 .1) in
-    let p3 = peel (areLast h) x4 23 s (omega arith) (p2 .1) in
-    let p4 = peel (isTable (length (g .values)) (g .table)) x5 24 s (omega arith) (p3 .1) in
-    let p5 = peel (areValues v (g .table)) x6 25 s (omega arith) (p4 .1) in
-    let p6 = peel (isSignature (length (g .signature))) x7 26 s (omega arith) (p5 .1) in
-    let p7 = peel-not (ltb 4096 (length seal)) x8 27 s (omega arith) (p6 .1) in
-    let p8 = peel-not (ltb room (length seal)) (done seal) 28 s (omega arith) (p7 .1) in
+    let above : (n : ℕ) → 0 < suc n = λ n. omega arith in
+    let p = done-passed (testsAs g room v) (done seal) s (above 20, (above 21, (above 22, (above 23, (above 24, (above 25, (above 26, (above 27, tt)))))))) e in
+    let q = p .0 in
     record {
       version = v;
       passes = record {
         version = version;
-        names = p1 .0;
-        days = p2 .0;
-        last = p3 .0;
-        table = p4 .0;
-        sizes = p5 .0;
-        signature = p6 .0;
-        size = ltb-false 4096 (length seal) (p7 .0);
-        fits = ltb-false room (length seal) (p8 .0);
+        names = q .0;
+        days = q .1 .0;
+        last = q .1 .1 .0;
+        table = q .1 .1 .1 .0;
+        sizes = q .1 .1 .1 .1 .0;
+        signature = q .1 .1 .1 .1 .1 .0;
+        size = leb-true (length seal) 4096 (q .1 .1 .1 .1 .1 .1 .0);
+        fits = leb-true (length seal) room (q .1 .1 .1 .1 .1 .1 .1 .0);
       };
-      form-is = ap (λ o. o .written) (p8 .1);
+      form-is = ap (λ o. o .written) (p .1);
     }
 
 by-version : (g : Given) (room : ℕ) (s : List ℕ) (o : Option Version) → versionOf (g .header .version) ≡ o → inVersion o (writingAs g room) ≡ done s → Done g room s
@@ -94,4 +71,6 @@ pub passes-done : (v : Version) (g : Given) (room : ℕ) → Passes v g room →
 unfolding writing writingAs
 passes-done v g room p =
     let seal = publish (contentAs g v) in
-    rw (p .version, p .names, p .days, p .last, p .table, p .sizes, p .signature, le-ltb 4096 (length seal) (p .size), le-ltb room (length seal) (p .fits)) refl
+    ap (λ o. inVersion o (writingAs g room)) (p .version)
+    ∙ all-passed refused (testsAs g room v) (done seal)
+    (p .names, (p .days, (p .last, (p .table, (p .sizes, (p .signature, (le-leb (length seal) 4096 (p .size), (le-leb (length seal) room (p .fits), tt))))))))
