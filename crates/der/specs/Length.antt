@@ -2,6 +2,7 @@
 -- Assumes nothing.
 pub mod Laws
 pub mod Exact
+pub mod Written
 use Prim.Native.Nat.{ℕ, _+_, _-_, _^_, _<_}
 use mathlib.Core.List.{List, [], _∷_}
 use lib.Dec.{ltb, eqb}
@@ -23,6 +24,10 @@ form n =
     (pick (ltb n 0x10000) (0x82 ∷ be 2 n)
     (pick (ltb n 0x1000000) (0x83 ∷ be 3 n)
     (0x84 ∷ be 4 n))))
+
+-- what is written for a length: its form, and nothing for a number that is no length
+unfoldable pub written : ℕ → List ℕ
+written n = pick (ltb n 0x100000000) (form n) []
 
 -- the least length that needs k bytes after the first
 abbrev pub least : ℕ → ℕ

@@ -1,7 +1,9 @@
 // DER: lengths and elements at the head of a byte string (document 01; X.690).
 ghost use mathlib.Core.Path.{_≡_};
 ghost use Prim.Native.Nat.{_^_, _<_, _≤_};
-ghost use Rattle.der.specs.Length.{readLength, least as leastOf};
+ghost use lib.ListN.{length};
+ghost use Rattle.octets.specs.Copy.{copied, reached};
+ghost use Rattle.der.specs.Length.{readLength, written, least as leastOf};
 ghost use Rattle.der.specs.Element.{bodyIn, elementIn};
 ghost use Rattle.der.specs.Content.{redundant, strict};
 use octets::wide;
@@ -65,6 +67,92 @@ pub fn read_length(s: &[u8]) -> Length
         return Length::Malformed;
     }
     Length::Is(value, end)
+}
+
+// How many bytes the DER length of this size takes: none where it has no form.
+pub fn length_width(size: usize) -> usize
+    ensures { λ r. ⌜ r ≡ length (written size) ⌝ }
+{
+    if size < 0x80 {
+        return 1;
+    }
+    if size < 0x100 {
+        return 2;
+    }
+    if size < 0x10000 {
+        return 3;
+    }
+    if size < 0x1000000 {
+        return 4;
+    }
+    if size < 0x100000000 {
+        return 5;
+    }
+    0
+}
+
+// Puts down the DER length of this size from a place on and answers the place reached; where it has no form or does not fit, nothing is written.
+pub fn put_length(size: usize, out: &mut [u8], at: usize) -> usize
+    ensures place { λ r. ⌜ r ≡ reached (written size) (length (now (out .entry))) at ⌝ }
+    ensures buffer { λ r. ⌜ now (out .exit) ≡ copied (written size) (now (out .entry)) at ⌝ }
+{
+    let room = out.len();
+    if room <= at {
+        return at;
+    }
+    if size < 0x80 {
+        out[at] = size as u8;
+        return at + 1;
+    }
+    if size < 0x100 {
+        if room - at < 2 {
+            return at;
+        }
+        out[at] = 0x81;
+        out[at + 1] = size as u8;
+        return at + 2;
+    }
+    if size < 0x10000 {
+        if room - at < 3 {
+            return at;
+        }
+        out[at] = 0x82;
+        out[at + 1] = (size / 256) as u8;
+        out[at + 2] = (size % 256) as u8;
+        return at + 3;
+    }
+    put_great(size, out, at)
+}
+
+// The same of the sizes that need three or four bytes after the first.
+fn put_great(size: usize, out: &mut [u8], at: usize) -> usize
+    requires { ⌜ (0x10000 ≤ size) × (at < length (now out)) ⌝ }
+    ensures place { λ r. ⌜ r ≡ reached (written size) (length (now (out .entry))) at ⌝ }
+    ensures buffer { λ r. ⌜ now (out .exit) ≡ copied (written size) (now (out .entry)) at ⌝ }
+{
+    let left = out.len() - at;
+    if size < 0x1000000 {
+        if left < 4 {
+            return at;
+        }
+        out[at] = 0x83;
+        out[at + 1] = (size / 65536) as u8;
+        out[at + 2] = (size / 256 % 256) as u8;
+        out[at + 3] = (size % 256) as u8;
+        return at + 4;
+    }
+    if 0xFFFFFFFF < size {
+        return at;
+    }
+    if left < 5 {
+        return at;
+    }
+    out[at] = 0x84;
+    out[at + 1] = (size / 16777216) as u8;
+    out[at + 2] = (size / 65536 % 256) as u8;
+    out[at + 3] = (size / 256 % 256) as u8;
+    out[at + 4] = (size % 256) as u8;
+    at + 5
 }
 
 // Where a body starts and ends whose length was read, if so many bytes after the tag hold it whole.

@@ -45,10 +45,7 @@ pub(crate) fn head_of(size: usize) -> usize
     requires { ⌜ size < 256 ⌝ }
     ensures { λ r. ⌜ r ≡ length (0x30 ∷ form size) ⌝ }
 {
-    if size < 0x80 {
-        return 2;
-    }
-    3
+    1 + der::length_width(size)
 }
 
 // Puts down the tag and the length of a sequence.
@@ -56,14 +53,8 @@ pub(crate) fn put_head(size: usize, out: &mut [u8])
     requires { ⌜ (size < 256) × (length (0x30 ∷ form size) ≤ length (now out)) ⌝ }
     ensures { λ r. ⌜ now (out .exit) ≡ over (now (out .entry)) 0 (0x30 ∷ form size) ⌝ }
 {
-    if size < 0x80 {
-        out[0] = 0x30;
-        out[1] = size as u8;
-        return;
-    }
     out[0] = 0x30;
-    out[1] = 0x81;
-    out[2] = size as u8;
+    der::put_length(size, out, 1);
 }
 
 // Puts down an INTEGER whose digits start there, and answers the place reached.

@@ -73,19 +73,7 @@ pub(crate) fn put_length(version: Version, size: usize, out: &mut [u8], at: usiz
         out[at] = size as u8;
         return at + 1;
     }
-    if size < 0x80 {
-        out[at] = size as u8;
-        return at + 1;
-    }
-    if size < 0x100 {
-        out[at] = 0x81;
-        out[at + 1] = size as u8;
-        return at + 2;
-    }
-    out[at] = 0x82;
-    out[at + 1] = (size / 256) as u8;
-    out[at + 2] = (size % 256) as u8;
-    at + 3
+    der::put_length(size, out, at)
 }
 
 // Puts down the bytes of a value, each touched once; there is room for them, so none is tested for.

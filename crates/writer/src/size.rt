@@ -15,13 +15,7 @@ pub(crate) fn width_of(version: Version, size: usize) -> usize
     if let Version::Three = version {
         return 1;
     }
-    if size < 0x80 {
-        return 1;
-    }
-    if size < 0x100 {
-        return 2;
-    }
-    3
+    der::length_width(size)
 }
 
 // A start and the size of the features after it.

@@ -1,34 +1,26 @@
 -- Laws of the sizes: the width of a length, and that a seal's size is the sum of its parts'.
 -- Assumes nothing.
 use mathlib.Core.Path.{_≡_, refl, ap, sym, _∙_}
-use borrow.Author.Tests.{ltb-true, ltb-false}
-use lib.Dec.{ltb}
-use Rattle.format.specs.Choice.Laws.{by-test}
 use Prim.Native.Nat.{ℕ, _+_, _*_, _/_, _<_, _≤_, min}
 use native.Mathlib.Omega.{arith}
 use mathlib.Core.List.{List, [], _∷_}
 use lib.ListN.{length, getD, drop}
+use Rattle.der.specs.Length.{written}
+use Rattle.der.specs.Length.Written.{written-few}
 use Rattle.grammar.specs.Publish.{lengthOf}
 use Rattle.verdict.specs.Judge.{Row}
 use Rattle.grammar.specs.Content.{Version, three, four}
 use Rattle.given.specs.Given.{rowsOf}
 use Rattle.given.specs.Rows.{rowAt, rows-end, rows-here}
 use Rattle.writer.specs.Sizes.{rowsSize, namesSize}
-use Rattle.writer.specs.Steps.Laws.{length-plain, length-short, length-one, length-two}
+use Rattle.writer.specs.Steps.Laws.{length-plain, length-der}
 
 module _ (v : Version) (n : ℕ) where
   pub width-three : v ≡ three → 1 ≡ length (lengthOf v n)
   width-three e = sym (ap length (length-plain v n e))
 
-  module _ (other : v ≡ four) where
-    pub width-short : n < 0x80 → 1 ≡ length (lengthOf v n)
-    width-short h = sym (ap length (length-short v n other h))
-
-    pub width-one : 0x80 ≤ n → n < 0x100 → 2 ≡ length (lengthOf v n)
-    width-one h l = sym (ap length (length-one v n other h l))
-
-    pub width-two : 0x100 ≤ n → n ≤ 4096 → 3 ≡ length (lengthOf v n)
-    width-two h l = sym (ap length (length-two v n other h l))
+  pub width-four : v ≡ four → n ≤ 4096 → length (written n) ≡ length (lengthOf v n)
+  width-four e h = ap length (length-der v n e h)
 
 size-none : (v : Version) → rowsSize v [] ≡ 0
 unfolding rowsSize
@@ -68,13 +60,7 @@ module _ (v : Version) (t : List ℕ) (start total at : ℕ) (s : Summed v t sta
 -- the width of a length is small
 pub width-small : (v : Version) (n : ℕ) → n ≤ 4096 → length (lengthOf v n) ≤ 3
 width-small three n h = omega arith
-width-small four n h =
-    by-test (ltb n 0x80)
-    (λ a. omega (arith, width-short four n refl (ltb-true n 0x80 a)))
-    (λ a.
-    by-test (ltb n 0x100)
-    (λ b. omega (arith, width-one four n refl (ltb-false n 0x80 a) (ltb-true n 0x100 b)))
-    (λ b. omega (arith, width-two four n refl (ltb-false n 0x100 b) h)))
+width-small four n h = omega (arith, width-four four n refl h, written-few n (omega arith))
 
 -- signer and reference, by version
 module _ (v : Version) (text : ℕ) where

@@ -11,13 +11,11 @@ use lib.ListN.{length, take, drop, take-append-drop}
 use Rattle.format.specs.Bytes.Laws.{all-append}
 use Rattle.format.specs.Choice.Laws.{by-test}
 use Rattle.format.specs.Table.{either}
-use Rattle.format.specs.Numbers.{be}
-use Rattle.format.specs.Numbers.Laws.{be-two}
 use Rattle.c40.specs.Chart.{InChart}
 use Rattle.c40.specs.Chart.Laws.{letter-in, digit-in, space-in}
 use Rattle.c40.specs.Text.{Text}
-use Rattle.der.specs.Length.{form}
-use Rattle.der.specs.Length.Exact.{form-short, form-long}
+use Rattle.der.specs.Length.{written}
+use Rattle.der.specs.Length.Written.{written-form}
 use Rattle.grammar.specs.Content.{Version, three, four}
 use Rattle.grammar.specs.Publish.{carried, hexDigit, hexDigits, lengthOf}
 use Rattle.dates.specs.Days.Laws.{within-both}
@@ -112,16 +110,5 @@ module _ (v : Version) (n : ℕ) where
   pub length-plain : v ≡ three → lengthOf v n ≡ n ∷ []
   length-plain e = ap (λ w. lengthOf w n) e
 
-  module _ (other : v ≡ four) where
-    length-der : lengthOf v n ≡ form n
-    length-der = ap (λ w. lengthOf w n) other
-
-    pub length-short : n < 0x80 → lengthOf v n ≡ n ∷ []
-    length-short h = length-der ∙ form-short n h
-
-    pub length-one : 0x80 ≤ n → n < 0x100 → lengthOf v n ≡ 0x81 ∷ n ∷ []
-    unfolding be
-    length-one h l = let low : n % 256 ≡ n = omega arith in length-der ∙ form-long 1 (omega arith) (omega arith) n h l ∙ ap (λ x. 0x81 ∷ x ∷ []) low
-
-    pub length-two : 0x100 ≤ n → n ≤ 4096 → lengthOf v n ≡ 0x82 ∷ (n / 256) ∷ (n % 256) ∷ []
-    length-two h l = length-der ∙ form-long 2 (omega arith) (omega arith) n h (omega arith) ∙ ap (λ s. 0x82 ∷ s) (be-two n (omega arith))
+  pub length-der : v ≡ four → n ≤ 4096 → written n ≡ lengthOf v n
+  length-der e h = written-form n (omega arith) ∙ sym (ap (λ w. lengthOf w n) e)
