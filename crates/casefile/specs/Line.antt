@@ -4,8 +4,9 @@ pub mod Laws
 use Prim.Native.Nat.{ℕ, suc, _+_, _*_, _-_, _/_, _%_}
 use mathlib.Core.Bool.{cond}
 use mathlib.Core.List.{List, [], _∷_, _++_}
-use lib.Dec.{ltb, leb}
+use lib.Dec.{leb}
 use lib.ListN.{length, take, drop}
+use Rattle.format.specs.Hex.{hexDigit}
 pub use Rattle.lines.specs.Line.{Within, Counts, Put}
 unfoldable pub use Rattle.lines.specs.Line.{decimalOf}
 
@@ -14,14 +15,10 @@ unfoldable pub wordsOf : List ℕ → List ℕ
 wordsOf [] = []
 wordsOf (n ∷ t) = 32 ∷ (decimalOf n ++ wordsOf t)
 
--- the hex digit of a number below 16
-abbrev pub digitOf : ℕ → ℕ
-digitOf n = cond (ltb n 10) (48 + n) (55 + n)
-
 -- bytes in hex, two digits for each
 unfoldable pub hexOf : List ℕ → List ℕ
 hexOf [] = []
-hexOf (b ∷ t) = digitOf (b / 16) ∷ digitOf (b % 16) ∷ hexOf t
+hexOf (b ∷ t) = hexDigit (b / 16) ∷ hexDigit (b % 16) ∷ hexOf t
 
 -- the sum of all bytes, each times its place, the first of which is k
 unfoldable pub weighted : ℕ → List ℕ → ℕ

@@ -1,8 +1,8 @@
 // Building a line in a lent buffer: each function puts its bytes down from a place on, as far as there is room, and gives the next place.
 ghost use mathlib.Core.Path.{_≡_};
 ghost use mathlib.Core.List.{[], _∷_, _++_};
-ghost use Prim.Native.Nat.{_%_, _<_};
-ghost use Rattle.casefile.specs.Line.{Put, hexOf, digitOf, decimalOf, wordsOf, weighted, shown};
+ghost use Prim.Native.Nat.{_%_};
+ghost use Rattle.casefile.specs.Line.{Put, hexOf, decimalOf, wordsOf, weighted, shown};
 ghost use Rattle.casefile.specs.Fill.{allAre};
 ghost use lib.ListN.{drop};
 use lines::put;
@@ -33,14 +33,6 @@ pub fn put_answer(out: &mut [u8], at: usize, number: usize, values: &[usize]) ->
     put(out, o, b'\n')
 }
 
-// The hex digit, in upper case, of a number below 16.
-fn hex_digit(n: u8) -> u8
-    requires { ⌜ n < 16 ⌝ }
-    ensures { λ r. ⌜ r ≡ digitOf n ⌝ }
-{
-    if n < 10 { b'0' + n } else { b'A' + (n - 10) }
-}
-
 // Puts down bytes in hex, two digits in upper case for each.
 pub fn put_hex(out: &mut [u8], at: usize, bytes: &[u8]) -> usize
     ensures { λ r. ⌜ Put (now (out .entry)) at (hexOf (now (bytes .entry))) (now (out .exit)) r ⌝ }
@@ -48,9 +40,9 @@ pub fn put_hex(out: &mut [u8], at: usize, bytes: &[u8]) -> usize
     let mut o = at;
     let mut i: usize = 0;
     while i < bytes.len() {
-        let b = bytes[i];
-        o = put(out, o, hex_digit(b / 16));
-        o = put(out, o, hex_digit(b % 16));
+        let b = wide(bytes[i]);
+        o = put(out, o, octets::hex_digit(b / 16));
+        o = put(out, o, octets::hex_digit(b));
         i += 1;
     }
     o

@@ -4,6 +4,7 @@ pub mod Numbers
 pub mod Cut
 pub mod Buffer
 pub mod Places
+pub mod Hex
 pub mod Table
 pub mod Answers
 pub mod Order

@@ -2,9 +2,9 @@
 -- Assumes nothing.
 use mathlib.Core.Path.{_≡_, refl, ap, ap₂, sym, _∙_}
 use mathlib.Core.Logic.{_⊎_, inl, inr, ⊎-elim}
-use Prim.Native.Nat.{ℕ, _+_, _-_, _*_, _/_, _%_, _<_, _≤_}
+use Prim.Native.Nat.{ℕ, _+_, _*_, _/_, _%_, _<_, _≤_}
 use native.Mathlib.Omega.{arith}
-use borrow.Author.Tests.{lt-ltb, le-ltb, ltb-true, ltb-false, eq-eqb, ne-eqb}
+use borrow.Author.Tests.{ltb-true, ltb-false, eq-eqb, ne-eqb}
 use mathlib.Core.List.{List, [], _∷_, _++_, map, append-assoc}
 use lib.Dec.{ltb, eqb}
 use lib.ListN.{length, take, drop, getD, length-append, length-map, length-drop, take-append-drop}
@@ -15,12 +15,14 @@ use Rattle.format.specs.Choice.{pick}
 use Rattle.format.specs.Choice.Laws.{by-test}
 use Rattle.format.specs.Cut.{Cut}
 use Rattle.format.specs.Cut.Laws.{cut-through}
+use Rattle.format.specs.Hex.{hexDigit, hexValue}
+use Rattle.format.specs.Hex.Laws.{digit-value}
 use Rattle.c40.specs.Chart.{InChart}
 use Rattle.c40.specs.Chart.Laws.{letter-in, digit-in, space-in}
 use Rattle.c40.specs.Text.{Text, TextOf, publish as c40}
 use Rattle.c40.specs.Exact.{three-ahead, cut-text}
 use Rattle.grammar.specs.Content.{Version, three, four}
-use Rattle.grammar.specs.Publish.{carried, hexDigit, hexDigits, names}
+use Rattle.grammar.specs.Publish.{carried, hexDigits, names}
 use Rattle.grammar.specs.Legal.{Letter, Digit, LetterOrDigit, Filler, Country, Signer, ReferenceCharacter, ReferenceSize}
 
 -- a rule of each element goes through a map
@@ -106,25 +108,15 @@ hex-digit-in n h =
     (λ e. rw e (digit-in (48 + n) (omega arith) (omega (arith, ltb-true n 10 e))))
     (λ e. rw e (letter-in (55 + n) (omega (arith, ltb-false n 10 e)) (omega arith)))
 
-hex-text : (n : ℕ) → n ≤ 255 → Text (hexDigits n)
+pub hex-text : (n : ℕ) → n ≤ 255 → Text (hexDigits n)
 hex-text n h = (hex-digit-in (n / 16) (omega arith), (hex-digit-in (n % 16) (omega arith), tt))
 
-digitValue : ℕ → ℕ
-digitValue c = pick (ltb c 65) (c - 48) (c - 55)
+given : List ℕ → ℕ
+given t = 16 * hexValue (getD t 0 0) + hexValue (getD t 1 0)
 
-digit-value : (n : ℕ) → n < 16 → digitValue (hexDigit n) ≡ n
-unfolding digitValue
-digit-value n h =
-    by-test (ltb n 10)
-    (λ e. let low = ltb-true n 10 e in simp (e, lt-ltb (48 + n) 65 (omega arith)) (omega arith))
-    (λ e. let high = ltb-false n 10 e in simp (e, le-ltb (55 + n) 65 (omega arith)) (omega arith))
-
-hexValue : List ℕ → ℕ
-hexValue t = 16 * digitValue (getD t 0 0) + digitValue (getD t 1 0)
-
-hex-value : (n : ℕ) → n ≤ 255 → hexValue (hexDigits n) ≡ n
-unfolding hexValue
-hex-value n h = omega (arith, digit-value (n / 16) (omega arith), digit-value (n % 16) (omega arith))
+given-back : (n : ℕ) → n ≤ 255 → given (hexDigits n) ≡ n
+unfolding given
+given-back n h = omega (arith, digit-value (n / 16) (omega arith), digit-value (n % 16) (omega arith))
 
 -- six characters in front are two triples in front
 six-ahead : (p u : List ℕ) → length p ≡ 6 → c40 (p ++ u) ≡ c40 p ++ c40 u
@@ -177,7 +169,7 @@ cut-four a b t u la lb e =
     sym (append-assoc (c40 (six a)) (c40 (a .1)) t) ∙ ap (λ z. z ++ t) (sym (four-form a la)) ∙ e ∙ ap (λ z. z ++ u) (four-form b lb) ∙ append-assoc (c40 (six b)) (c40 (b .1)) u in
     let c = cut-text 6 (six a) (six b) (c40 (a .1) ++ t) (c40 (b .1) ++ u) (six-text a la) (six-text b lb) f in
     let d = fronts 4 (a .0) (hexDigits (length (a .1))) (b .0) (hexDigits (length (b .1))) (la .signer .size) (lb .signer .size) (c .0) in
-    let same : length (a .1) ≡ length (b .1) = sym (hex-value (length (a .1)) (la .size .1)) ∙ ap hexValue (d .1) ∙ hex-value (length (b .1)) (lb .size .1) in
+    let same : length (a .1) ≡ length (b .1) = sym (given-back (length (a .1)) (la .size .1)) ∙ ap given (d .1) ∙ given-back (length (b .1)) (lb .size .1) in
     let r = cut-text (length (a .1)) (a .1) (b .1) t u (refl, reference-text (a .1) (la .reference)) (sym same, reference-text (b .1) (lb .reference)) (c .1) in
     (λ i. (d .0 i, r .0 i), r .1)
 

@@ -2,10 +2,11 @@
 -- Assumes nothing.
 use Prim.Native.Nat.{ℕ, _+_, _/_, _%_}
 use mathlib.Core.List.{List, [], _∷_, _++_, map}
-use lib.Dec.{ltb, eqb}
+use lib.Dec.{eqb}
 use lib.ListN.{length}
 use Rattle.format.specs.Choice.{pick}
 use Rattle.format.specs.Cut.{counted, each}
+use Rattle.format.specs.Hex.{hexDigit}
 use Rattle.c40.specs.Text.{publish as c40}
 use Rattle.dates.specs.Days.{publish as date}
 use Rattle.versions.specs.Versions.{versionByte}
@@ -17,9 +18,6 @@ abbrev pub carried : ℕ → ℕ
 carried c = pick (eqb c 60) 32 c
 
 -- two upper-case hexadecimal digits giving a length
-abbrev pub hexDigit : ℕ → ℕ
-hexDigit n = pick (ltb n 10) (48 + n) (55 + n)
-
 abbrev pub hexDigits : ℕ → List ℕ
 hexDigits n = hexDigit (n / 16) ∷ hexDigit (n % 16) ∷ []
 

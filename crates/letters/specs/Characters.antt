@@ -4,7 +4,7 @@ pub mod Laws
 pub mod Grammar
 pub mod Pins
 use mathlib.Core.Bool.{Bool, true}
-use Prim.Native.Nat.{ℕ, _-_}
+use Prim.Native.Nat.{ℕ}
 use mathlib.Core.List.{List, [], _∷_}
 use lib.Dec.{eqb}
 use lib.ListN.{take, drop, getD}
@@ -38,10 +38,6 @@ isCountry filler t =
 -- two letters, then two letters or digits
 abbrev pub isSigner : List ℕ → Bool
 isSigner t = both (all isLetter (take 2 t)) (all isLetterOrDigit (drop 2 t))
-
--- what a hexadecimal digit, in upper case, stands for; 16 for any other character
-abbrev pub hexValue : ℕ → ℕ
-hexValue c = pick (isDigit c) (c - 48) (pick (within 65 70 c) (c - 55) 16)
 
 -- fillers are given as `<`
 abbrev pub shown : ℕ → ℕ

@@ -2,7 +2,6 @@
 ghost use mathlib.Core.Path.{_≡_};
 ghost use mathlib.Core.List.{[], _∷_};
 ghost use Rattle.letters.specs.Characters as character;
-use octets::wide;
 
 // A letter, in upper case.
 pub fn is_letter(c: u8) -> bool
@@ -98,20 +97,4 @@ pub fn shown(c: u8) -> u8
         return b'<';
     }
     c
-}
-
-// What an upper-case hexadecimal digit stands for; 16 for any other character.
-pub fn hex_value(c: u8) -> usize
-    ensures { λ r. ⌜ r ≡ character.hexValue c ⌝ }
-{
-    if is_digit(c) {
-        return wide(c - b'0');
-    }
-    if c < b'A' {
-        return 16;
-    }
-    if b'F' < c {
-        return 16;
-    }
-    wide(c - 55)
 }

@@ -130,8 +130,8 @@ impl Field {
         if !letters::is_signer(text[0], text[1], text[2], text[3]) {
             return Step::Wrong;
         }
-        let high = letters::hex_value(text[4]);
-        let low = letters::hex_value(text[5]);
+        let high = octets::hex_value(text[4]);
+        let low = octets::hex_value(text[5]);
         if high == 16 {
             return Step::Wrong;
         }
@@ -175,7 +175,7 @@ impl Field {
         let Step::Past(at) = six else {
             return Names::Not(six.refusal(5, self.place));
         };
-        let size = letters::hex_value(text[4]) * 16 + letters::hex_value(text[5]);
+        let size = octets::hex_value(text[4]) * 16 + octets::hex_value(text[5]);
         let end = 4 + size;
         let after = Field { place: at.place };
         let reference = after.reference(seal, &mut text[4..end]);

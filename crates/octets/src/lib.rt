@@ -1,7 +1,8 @@
-// What the layers' code shares on bytes: a byte as a number to reckon with, a number in bytes, bytes copied into a lent buffer.
+// What the layers' code shares on bytes: a byte as a number to reckon with, a number in bytes, hexadecimal digits, bytes copied into a lent buffer.
 ghost use mathlib.Core.Path.{_≡_};
-ghost use Prim.Native.Nat.{min};
+ghost use Prim.Native.Nat.{_%_, min};
 ghost use lib.ListN.{length};
+ghost use Rattle.format.specs.Hex.{hexDigit, hexValue};
 ghost use Rattle.format.specs.Numbers.{val};
 ghost use Rattle.octets.specs.Copy.{copied, reached};
 
@@ -48,4 +49,34 @@ pub fn number(s: &[u8]) -> usize
         i += 1;
     }
     value
+}
+
+// The last hexadecimal digit of a number, in upper case: below 16 its only one.
+pub fn hex_digit(n: usize) -> u8
+    ensures { λ r. ⌜ r ≡ hexDigit (n % 16) ⌝ }
+{
+    let last = n % 16;
+    if last < 10 {
+        return (48 + last) as u8;
+    }
+    (55 + last) as u8
+}
+
+// What a hexadecimal digit, in upper case, stands for; 16 for any other character.
+pub fn hex_value(c: u8) -> usize
+    ensures { λ r. ⌜ r ≡ hexValue c ⌝ }
+{
+    if c < b'0' {
+        return 16;
+    }
+    if c <= b'9' {
+        return wide(c - b'0');
+    }
+    if c < b'A' {
+        return 16;
+    }
+    if b'F' < c {
+        return 16;
+    }
+    wide(c - 55)
 }

@@ -7,6 +7,7 @@ use mathlib.Core.Bool.{Bool, false, cond}
 use mathlib.Core.List.{List, [], _∷_, _++_}
 use lib.Dec.{ltb, leb, eqb}
 use lib.ListN.{length, getD, drop}
+use Rattle.format.specs.Hex.{hexValue}
 use Rattle.lines.specs.Line.{Within}
 
 -- `end` is the first newline at or after `from`, or the end of s where there is none
@@ -27,18 +28,6 @@ pub record Numeral (s : List ℕ) (from value next : ℕ) : Type 0 where
   pub within : Within s from next
   pub digits : (i : ℕ) → i < next → from ≤ i → (48 ≤ getD s i 0) × (getD s i 0 ≤ 57)
   pub is : value ≡ valueOf s from (next - from)
-
--- `value` is what the byte b stands for as a hex digit in upper case, or 16 where it is none
-pub record HexDigit (b value : ℕ) : Type 0 where
-  pub most : value ≤ 16
-  pub figure : value < 10 → b ≡ 48 + value
-  pub letter : 10 ≤ value → value < 16 → b ≡ 55 + value
-  pub no-figure : value ≡ 16 → 48 ≤ b → 57 < b
-  pub no-letter : value ≡ 16 → 65 ≤ b → 70 < b
-
--- what a byte stands for as a hex digit in upper case; 16 for any other byte
-unfoldable pub hexValue : ℕ → ℕ
-hexValue b = cond (ltb b 48) 16 (cond (leb b 57) (b - 48) (cond (ltb b 65) 16 (cond (leb b 70) (b - 55) 16)))
 
 -- the bytes of the pairs of hex digits that a text begins with
 unfoldable pub pairsOf : List ℕ → List ℕ

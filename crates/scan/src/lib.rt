@@ -3,7 +3,7 @@ ghost use mathlib.Core.Path.{_≡_};
 ghost use Prim.Native.Nat.{_-_};
 ghost use lib.ListN.{getD};
 ghost use Rattle.lines.specs.Line.{Put, Counts};
-ghost use Rattle.scan.specs.Scan.{LineEnd, Numeral, numberAt, numberEnd, HexDigit, pairsAt, pairsEnd, times, runAt, runEnd, runsAt};
+ghost use Rattle.scan.specs.Scan.{LineEnd, Numeral, numberAt, numberEnd, pairsAt, pairsEnd, times, runAt, runEnd, runsAt};
 use lines::put;
 use octets::wide;
 
@@ -63,25 +63,6 @@ pub fn number(s: &[u8], from: usize) -> Decimal
     Decimal { value, next: i }
 }
 
-// What a hex digit in upper case stands for; 16 for any other byte.
-pub(crate) fn hex_value(b: u8) -> u8
-    ensures { λ r. ⌜ HexDigit b r ⌝ }
-{
-    if b < b'0' {
-        return 16;
-    }
-    if b <= b'9' {
-        return b - b'0';
-    }
-    if b < b'A' {
-        return 16;
-    }
-    if b <= b'F' {
-        return b - b'A' + 10;
-    }
-    16
-}
-
 // The bytes of the pairs of hex digits that stand at `from`, into `out` from `to` on.
 fn take_pairs(s: &[u8], from: usize, out: &mut [u8], to: usize) -> Taken
     ensures { λ r. ⌜ (r .next ≡ pairsEnd (now (s .entry)) from) × Put (now (out .entry)) to (pairsAt (now (s .entry)) from) (now (out .exit)) (r .to) ⌝ }
@@ -89,15 +70,15 @@ fn take_pairs(s: &[u8], from: usize, out: &mut [u8], to: usize) -> Taken
     let mut i = from;
     let mut o = to;
     while i < s.len() {
-        let high = hex_value(at(s, i));
+        let high = octets::hex_value(at(s, i));
         if high == 16 {
             return Taken { next: i, to: o };
         }
-        let low = hex_value(at(s, i + 1));
+        let low = octets::hex_value(at(s, i + 1));
         if low == 16 {
             return Taken { next: i, to: o };
         }
-        o = put(out, o, high * 16 + low);
+        o = put(out, o, (high * 16 + low) as u8);
         i += 2;
     }
     Taken { next: i, to: o }

@@ -14,6 +14,7 @@ use lib.ListN.{length, take, drop, getD}
 use Rattle.format.specs.Choice.{pick}
 use Rattle.format.specs.Table.{both}
 use Rattle.format.specs.Numbers.{val}
+use Rattle.format.specs.Hex.{hexValue}
 use Rattle.c40.specs.Text.{width}
 use Rattle.c40.specs.Decode.{Decoded, text, wrong, decode}
 use Rattle.dates.specs.declared.Date.{Date}
@@ -23,7 +24,7 @@ use Rattle.der.specs.Length.{readLength}
 use Rattle.der.specs.declared.Length.{Length}
 use Rattle.der.specs.declared.Length.the-variants.{Is, Cut, Malformed}
 use Rattle.grammar.specs.Content.{Version, three, four}
-use Rattle.letters.specs.Characters.{isReference, isCountry, isSigner, hexValue, all, shown}
+use Rattle.letters.specs.Characters.{isReference, isCountry, isSigner, all, shown}
 
 pub data Item (A : Type 0) : Type 0 where
   is : A → ℕ → Item A

@@ -13,6 +13,7 @@ use Rattle.format.specs.Numbers.Laws.{be-two}
 use Rattle.format.specs.Buffer.{over}
 use Rattle.format.specs.Buffer.Laws.{over-none, length-over, over-over, set-over, over-two, over-three}
 use Rattle.format.specs.Answers.{filled}
+use Rattle.format.specs.Hex.{hexDigit}
 use Rattle.c40.specs.Chart.{InChart, valueOf}
 use Rattle.c40.specs.Text.{Text, packedOf, triple, publish as c40}
 use Rattle.c40.specs.Text.Laws.{length-publish, publish-three, publish-none, left-three, left-none}
@@ -23,7 +24,7 @@ use Rattle.dates.specs.Days.Laws.{number-below}
 use Rattle.dates.specs.declared.Date.{Date}
 use Rattle.grammar.specs.Content.{Version, three, four}
 use Rattle.grammar.specs.Legal.{ValueSize}
-use Rattle.grammar.specs.Publish.{hexDigit, names, lengthOf, feature, messageZone}
+use Rattle.grammar.specs.Publish.{names, lengthOf, feature, messageZone}
 use Rattle.verdict.specs.Report.{featureOf}
 use Rattle.verdict.specs.Judge.{Row}
 use Rattle.given.specs.Given.{rowsOf}

@@ -4,7 +4,7 @@ ghost use Prim.Native.Nat.{_+_, _<_, _≤_};
 ghost use lib.ListN.{length, take, drop};
 ghost use Rattle.format.specs.Buffer.{over};
 ghost use Rattle.c40.specs.Text.{Text, publish as c40In};
-ghost use Rattle.grammar.specs.Publish.{carried as carriedIn, names as namesIn, hexDigit};
+ghost use Rattle.grammar.specs.Publish.{carried as carriedIn, names as namesIn};
 ghost use Rattle.writer.specs.Steps.{Room, Named};
 use versions::Version;
 
@@ -50,17 +50,6 @@ pub(crate) fn carried(c: u8) -> u8
     c
 }
 
-// An upper-case hexadecimal digit.
-pub(crate) fn hex_digit(n: usize) -> u8
-    requires { ⌜ n < 16 ⌝ }
-    ensures { λ r. ⌜ r ≡ hexDigit n ⌝ }
-{
-    if n < 10 {
-        return (48 + n) as u8;
-    }
-    (55 + n) as u8
-}
-
 // Puts down signer and reference.
 pub(crate) fn put_names(version: Version, text: &[u8], out: &mut [u8], at: usize) -> usize
     requires { ⌜ Named version (now text) × Room (now out) at (namesIn version (take 4 (now text)) (drop 4 (now text))) ⌝ }
@@ -77,8 +66,8 @@ pub(crate) fn put_names(version: Version, text: &[u8], out: &mut [u8], at: usize
         text[1],
         text[2],
         text[3],
-        hex_digit(size / 16),
-        hex_digit(size % 16),
+        octets::hex_digit(size / 16),
+        octets::hex_digit(size),
     ];
     let next = put_text(&six, out, at);
     put_text(&text[4..], out, next)

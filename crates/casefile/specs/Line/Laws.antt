@@ -9,7 +9,8 @@ use native.Mathlib.Numerals.{add-one}
 use lib.ListN.{length, getD, take, drop, length-drop}
 use lib.Seq.{take-all, take-suc, drop-cons}
 pub use Rattle.lines.specs.Line.Laws.{within-more, counts, put-none, put-more}
-use Rattle.casefile.specs.Line.{Put, decimalOf, wordsOf, digitOf, hexOf, weighted}
+use Rattle.format.specs.Hex.{hexDigit}
+use Rattle.casefile.specs.Line.{Put, decimalOf, wordsOf, hexOf, weighted}
 
 -- what is left from a place on, up to the end
 pub to-end : (s : List ℕ) (k : ℕ) → take (length s - k) (drop k s) ≡ drop k s
@@ -22,10 +23,10 @@ words-more (x ∷ xs) n =
     let ih = words-more xs n in
     rw append-assoc (ap (λ (t : List ℕ). 32 ∷ (decimalOf x ++ t)) ih)
 
-pub hex-more : (xs : List ℕ) (b : ℕ) → hexOf (xs ++ (b ∷ [])) ≡ hexOf xs ++ (digitOf (b / 16) ∷ digitOf (b % 16) ∷ [])
+pub hex-more : (xs : List ℕ) (b : ℕ) → hexOf (xs ++ (b ∷ [])) ≡ hexOf xs ++ (hexDigit (b / 16) ∷ hexDigit (b % 16) ∷ [])
 unfolding hexOf
 hex-more [] b = refl
-hex-more (x ∷ xs) b = ap (λ (t : List ℕ). digitOf (x / 16) ∷ digitOf (x % 16) ∷ t) (hex-more xs b)
+hex-more (x ∷ xs) b = ap (λ (t : List ℕ). hexDigit (x / 16) ∷ hexDigit (x % 16) ∷ t) (hex-more xs b)
 
 -- a turn of the loop that puts down numbers, and of the one that puts down bytes in hex
 module _ (s old : List ℕ) (at i : ℕ) (here : i < length s) (mid : List ℕ) (m : ℕ) (long : length mid ≡ length old) where
@@ -34,9 +35,9 @@ module _ (s old : List ℕ) (at i : ℕ) (here : i < length s) (mid : List ℕ) 
       let both : Put mid m (32 ∷ decimalOf (getD s i 0)) new r = put-more mid m (32 ∷ []) mid′ m′ (decimalOf (getD s i 0)) new r q g t in
       rw (add-one, take-suc s i 0, words-more) (put-more old at (wordsOf (take i s)) mid m _ new r p long both)
 
-  pub hex-turn : (high low : ℕ) → high ≡ digitOf (getD s i 0 / 16) → low ≡ digitOf (getD s i 0 % 16) → (mid′ : List ℕ) (m′ : ℕ) → length mid′ ≡ length mid → (new : List ℕ) (r : ℕ) → Put old at (hexOf (take i s)) mid m → Put mid m (high ∷ []) mid′ m′ → Put mid′ m′ (low ∷ []) new r → Put old at (hexOf (take (i + 1) s)) new r
+  pub hex-turn : (high low : ℕ) → high ≡ hexDigit (getD s i 0 / 16) → low ≡ hexDigit (getD s i 0 % 16) → (mid′ : List ℕ) (m′ : ℕ) → length mid′ ≡ length mid → (new : List ℕ) (r : ℕ) → Put old at (hexOf (take i s)) mid m → Put mid m (high ∷ []) mid′ m′ → Put mid′ m′ (low ∷ []) new r → Put old at (hexOf (take (i + 1) s)) new r
   hex-turn high low e f mid′ m′ g new r p q t =
-      let both : Put mid m (digitOf (getD s i 0 / 16) ∷ digitOf (getD s i 0 % 16) ∷ []) new r = put-more mid m (digitOf (getD s i 0 / 16) ∷ []) mid′ m′ (digitOf (getD s i 0 % 16) ∷ []) new r (rw e at q) g (rw f at t) in
+      let both : Put mid m (hexDigit (getD s i 0 / 16) ∷ hexDigit (getD s i 0 % 16) ∷ []) new r = put-more mid m (hexDigit (getD s i 0 / 16) ∷ []) mid′ m′ (hexDigit (getD s i 0 % 16) ∷ []) new r (rw e at q) g (rw f at t) in
       rw (add-one, take-suc s i 0, hex-more) (put-more old at (hexOf (take i s)) mid m _ new r p long both)
 
 -- the plain sum of all bytes, which is what a place one further on adds

@@ -3,7 +3,7 @@
 use mathlib.Core.Path.{_≡_, refl, ap, sym, _∙_}
 use mathlib.Core.Bool.{true, false}
 use Prim.Native.Nat.{ℕ, _+_, _-_, _≤_, _<_}
-use borrow.Author.Tests.{le-leb, lt-leb, eq-eqb, ne-eqb}
+use borrow.Author.Tests.{eq-eqb, ne-eqb}
 use native.Mathlib.Omega.{arith}
 use mathlib.Core.List.{List, [], _∷_}
 use lib.Dec.{eqb}
@@ -12,7 +12,7 @@ use lib.Seq.{take-all}
 use Rattle.format.specs.Table.{both}
 use Rattle.format.specs.Table.Laws.{both-true-right, either-absorbed}
 use Rattle.format.specs.Places.{at-place, past-end}
-use Rattle.letters.specs.Characters.{isLetter, isDigit, isLetterOrDigit, isReference, all, isCountry, isSigner, hexValue, shown}
+use Rattle.letters.specs.Characters.{isLetter, isDigit, isLetterOrDigit, isReference, all, isCountry, isSigner, shown}
 
 -- a letter or a digit, by the first test
 pub first-letter : (c : ℕ) → isLetter c ≡ true → true ≡ isLetterOrDigit c
@@ -59,21 +59,6 @@ shown-filler c h = rw (eq-eqb c 32 h) refl
 
 pub shown-other : (c : ℕ) → (c ≡ 32 → ⊥) → c ≡ shown c
 shown-other c h = rw (ne-eqb c 32 h) refl
-
--- a hexadecimal digit, by the tests
-module _ (c : ℕ) where
-  pub hex-digit : isDigit c ≡ true → c - 48 ≡ hexValue c
-  hex-digit e = rw e refl
-
-  module _ (no-digit : isDigit c ≡ false) where
-    pub hex-low : c < 65 → 16 ≡ hexValue c
-    hex-low h = rw (no-digit, lt-leb 65 c h) refl
-
-    pub hex-high : 65 ≤ c → 70 < c → 16 ≡ hexValue c
-    hex-high h g = rw (no-digit, le-leb 65 c h, lt-leb c 70 g) refl
-
-    pub hex-letter : 65 ≤ c → c ≤ 70 → c - 55 ≡ hexValue c
-    hex-letter h g = rw (no-digit, le-leb 65 c h, le-leb c 70 g) refl
 
 -- all of a text, one character more: how far the test has come
 abbrev pub Passed : List ℕ → ℕ → Type 0

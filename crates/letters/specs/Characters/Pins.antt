@@ -3,7 +3,7 @@
 use mathlib.Core.Path.{_≡_, refl}
 use mathlib.Core.Bool.{true, false}
 use mathlib.Core.List.{[], _∷_}
-use Rattle.letters.specs.Characters.{isLetter, isDigit, isLetterOrDigit, isReference, isCountry, isSigner, hexValue, shown}
+use Rattle.letters.specs.Characters.{isLetter, isDigit, isLetterOrDigit, isReference, isCountry, isSigner, shown}
 
 -- A to Z, and the characters beside them
 letters : (isLetter 64 ≡ false) × (isLetter 65 ≡ true) × (isLetter 90 ≡ true) × (isLetter 91 ≡ false) × (isLetter 97 ≡ false)
@@ -30,10 +30,6 @@ countries = (refl, refl, refl, refl, refl, refl, refl)
 -- UTAB, UT42; a digit among the first two
 signers : (isSigner (85 ∷ 84 ∷ 65 ∷ 66 ∷ []) ≡ true) × (isSigner (85 ∷ 84 ∷ 52 ∷ 50 ∷ []) ≡ true) × (isSigner (85 ∷ 52 ∷ 65 ∷ 66 ∷ []) ≡ false) × (isSigner (52 ∷ 84 ∷ 65 ∷ 66 ∷ []) ≡ false)
 signers = (refl, refl, refl, refl)
-
--- 0, 9, A, F; G and a small letter are no digits
-hexadecimal : (hexValue 48 ≡ 0) × (hexValue 57 ≡ 9) × (hexValue 65 ≡ 10) × (hexValue 70 ≡ 15) × (hexValue 71 ≡ 16) × (hexValue 97 ≡ 16)
-hexadecimal = (refl, refl, refl, refl, refl, refl)
 
 fillers : (shown 32 ≡ 60) × (shown 65 ≡ 65)
 fillers = (refl, refl)

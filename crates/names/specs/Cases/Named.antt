@@ -9,14 +9,12 @@ use mathlib.Core.List.{List, [], _∷_, _++_, map}
 use lib.Dec.{ltb}
 use lib.ListN.{length, take, drop, getD, set, length-drop, length-append, List·getD-append}
 use lib.Seq.{take-append-le, drop-append-le, take-at, drop-at, length-take-le}
-use Rattle.format.specs.Choice.{pick}
-use Rattle.format.specs.Choice.Laws.{by-test}
 use Rattle.format.specs.Table.{both}
-use Rattle.dates.specs.Days.{within}
+use Rattle.format.specs.Hex.{hexValue}
 use Rattle.grammar.specs.Content.{three, four}
 use Rattle.dates.specs.Days.Laws.{within-both}
 use Rattle.format.specs.Table.Laws.{both-true}
-use Rattle.letters.specs.Characters.{isLetter, isDigit, isReference, all, isSigner, isCountry, hexValue, shown}
+use Rattle.letters.specs.Characters.{isLetter, isReference, all, isSigner, isCountry, shown}
 use Rattle.verdict.specs.Items.{Item, is, not, next, field, country, lengthIn, isSix, nine, named, after, names, Names}
 use Rattle.verdict.specs.Items.Fields.{letter-shown}
 use Rattle.items.specs.Cases.{stepOf, whyOf, through}
@@ -63,22 +61,6 @@ module _ (t : List ℕ) where
 
         pub six-is : (hexValue (getD t 4 0) + hexValue (getD t 5 0) ≡ 0 → ⊥) → isSix t ≡ true
         six-is h = six-length ∙ lt-ltb 0 (lengthIn t) (omega (arith, h))
-
--- what a hexadecimal digit stands for is 16 at most
-pub hex-most : (c : ℕ) → hexValue c ≤ 16
-hex-most c =
-    by-test (isDigit c)
-    (λ e.
-    let v : hexValue c ≡ c - 48 = ap (λ b. pick b (c - 48) (pick (within 65 70 c) (c - 55) 16)) e in
-    omega (arith, within-both 48 57 c e .1))
-    (λ e.
-    by-test (within 65 70 c)
-    (λ f.
-    let v : hexValue c ≡ c - 55 = ap (λ b. pick b (c - 48) (pick (within 65 70 c) (c - 55) 16)) e ∙ ap (λ b. pick b (c - 55) 16) f in
-    omega (arith, within-both 65 70 c f .1))
-    (λ f.
-    let v : hexValue c ≡ 16 = ap (λ b. pick b (c - 48) (pick (within 65 70 c) (c - 55) 16)) e ∙ ap (λ b. pick b (c - 55) 16) f in
-    omega arith))
 
 -- the length that six characters give which were read: 1 to 255
 pub six-size : (at : ℕ) (s t : List ℕ) (n : ℕ) → is t n ≡ field 6 isSix at s → (0 < lengthIn t) × (lengthIn t ≤ 255)

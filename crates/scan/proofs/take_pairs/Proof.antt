@@ -3,13 +3,13 @@
 use borrow.Author.Needs.{needs}
 use native.Mathlib.Omega.{arith}
 use mathlib.Core.Path.{_≡_, refl, _∙_}
-use Prim.Native.Nat.{ℕ, _-_}
+use Prim.Native.Nat.{ℕ, _-_, _<_}
 use mathlib.Core.List.{List, []}
 use denote.Ref.{now}
 use lib.ListN.{length}
 use Rattle.lines.specs.Line.{Put}
 use Rattle.lines.specs.Line.Laws.{put-none, put-more}
-use Rattle.scan.specs.Scan.Laws.{PairsTo, pairs-none, pairs-past, pairs-no-high, pairs-no-low, pairs-more, pairs-turn, pairs-done, digit-at}
+use Rattle.scan.specs.Scan.Laws.{PairsTo, pairs-none, pairs-past, pairs-no-high, pairs-no-low, pairs-more, pairs-turn, pairs-done, digit-small, digit-at}
 use Rattle.scan.proofs.take_pairs.Statement.{statement}
 use Rattle.scan.proofs.take_pairs.Tie as tie
 
@@ -56,11 +56,22 @@ returns-2 c =
     let s = now (on .before .before .before .args .s) in
     pairs-done s _ (on .loop .i) _ (on .loop .inv .2) (pairs-no-low s (on .loop .i) (omega arith) _ (digit-at _ _ _ (first .before .before .at .ensures) (first .before .hex-value .ensures)) (first .if1 .left) _ (digit-at _ _ _ (c .before .before .at2 .ensures) (c .before .hex-value2 .ensures)) (c .if2 .taken)) _ _ _ _ (on .loop .inv .3)
 
+-- both are digits
+small : (c : tie.Else2 Inv-loop μ-loop) → (c .before .before .before .before .hex-value .result < 16) × (c .before .hex-value2 .result < 16)
+small c =
+    let first = c .before .before .before in
+    let high = first .before .before .at .result in
+    let low = c .before .before .at2 .result in
+    (digit-small high _ (first .before .hex-value .ensures) (first .if1 .left), digit-small low _ (c .before .hex-value2 .ensures) (c .if2 .left))
+
 mul-put : tie.Need-mul-put Inv-loop μ-loop
-mul-put c = omega arith
+mul-put c = omega (arith, small (c .before))
 
 add-put : tie.Need-add-put Inv-loop μ-loop
-add-put c = omega arith
+add-put c = omega (arith, small (c .before))
+
+cast-put : tie.Need-cast-put Inv-loop μ-loop
+cast-put c = omega (arith, small (c .before))
 
 put-requires : tie.Need-put-requires Inv-loop μ-loop
 put-requires c κs = search needs
@@ -108,6 +119,7 @@ take-pairs-spec =
     returns-2
     mul-put
     add-put
+    cast-put
     put-requires
     add-i
     loop-less

@@ -13,9 +13,11 @@ use mathlib.Core.List.{List, [], _∷_, _++_, append-assoc, append-nil}
 use lib.ListN.{length, getD, drop, length-append, drop-of-length-le, List·getD-eq-default}
 use lib.Seq.{drop-cons}
 use native.Mathlib.Numerals.{add-one}
+use Rattle.format.specs.Hex.{hexValue}
+use Rattle.format.specs.Hex.Laws.{value-most}
 use Rattle.lines.specs.Line.{Put}
 use Rattle.lines.specs.Line.Laws.{put-more}
-use Rattle.scan.specs.Scan.{Numeral, valueOf, HexDigit, hexValue, pairsOf, pairsAt, pairsEnd, goesOn, numberOf, widthOf, numberAt, numberEnd, times, runAt, runEnd, someRuns, runsAt}
+use Rattle.scan.specs.Scan.{Numeral, valueOf, pairsOf, pairsAt, pairsEnd, goesOn, numberOf, widthOf, numberAt, numberEnd, times, runAt, runEnd, someRuns, runsAt}
 
 -- an element that is there does not depend on what stands for one that is not
 pub there : (l : List ℕ) (i d e : ℕ) → i < length l → getD l i d ≡ getD l i e
@@ -49,35 +51,6 @@ at-place s i d h = rw (add-one, drop-cons s i d)
 past-end : (s : List ℕ) (i : ℕ) → length s ≤ i → drop i s ≡ []
 past-end s i h = drop-of-length-le s h
 
--- the value that a hex digit was found to have is the one that it has
-hex-none : (b : ℕ) → (48 ≤ b → 57 < b) → (65 ≤ b → 70 < b) → Dec (48 ≤ b) → Dec (65 ≤ b) → 16 ≡ hexValue b
-unfolding hexValue
-hex-none b f g (no p) q = simp (lt-ltb b 48 (omega arith))
-hex-none b f g (yes p) (no q) = simp (le-ltb b 48 p, lt-leb b 57 (f p), lt-ltb b 65 (omega arith))
-hex-none b f g (yes p) (yes q) = simp (le-ltb b 48 p, lt-leb b 57 (f p), le-ltb b 65 q, lt-leb b 70 (g q))
-
-hex-figure : (v : ℕ) → v < 10 → v ≡ hexValue (48 + v)
-unfolding hexValue
-hex-figure v h =
-    let e : v ≡ 48 + v - 48 = omega arith in
-    simp (le-ltb (48 + v) 48 (omega arith), le-leb (48 + v) 57 (omega arith)) e
-
-hex-letter : (v : ℕ) → 10 ≤ v → v < 16 → v ≡ hexValue (55 + v)
-unfolding hexValue
-hex-letter v h g =
-    let e : v ≡ 55 + v - 55 = omega arith in
-    simp (le-ltb (55 + v) 48 (omega arith), lt-leb (55 + v) 57 (omega arith), le-ltb (55 + v) 65 (omega arith), le-leb (55 + v) 70 (omega arith)) e
-
-hex-cases : (b v : ℕ) → HexDigit b v → Dec (10 ≤ v) → Dec (16 ≤ v) → v ≡ hexValue b
-hex-cases b v d (no p) q = hex-figure v (omega arith) ∙ ap hexValue (sym (d .figure (omega arith)))
-hex-cases b v d (yes p) (no q) = hex-letter v p (omega arith) ∙ ap hexValue (sym (d .letter p (omega arith)))
-hex-cases b v d (yes p) (yes q) =
-    let e : v ≡ 16 = omega (arith, d .most) in
-    e ∙ hex-none b (d .no-figure e) (d .no-letter e) (decLe 48 b) (decLe 65 b)
-
-pub hex-is : (b v : ℕ) → HexDigit b v → v ≡ hexValue b
-hex-is b v d = hex-cases b v d (decLe 10 v) (decLe 16 v)
-
 -- pairs at a place: none past the end, none where one of both is no digit, one more where both are
 pairs-high : (h : ℕ) (t : List ℕ) → hexValue h ≡ 16 → pairsOf (h ∷ t) ≡ []
 unfolding pairsOf
@@ -94,7 +67,6 @@ pairs-two h l t g f = simp (lt-ltb (hexValue h) 16 g, lt-ltb (hexValue l) 16 f)
 
 -- no digit stands past the end
 past-no-digit : (s : List ℕ) (i : ℕ) → length s ≤ i → hexValue (getD s i 10) ≡ 16
-unfolding hexValue
 past-no-digit s i h = ap hexValue (List·getD-eq-default s 10 h)
 
 module _ (s : List ℕ) (i : ℕ) where
@@ -102,24 +74,23 @@ module _ (s : List ℕ) (i : ℕ) where
   unfolding pairsAt pairsOf
   pairs-past h = ap pairsOf (past-end s i h)
 
-  module _ (here : i < length s) (high : ℕ) (h : HexDigit (getD s i 10) high) where
+  module _ (here : i < length s) (high : ℕ) (h : high ≡ hexValue (getD s i 10)) where
     pub pairs-no-high : high ≡ 16 → pairsAt s i ≡ []
     unfolding pairsAt
-    pairs-no-high e = ap pairsOf (at-place s i 10 here) ∙ pairs-high _ _ (sym (hex-is _ _ h) ∙ e)
+    pairs-no-high e = ap pairsOf (at-place s i 10 here) ∙ pairs-high _ _ (sym h ∙ e)
 
-    module _ (some : high ≡ 16 → ⊥) (low : ℕ) (l : HexDigit (getD s (i + 1) 10) low) where
+    module _ (some : high ≡ 16 → ⊥) (low : ℕ) (l : low ≡ hexValue (getD s (i + 1) 10)) where
       below : hexValue (getD s i 10) < 16
       below =
-          let e = hex-is _ _ h in
-          let m = h .most in
-          omega (arith, some)
+          let m = value-most (getD s i 10) in
+          omega (arith, h, some)
 
       no-low : low ≡ 16 → Dec (i + 2 ≤ length s) → pairsAt s i ≡ []
       unfolding pairsAt pairsOf
       no-low e (yes p) =
           let two : drop i s ≡ getD s i 10 ∷ getD s (i + 1) 10 ∷ drop (i + 1 + 1) s =
           at-place s i 10 here ∙ ap (λ t. getD s i 10 ∷ t) (at-place s (i + 1) 10 (omega arith)) in
-          ap pairsOf two ∙ pairs-low (getD s i 10) (getD s (i + 1) 10) (drop (i + 1 + 1) s) below (sym (hex-is _ _ l) ∙ e)
+          ap pairsOf two ∙ pairs-low (getD s i 10) (getD s (i + 1) 10) (drop (i + 1 + 1) s) below (sym l ∙ e)
       no-low e (no p) =
           let one : drop i s ≡ getD s i 10 ∷ [] =
           at-place s i 10 here ∙ ap (λ t. getD s i 10 ∷ t) (past-end s (i + 1) (omega arith)) in
@@ -134,19 +105,16 @@ module _ (s : List ℕ) (i : ℕ) where
           let next : i + 1 + 1 ≡ i + 2 = omega arith in
           let two : drop i s ≡ getD s i 10 ∷ getD s (i + 1) 10 ∷ drop (i + 2) s =
           at-place s i 10 here ∙ ap (λ t. getD s i 10 ∷ t) (at-place s (i + 1) 10 (omega arith) ∙ ap (λ k. getD s (i + 1) 10 ∷ drop k s) next) in
-          let a = hex-is _ _ h in
-          let b = hex-is _ _ l in
-          let value : hexValue (getD s i 10) * 16 + hexValue (getD s (i + 1) 10) ≡ high * 16 + low = omega arith in
-          (p, ap pairsOf two ∙ pairs-two _ _ _ below (omega arith) ∙ ap (λ v. v ∷ pairsOf (drop (i + 2) s)) value)
+          let value : hexValue (getD s i 10) * 16 + hexValue (getD s (i + 1) 10) ≡ high * 16 + low = omega (arith, h, l) in
+          (p, ap pairsOf two ∙ pairs-two _ _ _ below (omega (arith, l)) ∙ ap (λ v. v ∷ pairsOf (drop (i + 2) s)) value)
       more f (no p) =
-          let b = hex-is _ _ l in
           let e = past-no-digit s (i + 1) (omega arith) in
-          absurd (omega arith)
+          absurd (omega (arith, l))
 
       pub pairs-more : (low ≡ 16 → ⊥) → (i + 2 ≤ length s) × (pairsAt s i ≡ (high * 16 + low) ∷ pairsAt s (i + 2))
       pairs-more f =
-          let m = l .most in
-          more (omega (arith, f)) (decLe (i + 2) (length s))
+          let m = value-most (getD s (i + 1) 10) in
+          more (omega (arith, l, f)) (decLe (i + 2) (length s))
 
 -- how far the pairs from a place on are taken: these bytes before i, and what stands at i
 pub record PairsTo (s : List ℕ) (from i : ℕ) (bytes : List ℕ) : Type 0 where
@@ -176,8 +144,13 @@ module _ (s : List ℕ) (from i : ℕ) (bytes : List ℕ) (p : PairsTo s from i 
   pub pairs-done : (old : List ℕ) (at : ℕ) (new : List ℕ) (r : ℕ) → Put old at bytes new r → (i ≡ pairsEnd s from) × Put old at (pairsAt s from) new r
   pairs-done old at new r q = (pairs-end, rw pairs-all q)
 
-pub digit-at : (b c v : ℕ) → b ≡ c → HexDigit b v → HexDigit c v
-digit-at b c v e d = rw e at d
+-- a value that was found to be a digit's
+pub digit-small : (b v : ℕ) → v ≡ hexValue b → (v ≡ 16 → ⊥) → v < 16
+digit-small b v e some = let m = value-most b in omega (arith, some)
+
+-- what was found at a place is what stands there
+pub digit-at : (b c v : ℕ) → b ≡ c → v ≡ hexValue b → v ≡ hexValue c
+digit-at b c v e d = d ∙ ap hexValue e
 
 -- a number at a place: how far it is taken, one digit more, the end of it
 pub record NumberTo (s : List ℕ) (from v i : ℕ) : Type 0 where

@@ -3,30 +3,29 @@
 use mathlib.Core.Path.{_≡_, refl, ap, sym, subst, _∙_}
 use mathlib.Core.Logic.{_⊎_, ⊎-elim}
 use mathlib.Core.Bool.{Bool, true}
-use Prim.Native.Nat.{ℕ, _+_, _-_, _*_, _/_, _%_, _≤_, _<_}
+use Prim.Native.Nat.{ℕ, _+_, _-_, _*_, _/_, _%_, _≤_}
 use native.Mathlib.Omega.{arith}
-use borrow.Author.Tests.{lt-ltb, ne-eqb, ltb-true, ltb-false}
+use borrow.Author.Tests.{lt-ltb, ne-eqb}
 use mathlib.Core.List.{List, [], _∷_, _++_, map, append-assoc}
 use lib.Dec.{ltb, eqb}
 use lib.ListN.{length, take, drop, getD, length-append}
 use lib.Seq.{take-at, drop-at}
 use Rattle.format.specs.Choice.{pick}
-use Rattle.format.specs.Choice.Laws.{by-test}
 use Rattle.format.specs.Table.{both, either}
+use Rattle.format.specs.Hex.{hexDigit, hexValue}
+use Rattle.format.specs.Hex.Laws.{digit-value}
 use Rattle.format.specs.Bytes.{All}
 use Rattle.format.specs.Bytes.Laws.{all-append}
 use Rattle.c40.specs.Chart.{InChart}
 use Rattle.c40.specs.Text.{TextOf, width, publish as c40}
 use Rattle.c40.specs.Text.Laws.{length-publish as length-c40}
-use Rattle.dates.specs.Days.{within}
 use Rattle.grammar.specs.Content.{Version, three, four}
-use Rattle.grammar.specs.Publish.{carried, hexDigit, hexDigits}
+use Rattle.grammar.specs.Publish.{carried, hexDigits}
 use Rattle.grammar.specs.Publish as form
 use Rattle.grammar.specs.Legal.{Letter, Filler, Country, Signer, ReferenceCharacter}
 use Rattle.grammar.specs.Parts.{country-text, signer-text, reference-text, Names as LegalNames, six, six-text, four-form}
-use Rattle.dates.specs.Days.Laws.{within-true, within-above}
 use Rattle.letters.specs.Characters.Grammar.{letter, reference-passes, all-pass, signer-passes}
-use Rattle.letters.specs.Characters.{isLetter, isReference, all, isCountry, isSigner, hexValue, shown}
+use Rattle.letters.specs.Characters.{isLetter, isReference, all, isCountry, isSigner, shown}
 use Rattle.verdict.specs.Items.{is, next, field, country, nine, lengthIn, isSix, named, after, names}
 use Rattle.verdict.specs.Items.Laws.{field-there}
 
@@ -76,22 +75,6 @@ country-there p t rest l =
     ap (λ i. next i (λ t at. is (map shown t) at)) (field-there 3 (isCountry 32) p (map carried t) rest (country-text t l) (omega arith) (country-passes t l))
     ∙ ap (λ u. is u (length p + 2)) (all-shown t (l .letters))
 
--- the two digits of a length give it
-digit-back : (n : ℕ) → n < 16 → hexValue (hexDigit n) ≡ n
-digit-back n h =
-    by-test (ltb n 10)
-    (λ e.
-    let low = ltb-true n 10 e in
-    ap (λ b. hexValue (pick b (48 + n) (55 + n))) e
-    ∙ ap (λ b. pick b (48 + n - 48) (pick (within 65 70 (48 + n)) (48 + n - 55) 16)) (within-true 48 57 (48 + n) (omega arith) (omega arith))
-    ∙ omega arith)
-    (λ e.
-    let high = ltb-false n 10 e in
-    ap (λ b. hexValue (pick b (48 + n) (55 + n))) e
-    ∙ ap (λ b. pick b (55 + n - 48) (pick (within 65 70 (55 + n)) (55 + n - 55) 16)) (within-above 48 57 (55 + n) (omega arith) (omega arith))
-    ∙ ap (λ b. pick b (55 + n - 55) 16) (within-true 65 70 (55 + n) (omega arith) (omega arith))
-    ∙ omega arith)
-
 -- version 3: nine characters
 pub names-three-there : (p s r rest : List ℕ) → LegalNames three (s, r) → names three (length p) (p ++ (c40 (s ++ r) ++ rest)) ≡ is (record { signer = s; reference = r }) (length p + 6)
 names-three-there p s r rest l =
@@ -111,7 +94,7 @@ six-length (a ∷ []) n e h = absurd (omega arith)
 six-length (a ∷ b ∷ []) n e h = absurd (omega arith)
 six-length (a ∷ b ∷ c ∷ []) n e h = absurd (omega arith)
 six-length (a ∷ b ∷ c ∷ d ∷ []) n e h =
-    ap (λ x. x * 16 + hexValue (hexDigit (n % 16))) (digit-back (n / 16) (omega arith)) ∙ ap (λ x. n / 16 * 16 + x) (digit-back (n % 16) (omega arith)) ∙ omega arith
+    ap (λ x. x * 16 + hexValue (hexDigit (n % 16))) (digit-value (n / 16) (omega arith)) ∙ ap (λ x. n / 16 * 16 + x) (digit-value (n % 16) (omega arith)) ∙ omega arith
 six-length (a ∷ b ∷ c ∷ d ∷ x ∷ t) n e h = absurd (omega arith)
 
 six-digits : (s : List ℕ) (n : ℕ) → length s ≡ 4 → n ≤ 255 → both (ltb (hexValue (getD (s ++ hexDigits n) 4 0)) 16) (ltb (hexValue (getD (s ++ hexDigits n) 5 0)) 16) ≡ true
@@ -120,9 +103,9 @@ six-digits (a ∷ []) n e h = absurd (omega arith)
 six-digits (a ∷ b ∷ []) n e h = absurd (omega arith)
 six-digits (a ∷ b ∷ c ∷ []) n e h = absurd (omega arith)
 six-digits (a ∷ b ∷ c ∷ d ∷ []) n e h =
-    ap (λ x. both (ltb x 16) (ltb (hexValue (hexDigit (n % 16))) 16)) (digit-back (n / 16) (omega arith))
+    ap (λ x. both (ltb x 16) (ltb (hexValue (hexDigit (n % 16))) 16)) (digit-value (n / 16) (omega arith))
     ∙ ap (λ b. both b (ltb (hexValue (hexDigit (n % 16))) 16)) (lt-ltb (n / 16) 16 (omega arith))
-    ∙ ap (λ x. ltb x 16) (digit-back (n % 16) (omega arith))
+    ∙ ap (λ x. ltb x 16) (digit-value (n % 16) (omega arith))
     ∙ lt-ltb (n % 16) 16 (omega arith)
 six-digits (a ∷ b ∷ c ∷ d ∷ x ∷ t) n e h = absurd (omega arith)
 

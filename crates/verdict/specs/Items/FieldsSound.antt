@@ -5,7 +5,7 @@ use mathlib.Core.Logic.{_⊎_, inl, inr, ⊎-elim}
 use mathlib.Core.Bool.{Bool, true}
 use Prim.Native.Nat.{ℕ, _+_, _-_, _*_, _/_, _%_, _≤_, _<_}
 use native.Mathlib.Omega.{arith}
-use borrow.Author.Tests.{lt-ltb, le-ltb, eqb-true, ltb-true}
+use borrow.Author.Tests.{eqb-true, ltb-true}
 use mathlib.Core.List.{List, [], _∷_, _++_, map}
 use lib.Dec.{ltb, eqb}
 use lib.ListN.{length, take, drop, take-append-drop, length-drop}
@@ -13,14 +13,15 @@ use lib.Seq.{length-take-le}
 use Rattle.format.specs.Choice.{pick}
 use Rattle.format.specs.Choice.Laws.{by-test}
 use Rattle.format.specs.Table.{both, either}
+use Rattle.format.specs.Hex.{hexDigit, hexValue}
+use Rattle.format.specs.Hex.Laws.{value-digit}
 use Rattle.format.specs.Bytes.{Bytes}
 use Rattle.format.specs.Bytes.Laws.{bytes-drop, bytes-take}
 use Rattle.c40.specs.Text.{TextOf, width, publish as c40}
 use Rattle.c40.specs.Decode.{Decoded, text, wrong, decode}
 use Rattle.c40.specs.Exact.{decodes-published}
-use Rattle.dates.specs.Days.{within}
 use Rattle.grammar.specs.Content.{Version, three, four}
-use Rattle.grammar.specs.Publish.{carried, hexDigit, hexDigits}
+use Rattle.grammar.specs.Publish.{carried, hexDigits}
 use Rattle.grammar.specs.Publish as form
 use Rattle.grammar.specs.Legal.{Letter, Filler, Country, Signer, ReferenceCharacter}
 use Rattle.grammar.specs.Parts.{Names as LegalNames, four-form}
@@ -28,7 +29,7 @@ use Rattle.grammar.specs.Pins.{filled-three}
 use Rattle.format.specs.Table.Laws.{both-true, either-true}
 use Rattle.dates.specs.Days.Laws.{within-both}
 use Rattle.letters.specs.Characters.Grammar.{reference-of, all-of, signer-of}
-use Rattle.letters.specs.Characters.{isLetter, isDigit, isReference, all, isCountry, isSigner, hexValue, shown}
+use Rattle.letters.specs.Characters.{isLetter, isReference, all, isCountry, isSigner, shown}
 use Rattle.verdict.specs.Items.{is, exactly, fieldIn, field, country, Names, nine, lengthIn, isSix, named, after, names}
 use Rattle.verdict.specs.Items.Laws.{whole-read}
 use Rattle.verdict.specs.Items.Fields.{letter-carried, letter-shown}
@@ -152,24 +153,7 @@ names-three-read at s n after bytes e =
     let there : Stands (c40 (take 4 t ++ drop 4 t)) at after s = subst (λ u. Stands (c40 u) at after s) (sym (take-append-drop 4 t)) (subst (λ k. Stands (c40 t) at k s) place (f .there)) in
     (subst (λ (z : Names). LegalNames three (z .signer, z .reference)) same legal, subst (λ (z : Names). Stands (c40 (z .signer ++ z .reference)) at after s) same there)
 
--- the digits of L, and back
-hex-back : (c : ℕ) → hexValue c < 16 → hexDigit (hexValue c) ≡ c
-hex-back c h =
-    by-test (isDigit c)
-    (λ e.
-    let w = within-both 48 57 c e in
-    let v : hexValue c ≡ c - 48 = ap (λ b. pick b (c - 48) (pick (within 65 70 c) (c - 55) 16)) e in
-    ap hexDigit v ∙ ap (λ b. pick b (48 + (c - 48)) (55 + (c - 48))) (lt-ltb (c - 48) 10 (omega arith)) ∙ omega arith)
-    (λ e.
-    by-test (within 65 70 c)
-    (λ f.
-    let w = within-both 65 70 c f in
-    let v : hexValue c ≡ c - 55 = ap (λ b. pick b (c - 48) (pick (within 65 70 c) (c - 55) 16)) e ∙ ap (λ b. pick b (c - 55) 16) f in
-    ap hexDigit v ∙ ap (λ b. pick b (48 + (c - 55)) (55 + (c - 55))) (le-ltb (c - 55) 10 (omega arith)) ∙ omega arith)
-    (λ f.
-    let v : hexValue c ≡ 16 = ap (λ b. pick b (c - 48) (pick (within 65 70 c) (c - 55) 16)) e ∙ ap (λ b. pick b (c - 55) 16) f in
-    absurd (omega arith)))
-
+-- the six characters that were read: the signer, and the digits of a length
 record Six (t : List ℕ) : Type 0 where
   signer : Signer (take 4 t)
   some : 1 ≤ lengthIn t
@@ -198,7 +182,7 @@ six-of (a ∷ b ∷ c ∷ d ∷ x ∷ y ∷ []) l e =
       signer = signer-of (a ∷ b ∷ c ∷ d ∷ []) refl (p .0);
       some = omega (arith, ltb-true 0 n (q .1));
       most = omega arith;
-      back = ap (λ u. a ∷ b ∷ c ∷ d ∷ u ∷ hexDigit (n % 16) ∷ []) (ap hexDigit high ∙ hex-back x hx) ∙ ap (λ u. a ∷ b ∷ c ∷ d ∷ x ∷ u ∷ []) (ap hexDigit low ∙ hex-back y hy);
+      back = ap (λ u. a ∷ b ∷ c ∷ d ∷ u ∷ hexDigit (n % 16) ∷ []) (ap hexDigit high ∙ value-digit x hx) ∙ ap (λ u. a ∷ b ∷ c ∷ d ∷ x ∷ u ∷ []) (ap hexDigit low ∙ value-digit y hy);
     }
 
 pub names-four-read : (at : ℕ) (s : List ℕ) (n : Names) (end : ℕ) → Bytes s → names four at s ≡ is n end → LegalNames four (n .signer, n .reference) × Stands (form.names four (n .signer) (n .reference)) at end s

@@ -2,11 +2,11 @@
 -- Assumes nothing.
 use mathlib.Core.Path.{_≡_, refl, ap, sym, subst, _∙_}
 use mathlib.Core.Bool.{Bool, true, false}
-use Prim.Native.Nat.{ℕ, _+_, _/_, _%_, _<_, _≤_}
+use Prim.Native.Nat.{ℕ, _+_, _≤_}
 use native.Mathlib.Omega.{arith}
-use borrow.Author.Tests.{ne-eqb, ltb-true, ltb-false}
+use borrow.Author.Tests.{ne-eqb}
 use mathlib.Core.List.{List, [], _∷_, _++_}
-use lib.Dec.{ltb, eqb}
+use lib.Dec.{eqb}
 use lib.ListN.{length, take, drop, take-append-drop}
 use Rattle.format.specs.Bytes.Laws.{all-append}
 use Rattle.format.specs.Choice.Laws.{by-test}
@@ -17,11 +17,11 @@ use Rattle.c40.specs.Text.{Text}
 use Rattle.der.specs.Length.{written}
 use Rattle.der.specs.Length.Written.{written-form}
 use Rattle.grammar.specs.Content.{Version, three, four}
-use Rattle.grammar.specs.Publish.{carried, hexDigit, hexDigits, lengthOf}
+use Rattle.grammar.specs.Publish.{carried, hexDigits, lengthOf}
 use Rattle.dates.specs.Days.Laws.{within-both}
 use Rattle.format.specs.Table.Laws.{both-true}
 use Rattle.grammar.specs.Legal.{ReferenceCharacter}
-use Rattle.grammar.specs.Parts.{reference-text as text-of}
+use Rattle.grammar.specs.Parts.{hex-text, reference-text as text-of}
 use Rattle.letters.specs.Characters.{isLetter, isDigit, isLetterOrDigit, isReference, isSigner, all, isCountry}
 use Rattle.letters.specs.Characters.Grammar.{reference-of, all-of}
 use Rattle.writer.specs.Steps.{Named, spelled, sixOf}
@@ -78,12 +78,6 @@ pub named-text : (v : Version) (t : List ℕ) → Named v t → Text t
 named-text v t n =
     subst Text (take-append-drop 4 t) (all-append InChart (take 4 t) (drop 4 t) (signer-text (take 4 t) (n .signer)) (reference-text v t n))
 
-hex-digit-in : (n : ℕ) → n < 16 → InChart (hexDigit n)
-hex-digit-in n h =
-    by-test (ltb n 10)
-    (λ e. rw e (digit-in (48 + n) (omega arith) (omega (arith, ltb-true n 10 e))))
-    (λ e. rw e (letter-in (55 + n) (omega (arith, ltb-false n 10 e)) (omega arith)))
-
 -- the first six characters of version 4's names, and the reference
 pub spelled-six : (t : List ℕ) → 4 ≤ length t → spelled t ≡ sixOf t ++ drop 4 t
 spelled-six [] h = absurd (omega arith)
@@ -102,8 +96,7 @@ six-is (a ∷ b ∷ c ∷ d ∷ t) h = refl
 pub six-text : (v : Version) (t : List ℕ) → Named v t → 4 ≤ length t → length (drop 4 t) ≤ 255 → Text (sixOf t)
 six-text v t n low h =
     let k = length (drop 4 t) in
-    let hex : Text (hexDigits k) = (hex-digit-in (k / 16) (omega arith), (hex-digit-in (k % 16) (omega arith), tt)) in
-    subst Text (six-is t low) (all-append InChart (take 4 t) (hexDigits k) (signer-text (take 4 t) (n .signer)) hex)
+    subst Text (six-is t low) (all-append InChart (take 4 t) (hexDigits k) (signer-text (take 4 t) (n .signer)) (hex-text k h))
 
 -- the forms of a length up to 4,096
 module _ (v : Version) (n : ℕ) where

@@ -7,11 +7,12 @@ use mathlib.Core.List.{_++_}
 use Prim.Native.Nat.{_+_, _*_, _-_, _≤_}
 use lib.ListN.{length, take, drop, getD, length-append, length-drop}
 use lib.Seq.{length-take-le}
-use Rattle.letters.specs.Characters.{hexValue}
+use Rattle.format.specs.Hex.{hexValue}
+use Rattle.format.specs.Hex.Laws.{value-most}
 use Rattle.verdict.specs.Items.{names}
 use Rattle.items.specs.Cases.{stepOf, through}
 use Rattle.names.specs.Cases.{measured}
-use Rattle.names.specs.Cases.Named.{names-three, names-three-not, names-six-not, Six, six-there, hex-most, part-long, names-four, names-four-not}
+use Rattle.names.specs.Cases.Named.{names-three, names-three-not, names-six-not, Six, six-there, part-long, names-four, names-four-not}
 use Rattle.names.proofs.Unread.{unread}
 use Rattle.names.proofs.Field.names_in.Statement.{statement}
 use Rattle.names.proofs.Field.names_in.Tie as tie
@@ -93,7 +94,7 @@ hex-value-requires c κs = search needs
 
 mul-size : tie.Need-mul-size
 mul-size c =
-    let most : hexValue (getD (c .before .before .before .before .before .before .before .six .last .1 .1 .0 ++ drop 6 (c .before .before .before .before .before .before .before .before .before .before .before .before .before .args .text .now)) 4 0) ≤ 16 = hex-most (getD (c .before .before .before .before .before .before .before .six .last .1 .1 .0 ++ drop 6 (c .before .before .before .before .before .before .before .before .before .before .before .before .before .args .text .now)) 4 0) in
+    let most : hexValue (getD (c .before .before .before .before .before .before .before .six .last .1 .1 .0 ++ drop 6 (c .before .before .before .before .before .before .before .before .before .before .before .before .before .args .text .now)) 4 0) ≤ 16 = value-most (getD (c .before .before .before .before .before .before .before .six .last .1 .1 .0 ++ drop 6 (c .before .before .before .before .before .before .before .before .before .before .before .before .before .args .text .now)) 4 0) in
     let high : c .hex-value .result ≤ 16 = subst (λ k. k ≤ 16) (sym (c .hex-value .ensures)) most in
     omega arith
 

@@ -7,14 +7,16 @@ use mathlib.Core.Path.{_≡_, ap, sym, _∙_}
 use mathlib.Core.Bool.{true}
 use Prim.Native.Nat.{_≤_, _<_}
 use lib.ListN.{length, take, getD}
-use Rattle.letters.specs.Characters.{isSigner, hexValue}
+use Rattle.format.specs.Hex.{hexValue}
+use Rattle.format.specs.Hex.Laws.{value-most}
+use Rattle.letters.specs.Characters.{isSigner}
 use Rattle.verdict.specs.Items.{isSix}
 use Rattle.verdict.specs.Items as read
 use Rattle.items.specs.Cases.{stepOf}
 use Rattle.names.specs.Cases.{anyText}
 use Rattle.names.specs.Cases.Field.{field-not, field-passes, field-fails}
 use Rattle.letters.specs.Characters.Laws.{first-four}
-use Rattle.names.specs.Cases.Named.{hex-most, six-no, six-high, six-low, six-none, six-is}
+use Rattle.names.specs.Cases.Named.{six-no, six-high, six-low, six-none, six-is}
 use Rattle.names.proofs.Unread.{unread}
 use Rattle.names.proofs.Field.six.Statement.{statement}
 use Rattle.names.proofs.Field.six.Tie as tie
@@ -100,8 +102,8 @@ digits on =
       passes = sym (signer (on .before .before .before .before .before)) ∙ not-false _ (on .before .before .before .before .if1 .left);
       high = on .before .before .hex-value .ensures;
       low = on .hex-value2 .ensures;
-      high-most = hex-most (getD out 4 0);
-      low-most = hex-most (getD out 5 0);
+      high-most = value-most (getD out 4 0);
+      low-most = value-most (getD out 5 0);
     }
 
 same-length-3 : tie.Need-same-length-3

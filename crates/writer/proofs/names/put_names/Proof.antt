@@ -9,7 +9,7 @@ use mathlib.Core.List.{List, [], _∷_}
 use lib.ListN.{length, getD, take, drop, length-drop}
 use lib.Seq.{take-all}
 use Rattle.format.specs.Buffer.{over}
-use Rattle.grammar.specs.Publish.{hexDigit}
+use Rattle.format.specs.Hex.{hexDigit}
 use Rattle.writer.specs.Steps.{Room, sixOf}
 use Rattle.given.specs.Tests.Laws.{size-three, size-four}
 use Rattle.writer.specs.Steps.Laws.{named-text}
@@ -35,8 +35,10 @@ codes c =
 
 six : (c : tie.After-hex-digit2) → codes c ≡ sixOf (text (c .before .before .before .before .before .before))
 six c =
-    let t = text (c .before .before .before .before .before .before) in
-    let high : c .before .hex-digit .result ≡ hexDigit (length (drop 4 t) / 16) = c .before .hex-digit .ensures ∙ ap (λ k. hexDigit (k / 16)) (sym (length-drop 4 t)) in
+    let told = c .before .before .before .before .before .before in
+    let t = text told in
+    let one : (length t - 4) / 16 % 16 ≡ length (drop 4 t) / 16 = omega (arith, short told, length-drop 4 t) in
+    let high : c .before .hex-digit .result ≡ hexDigit (length (drop 4 t) / 16) = c .before .hex-digit .ensures ∙ ap (λ k. hexDigit k) one in
     let low : c .hex-digit2 .result ≡ hexDigit (length (drop 4 t) % 16) = c .hex-digit2 .ensures ∙ ap (λ k. hexDigit (k % 16)) (sym (length-drop 4 t)) in
     λ i. getD t 0 0 ∷ getD t 1 0 ∷ getD t 2 0 ∷ getD t 3 0 ∷ high i ∷ low i ∷ []
 
@@ -81,7 +83,7 @@ shared-slice-read-t18 : tie.Need-shared-slice-read-t18
 shared-slice-read-t18 c = let l = long (c .before .before .before .before) in omega arith
 
 hex-digit-requires : tie.Need-hex-digit-requires
-hex-digit-requires c κs = let l = short (c .before .before .before .before) in omega arith
+hex-digit-requires c κs = search needs
 
 hex-digit-requires-2 : tie.Need-hex-digit-requires-2
 hex-digit-requires-2 c κs = search needs

@@ -1,0 +1,29 @@
+-- `octets::hex_digit` meets its contract: a figure or a letter.
+-- Assumes nothing.
+use borrow.Author.Needs.{needs}
+use native.Mathlib.Omega.{arith}
+use Rattle.format.specs.Hex.Laws.{digit-figure, digit-letter}
+use Rattle.octets.proofs.hex_digit.Statement.{statement}
+use Rattle.octets.proofs.hex_digit.Tie as tie
+
+add-result : tie.Need-add-result
+add-result c = search needs
+
+cast-result : tie.Need-cast-result
+cast-result c = search needs
+
+returns : tie.Need-returns
+returns c = digit-figure _ (omega arith)
+
+add-result-2 : tie.Need-add-result-2
+add-result-2 c = search needs
+
+cast-result-2 : tie.Need-cast-result-2
+cast-result-2 c = search needs
+
+returns-2 : tie.Need-returns-2
+returns-2 c = digit-letter _ (omega arith)
+
+pub hex-digit-spec : {M : Type 1} → statement M
+hex-digit-spec =
+    tie.close (tie.spec add-result cast-result returns add-result-2 cast-result-2 returns-2)
