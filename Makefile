@@ -107,12 +107,7 @@ bench: native lib
 	@bench/run
 
 vectors:
-	@python3 vectors/c40_cases.py crates/vectors_c40
-	@python3 vectors/der_cases.py crates/vectors_numbers numbers
-	@python3 vectors/der_cases.py crates/vectors_signatures signatures
-	@python3 -B vectors/seal_cases.py crates/vectors_seals
-	@python3 -B vectors/write_cases.py crates/vectors_writing
-	@python3 -B vectors/listing_cases.py crates/vectors_listing
+	@python3 -B vectors/all_cases.py crates/vectors
 
 # Builds nothing, so that it can be run by another user than the one who built. Each call has a page that leads to the
 # library's.

@@ -1,15 +1,11 @@
 """Reference for the C40 text codec (Doc 9303-13, 2.6 and Appendix C) and the test cases made from it.
 
-Usage: c40_cases.py D    writes D/data/cases and D/stdout.
-
 The reference never splits a pair by division. The pair of three values (a, b, c) is
 1600a + 40b + c + 1, which is the place of (a, b, c) when all triples of the forty symbols are
 counted in dictionary order from 1. So the pairs are counted out, and reading looks them up.
 """
 import itertools
-import pathlib
 import re
-import sys
 
 # ---- The reference --------------------------------------------------------------------------
 MOST_BYTES, MOST_CHARACTERS = 4096, 6144
@@ -227,7 +223,8 @@ def answer_to(line):
     return result
 
 
-def main(directory):
+def chapters():
+    """The one chapter: no name, the lines of its cases, and of their answers."""
     check_reference()
     cases, answers = [], []
     for heading, members in FAMILIES:
@@ -236,12 +233,5 @@ def main(directory):
             cases.append(case_line(letter, room, pieces))
             assert answer_to(cases[-1]) == expected, (cases[-1], expected)   # family and reference agree
             answers.append(answer_line(*expected))
-    assert len(answers) >= 120 and max(map(len, cases)) <= 300 and len("\n".join(cases)) < 59999
-    pathlib.Path(directory, "data").mkdir(parents=True, exist_ok=True)
-    pathlib.Path(directory, "data/cases").write_bytes("\n".join(cases + [""]).encode("ascii"))
-    pathlib.Path(directory, "stdout").write_bytes("\n".join(answers + [""]).encode("ascii"))
-    print(len(answers), "cases")
-
-
-if __name__ == "__main__":
-    main(sys.argv[1])
+    assert len(answers) >= 120 and max(map(len, cases)) <= 300
+    yield "", cases, answers

@@ -1,15 +1,10 @@
 """Reference for dates, DER lengths, INTEGERs and signature forms (Doc 9303-13, 2.3.1, B) and cases made from it.
 
-Usage: der_cases.py D numbers       writes D/data/cases and D/stdout with the dates, lengths and INTEGERs;
-       der_cases.py D signatures    with the signature forms and the choice of hash.
-
 The reference never checks the rules of strict reading one by one. A date is a text of eight digits. A strict form is
 read by guessing what it means, trusting no length in it, and asking whether the guess is written as these bytes.
 """
 import itertools
-import pathlib
 import re
-import sys
 
 # ---- The reference --------------------------------------------------------------------------
 LIMIT = 2 ** 63
@@ -328,7 +323,8 @@ def answer_to(line):
     return filled(answer)
 
 
-def main(directory, part):
+def chapters(part):
+    """The one chapter of a part, `numbers` or `signatures`: no name, the lines of its cases, and of their answers."""
     found = {date_of(10000 * k + year) for k in range(10000) for year in (0, 1, 9999)}
     assert found - {None} == set(itertools.product(range(1, 13), range(1, 32), (1, 9999)))
     kinds = [read_length(k.to_bytes(2, "big"))[:3] for k in range(65536)]
@@ -340,13 +336,5 @@ def main(directory, part):
     for line, answer in members:
         assert answer_to(line) == answer, (line, answer, answer_to(line))   # family and reference agree
     lines = [line for heading, cases in chosen if cases for line in ("# " + heading, *(line for line, _ in cases))]
-    for name, lines in (("data/cases", lines), ("stdout", [answer for _, answer in members])):
-        path = pathlib.Path(directory, name)
-        path.parent.mkdir(parents=True, exist_ok=True)
-        path.write_bytes("\n".join(lines + [""]).encode("ascii"))
-        assert path.stat().st_size < 60000 and max(map(len, lines)) <= 300, (name, path.stat().st_size)
-    print(len(members), "cases:", {letter: sum(line[0] == letter for line, _ in members) for letter in PARTS[part]})
-
-
-if __name__ == "__main__":
-    main(*sys.argv[1:])
+    assert max(map(len, lines)) <= 300
+    yield "", lines, [answer for _, answer in members]

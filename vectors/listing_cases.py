@@ -1,14 +1,11 @@
 """The cases of the listing, made from document 01 by way of the reference in seals.py.
 
-Usage: listing_cases.py D    writes the files of cases in D/data, one a chapter, and D/stdout.
-
 What is listed is stated from what a seal was put together from, or from the part that was made wrong, and the reference must
 agree; only where a heading says "by the reference" is the verdict the reference's alone. The lines are document 01's example
 with the fields put in.
 """
 import functools
 import pathlib
-import sys
 
 from seal_cases import A, B, FULL, H, LONGEST, PLAIN, VERSIONS, VISA, enter
 from seals import MOST, SIZES, Seal, c40, cuts, ended, good, judge, mixed_cases, padded, refused, wrong
@@ -89,11 +86,10 @@ def listing(answer):
     return "".join(line + "\n" for line in lines)
 
 
-def main(directory):
+def chapters():
+    """Each chapter: its name, the lines of its cases, and of their answers, the listings."""
     example = pathlib.Path(__file__).parent.parent / "crates/list/stdout"
     assert listing(judge(A.data())) == example.read_text("ascii")
-    folder, replies, count = pathlib.Path(directory, "data"), "", 0
-    folder.mkdir(parents=True, exist_ok=True)
     for chapter, families in CHAPTERS.items():
         lines, answers = [], []
         for heading, cases in families:
@@ -103,15 +99,5 @@ def main(directory):
                 text = listing(answer)
                 assert len(data) < 8192 and len(text) <= 8562
                 lines.append("l" + runs(data))
-                answers.append(f"{text}{len(text)} kept\n")
-            print(f"{chapter:9} {len(cases):4}  {heading[:96]}")
-        for text in ("\n".join(lines), "".join(answers)):
-            assert len(text) < 65535, (chapter, len(text))     # a buffer of the program
-        (folder / chapter).write_bytes("\n".join(lines + [""]).encode("ascii"))
-        replies, count = replies + "".join(answers), count + len(answers)
-    pathlib.Path(directory, "stdout").write_bytes(replies.encode("ascii"))
-    print(count, "cases in", len(CHAPTERS), "files")
-
-
-if __name__ == "__main__":
-    main(sys.argv[1])
+                answers.append(f"{text}{len(text)} kept")
+        yield chapter, lines, answers

@@ -1,15 +1,11 @@
 """The cases of the reader, made from document 01 by way of the reference in seals.py.
 
-Usage: seal_cases.py D    writes the files of cases in D/data, one a chapter, and D/stdout.
-
 Where a seal is put together from parts, the case's answer is stated from what was put together (this part was made wrong, so
 the answer is its number at its place), and the reference must agree. Only where a heading says "by the reference" is the
 answer the reference's alone.
 """
 import functools
-import pathlib
 import re
-import sys
 
 from c40_cases import CHART, PAIR_OF, S0, S1, S2
 from seals import Answer, MOST, SIZES, Seal, c40, cuts, ended, good, judge, mixed_cases, padded, read, refused, wrong
@@ -367,10 +363,9 @@ def check_reference():
     assert Seal(3, country="D<<").parts["country"] == H("6ABC") and len(PLAIN[3].data()) == 76 and LONGEST.at("end") == 186
 
 
-def main(directory):
+def chapters():
+    """Each chapter: its name, the lines of its cases, and of their answers."""
     check_reference()
-    folder, answers = pathlib.Path(directory, "data"), []
-    folder.mkdir(parents=True, exist_ok=True)
     for chapter, families in CHAPTERS.items():
         lines, replies = [], []
         for heading, cases in families:
@@ -379,14 +374,4 @@ def main(directory):
                 assert read(data, table, room) == answer, (heading, data.hex(), answer, read(data, table, room))
                 lines.append(case_line(data, table, room))
                 replies.append(answer_line(data, answer))
-            print(f"{chapter:9} {len(cases):4}  {heading[:96]}")
-        for text in (lines, replies):
-            assert len("\n".join(text)) < 65535, (chapter, len("\n".join(text)))     # a buffer of the program
-        (folder / chapter).write_bytes("\n".join(lines + [""]).encode("ascii"))
-        answers += replies
-    pathlib.Path(directory, "stdout").write_bytes("\n".join(answers + [""]).encode("ascii"))
-    print(len(answers), "cases in", len(CHAPTERS), "files")
-
-
-if __name__ == "__main__":
-    main(sys.argv[1])
+        yield chapter, lines, replies

@@ -1,7 +1,5 @@
 """The cases of the writer, made from document 01 by way of the reference in writing.py.
 
-Usage: write_cases.py D    writes the files of cases in D/data, one a chapter, and D/stdout.
-
 A case's answer is stated from how it was made (this was given wrong, so the answer is its number; these parts were given, so
 the answer is the seal put together from them), and the reference must agree. Only where a heading says "by the reference" is
 the answer the reference's alone. Every seal written must also read as what was given, by the reading of seals.py. The seals
@@ -9,8 +7,6 @@ that are read and written back are those of seal_cases.py that answer 0.
 """
 import functools
 import itertools
-import pathlib
-import sys
 
 import seal_cases
 from der_cases import filled, length_bytes
@@ -251,7 +247,6 @@ def written():
                 check(given, answer, heading)
                 lines.append(case_line(given))
                 answers.append(filled(answer))
-            print(f"{chapter:9} {len(cases):4}  {heading[:96]}")
         yield chapter, lines, answers
 
 
@@ -269,24 +264,11 @@ def written_back():
         lines.append(line)
         answers.append(answer)
     yield f"back{name}", lines, answers
-    print(f"back      {len(seals):4}  {head[2:]}")
 
 
-def main(directory):
+def chapters():
+    """Each chapter: its name, the lines of its cases, and of their answers."""
     assert A.data() == SEAL_A and Seal(3, country="D<<").parts["country"] == H("6ABC") and length_bytes(128) == H("8180")
     for reference, form in (("00001", "D9B75E6A19A519C9"), ("7", "D9B75E66FE38")):
         assert H(form) in Seal(4, reference=reference).data()
-    folder, total, names = pathlib.Path(directory, "data"), [], []
-    folder.mkdir(parents=True, exist_ok=True)
-    for name, lines, answers in itertools.chain(written(), written_back()):
-        for text in (lines, answers):
-            assert len("\n".join(text)) < 65535, (name, len("\n".join(text)))      # a buffer of the program
-        (folder / name).write_bytes("\n".join(lines + [""]).encode("ascii"))
-        total += answers
-        names.append(name)
-    pathlib.Path(directory, "stdout").write_bytes("\n".join(total + [""]).encode("ascii"))
-    print(len(total), "cases in", len(names), "files:", *names)
-
-
-if __name__ == "__main__":
-    main(sys.argv[1])
+    return itertools.chain(written(), written_back())

@@ -1,5 +1,5 @@
 // What each call answers, as the C face tells it: the number, the place and the count or value of every case of the answer enums. The tables stand here once,
-// for the exported calls of `capi` and for the programs that run cases.
+// for the exported calls of `capi` and for the cases that are run.
 mod numbers;
 mod seals;
 mod signatures;

@@ -16,24 +16,6 @@ const FILLING: u8 = 0x5A;
 // The most bytes of room that a case gives; 16 guard bytes more stand past them.
 pub const MOST: usize = 7000;
 
-// What a call answered that fills a buffer, in numbers.
-pub struct Answer {
-    pub number: usize,
-    pub place: usize,
-    pub count: usize,
-}
-
-// An answer of these three numbers.
-pub fn answer_of(number: usize, place: usize, count: usize) -> Answer
-    ensures { λ r. ⌜ (r .number ≡ number) × ((r .place ≡ place) × (r .count ≡ count)) ⌝ }
-{
-    Answer {
-        number,
-        place,
-        count,
-    }
-}
-
 // Room for the largest case and the guard bytes past it, all filled.
 pub fn filled() -> [u8; 7016]
     ensures { λ r. ⌜ r ≡ replicate 7016 0x5A ⌝ }
@@ -77,9 +59,9 @@ pub fn put_filled(buffer: &[u8], count: usize, out: &mut [u8], to: usize) -> usi
 }
 
 // Puts down the line of a call that fills a buffer and answers no place.
-pub fn put_call(a: Answer, buffer: &[u8], out: &mut [u8], to: usize) -> usize
-    ensures { λ r. ⌜ Put (now (out .entry)) to (decimalOf (a .number) ++ filledLine (now (buffer .entry)) (a .count)) (now (out .exit)) r ⌝ }
+pub fn put_call(number: usize, count: usize, buffer: &[u8], out: &mut [u8], to: usize) -> usize
+    ensures { λ r. ⌜ Put (now (out .entry)) to (decimalOf number ++ filledLine (now (buffer .entry)) count) (now (out .exit)) r ⌝ }
 {
-    let o = put_number(out, to, a.number);
-    put_filled(buffer, a.count, out, o)
+    let o = put_number(out, to, number);
+    put_filled(buffer, count, out, o)
 }

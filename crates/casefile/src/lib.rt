@@ -1,10 +1,8 @@
-// What the programs share that run the cases of a data file: a case is a line of text, and so is its answer.
+// What the crates share that run a line of a file of cases: a case is a line of text, and so is its answer.
 mod fill;
 mod line;
 
-pub use fill::Answer;
 pub use fill::MOST;
-pub use fill::answer_of;
 pub use fill::filled;
 pub use fill::put_call;
 pub use fill::put_filled;

@@ -1,0 +1,88 @@
+-- `case_listing::run_case` meets its contract: each part goes on where the one before ended, and the count lies within the text.
+-- Assumes nothing.
+use borrow.Author.Needs.{needs}
+use Rattle.lines.specs.Line.{Counts}
+use Rattle.casefile.specs.Line.Laws.{within-more}
+use Rattle.listing.specs.Listed.Laws.{listed-counts, listed-length}
+use Rattle.case_listing.proofs.run_case.Statement.{statement}
+use Rattle.case_listing.proofs.run_case.Tie as tie
+
+list-requires : tie.Need-list-requires
+list-requires c κs = search needs
+
+listed : (c : tie.After-list) → Counts (c .list .result) (c .list .last .1 .0)
+listed c = listed-counts _ _ _ (c .list .ensures .1 .0) _ (c .list .ensures .0)
+
+array-share-prefix-text : tie.Need-array-share-prefix-text
+array-share-prefix-text c = listed (c .before) .0
+
+slice-aggregate-put-text : tie.Need-slice-aggregate-put-text
+slice-aggregate-put-text c = listed (c .before .before) .1
+
+put-text-requires : tie.Need-put-text-requires
+put-text-requires c κs = search needs
+
+put-number-requires : tie.Need-put-number-requires
+put-number-requires c κs = search needs
+
+slice-aggregate-unchanged : tie.Need-slice-aggregate-unchanged
+slice-aggregate-unchanged c =
+    let called = c .before .before .before .before .before .before .before .before .before .before .list in
+    listed-length _ _ _ (called .ensures .1 .0) (called .ensures .1 .1 .0)
+
+unchanged-requires : tie.Need-unchanged-requires
+unchanged-requires c κs = search needs
+
+slice-aggregate-put-text-2 : tie.Need-slice-aggregate-put-text-2
+slice-aggregate-put-text-2 c = search needs
+
+put-text-requires-2 : tie.Need-put-text-requires-2
+put-text-requires-2 c κs = search needs
+
+same-length : tie.Need-same-length
+same-length c = search needs
+
+returns : tie.Need-returns
+returns c =
+    let last = c .before .before in
+    let number = last .before .before .before .before .before .before .before .before in
+    let text = number .before .before .before .before in
+    within-more _ _ _ _ _ (text .put-text .ensures .within) (text .put-text .kept .0)
+    (within-more _ _ _ _ _ (number .put-number .ensures .within) (number .put-number .kept .0) (last .put-text2 .ensures .within))
+
+slice-aggregate-put-text-3 : tie.Need-slice-aggregate-put-text-3
+slice-aggregate-put-text-3 c = search needs
+
+put-text-requires-3 : tie.Need-put-text-requires-3
+put-text-requires-3 c κs = search needs
+
+same-length-2 : tie.Need-same-length-2
+same-length-2 c = search needs
+
+returns-2 : tie.Need-returns-2
+returns-2 c =
+    let last = c .before .before in
+    let number = last .before .before .before .before .before .before .before .before in
+    let text = number .before .before .before .before in
+    within-more _ _ _ _ _ (text .put-text .ensures .within) (text .put-text .kept .0)
+    (within-more _ _ _ _ _ (number .put-number .ensures .within) (number .put-number .kept .0) (last .put-text3 .ensures .within))
+
+pub run-case-spec : {M : Type 1} → statement M
+run-case-spec =
+    tie.close
+    (tie.spec
+    list-requires
+    array-share-prefix-text
+    slice-aggregate-put-text
+    put-text-requires
+    put-number-requires
+    slice-aggregate-unchanged
+    unchanged-requires
+    slice-aggregate-put-text-2
+    put-text-requires-2
+    same-length
+    returns
+    slice-aggregate-put-text-3
+    put-text-requires-3
+    same-length-2
+    returns-2)

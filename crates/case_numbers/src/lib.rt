@@ -1,0 +1,184 @@
+// A case of dates, DER lengths or INTEGERs, and the line of its answer: what was answered, and on `j` what was written.
+ghost use Prim.Native.Nat.{_≤_};
+ghost use lib.ListN.{length};
+ghost use Rattle.casefile.specs.Line.{Within};
+use casefile::put;
+use casefile::put_answer;
+use casefile::put_call;
+use casefile::put_number;
+use casefile::put_text;
+use dates::Date;
+use der::Length;
+use face::FrDated;
+use face::FrInteger;
+use face::FrNumbered;
+
+// Puts down the date of a number: month, day and year.
+fn put_taken(taken: FrDated, out: &mut [u8], to: usize) -> usize
+    ensures { λ r. ⌜ Within (now (out .entry)) to r ⌝ }
+{
+    let date = taken.date;
+    put_answer(out, to, taken.number, &[date.month, date.day, date.year])
+}
+
+// Puts down the number of a date.
+fn put_numbered(numbered: FrNumbered, out: &mut [u8], to: usize) -> usize
+    ensures { λ r. ⌜ Within (now (out .entry)) to r ⌝ }
+{
+    put_answer(out, to, numbered.number, &[numbered.value])
+}
+
+// Puts down a length that was read, and the width of its form.
+fn put_length(length: Length, out: &mut [u8], to: usize) -> usize
+    ensures { λ r. ⌜ Within (now (out .entry)) to r ⌝ }
+{
+    match length {
+        Length::Is(size, width) => put_size(size, width, out, to),
+        Length::Cut => put_text(out, to, b"cut\n"),
+        Length::Malformed => put_text(out, to, b"malformed\n"),
+    }
+}
+
+// The line of a good length.
+fn put_size(size: usize, width: usize, out: &mut [u8], to: usize) -> usize
+    ensures { λ r. ⌜ Within (now (out .entry)) to r ⌝ }
+{
+    let mut o = put_text(out, to, b"length ");
+    o = put_number(out, o, size);
+    o = put_text(out, o, b" width ");
+    o = put_number(out, o, width);
+    put(out, o, b'\n')
+}
+
+// Puts down an INTEGER that was read.
+fn put_reading(reading: FrInteger, out: &mut [u8], to: usize) -> usize
+    ensures { λ r. ⌜ Within (now (out .entry)) to r ⌝ }
+{
+    let mut o = put_number(out, to, reading.number);
+    o = put(out, o, b' ');
+    o = put_signed(reading.value, out, o);
+    put(out, o, b'\n')
+}
+
+// Puts down a number with its sign. One more than a negative number has a magnitude that fits, also of the least.
+fn put_signed(value: i64, out: &mut [u8], to: usize) -> usize
+    ensures { λ r. ⌜ Within (now (out .entry)) to r ⌝ }
+{
+    if value < 0 {
+        let below = -(value + 1);
+        let o = put(out, to, b'-');
+        return put_number(out, o, below as usize + 1);
+    }
+    put_number(out, to, value as usize)
+}
+
+// A number, but at most the largest that is signed.
+fn at_most(number: usize) -> usize
+    ensures { λ r. ⌜ r ≤ 9223372036854775807 ⌝ }
+{
+    if number <= 9223372036854775807 {
+        number
+    } else {
+        9223372036854775807
+    }
+}
+
+// The negative number of a magnitude, taken from one less, since the least number's does not fit.
+fn negative(magnitude: usize) -> i64 {
+    if magnitude == 0 {
+        return 0;
+    }
+    let below = at_most(magnitude - 1);
+    -(below as i64) - 1
+}
+
+// The number at a place of a line, which may have a `-` before it.
+fn signed(line: &[u8], from: usize) -> i64 {
+    if from < line.len() {
+        if line[from] == b'-' {
+            return negative(casefile::number(line, from + 1).value);
+        }
+    }
+    at_most(casefile::number(line, from).value) as i64
+}
+
+// `d NUMBER`: the date of a number.
+fn run_date(line: &[u8], out: &mut [u8], to: usize) -> usize
+    ensures { λ r. ⌜ Within (now (out .entry)) to r ⌝ }
+{
+    let number = casefile::number(line, 2);
+    put_taken(
+        answers::date_taken(Date::from_number(number.value)),
+        out,
+        to,
+    )
+}
+
+// `n MONTH DAY YEAR`: the number of a date.
+fn run_number(line: &[u8], out: &mut [u8], to: usize) -> usize
+    ensures { λ r. ⌜ Within (now (out .entry)) to r ⌝ }
+{
+    let month = casefile::number(line, 2);
+    let day = casefile::number(line, month.next + 1);
+    let year = casefile::number(line, day.next + 1);
+    let date = Date {
+        month: month.value,
+        day: day.value,
+        year: year.value,
+    };
+    put_numbered(answers::date_numbered(date.number()), out, to)
+}
+
+// `l RUNS` reads a length, and `i RUNS` an INTEGER.
+fn run_bytes(kind: u8, line: &[u8], out: &mut [u8], to: usize) -> usize
+    ensures { λ r. ⌜ Within (now (out .entry)) to r ⌝ }
+{
+    let mut input = [0u8; 4096];
+    let size = casefile::runs(line, 1, &mut input);
+    if kind == b'l' {
+        return put_length(der::read_length(&input[..size]), out, to);
+    }
+    put_reading(
+        answers::integer_read(integers::read(&input[..size])),
+        out,
+        to,
+    )
+}
+
+// Writes an INTEGER with the first `room` bytes of the buffer lent.
+fn run_write(value: i64, room: usize, buffer: &mut [u8], out: &mut [u8], to: usize) -> usize
+    requires { ⌜ room ≤ length (now buffer) ⌝ }
+    ensures { λ r. ⌜ Within (now (out .entry)) to r ⌝ }
+{
+    let a = answers::integer_written(integers::write(value, &mut buffer[..room]));
+    put_call(a.number, a.count, buffer, out, to)
+}
+
+// `j ROOM VALUE`: writing an INTEGER.
+fn run_value(line: &[u8], out: &mut [u8], to: usize) -> usize
+    ensures { λ r. ⌜ Within (now (out .entry)) to r ⌝ }
+{
+    let number = casefile::number(line, 2);
+    let room = number.value;
+    if casefile::MOST < room {
+        return put_text(out, to, b"too much room\n");
+    }
+    let value = signed(line, number.next + 1);
+    let mut buffer = casefile::filled();
+    run_write(value, room, &mut buffer, out, to)
+}
+
+// Runs the case of a line, by its letter; any other line is a comment and gives nothing.
+pub fn run_line(line: &[u8], out: &mut [u8], to: usize) -> usize
+    ensures { λ r. ⌜ Within (now (out .entry)) to r ⌝ }
+{
+    let kind = casefile::at(line, 0);
+    match kind {
+        b'd' => run_date(line, out, to),
+        b'n' => run_number(line, out, to),
+        b'l' => run_bytes(kind, line, out, to),
+        b'i' => run_bytes(kind, line, out, to),
+        b'j' => run_value(line, out, to),
+        _ => to,
+    }
+}

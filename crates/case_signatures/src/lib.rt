@@ -1,0 +1,71 @@
+// A case of the signature forms or of the choice of hash, and the line of its answer: what was answered and written.
+ghost use Prim.Native.Nat.{_≤_};
+ghost use lib.ListN.{length};
+ghost use Rattle.casefile.specs.Line.{Within};
+use casefile::put_answer;
+use casefile::put_call;
+use casefile::put_text;
+use face::FrFilled;
+
+// Makes the call that a case asks for: `e` to DER, and anything else to raw.
+fn call(kind: u8, n: usize, input: &[u8], room: &mut [u8]) -> FrFilled {
+    if kind == b'e' {
+        return answers::der_written(ecdsa::to_der(n, input, room));
+    }
+    answers::raw_written(ecdsa::to_raw(n, input, room))
+}
+
+// Runs one case with the first `room` bytes of the buffer lent to the call.
+fn run_case(
+    kind: u8,
+    n: usize,
+    input: &[u8],
+    room: usize,
+    buffer: &mut [u8],
+    out: &mut [u8],
+    to: usize,
+) -> usize
+    requires { ⌜ room ≤ length (now buffer) ⌝ }
+    ensures { λ r. ⌜ Within (now (out .entry)) to r ⌝ }
+{
+    let a = call(kind, n, input, &mut buffer[..room]);
+    put_call(a.number, a.count, buffer, out, to)
+}
+
+// `e N ROOM RUNS` and `f N ROOM RUNS`: a signature of size N to its other form.
+fn run_form(kind: u8, line: &[u8], out: &mut [u8], to: usize) -> usize
+    ensures { λ r. ⌜ Within (now (out .entry)) to r ⌝ }
+{
+    let n = casefile::number(line, 2);
+    let number = casefile::number(line, n.next + 1);
+    let room = number.value;
+    if casefile::MOST < room {
+        return put_text(out, to, b"too much room\n");
+    }
+    let mut input = [0u8; 4096];
+    let size = casefile::runs(line, number.next, &mut input);
+    let mut buffer = casefile::filled();
+    run_case(kind, n.value, &input[..size], room, &mut buffer, out, to)
+}
+
+// `h N`: the hash that goes with N, by its bits.
+fn run_hash(line: &[u8], out: &mut [u8], to: usize) -> usize
+    ensures { λ r. ⌜ Within (now (out .entry)) to r ⌝ }
+{
+    let n = casefile::number(line, 2);
+    let hash = answers::hash_named(ecdsa::hash_for(n.value));
+    put_answer(out, to, hash.number, &[hash.bits])
+}
+
+// Runs the case of a line, by its letter; any other line is a comment and gives nothing.
+pub fn run_line(line: &[u8], out: &mut [u8], to: usize) -> usize
+    ensures { λ r. ⌜ Within (now (out .entry)) to r ⌝ }
+{
+    let kind = casefile::at(line, 0);
+    match kind {
+        b'e' => run_form(kind, line, out, to),
+        b'f' => run_form(kind, line, out, to),
+        b'h' => run_hash(line, out, to),
+        _ => to,
+    }
+}

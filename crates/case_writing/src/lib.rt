@@ -1,0 +1,282 @@
+// A case of the writer, and the line of its answer: the number, the count, whether every byte past the count was kept, and the bytes written.
+// A seal that is read and written back has before that whether it came back the same.
+ghost use mathlib.Core.Path.{_≡_};
+ghost use Prim.Native.Nat.{_≤_};
+ghost use lib.ListN.{length, take};
+ghost use Rattle.casefile.specs.Line.{Within, Counts};
+ghost use Rattle.case_writing.specs.Back.{Tells};
+use casefile::Decimal;
+use casefile::at;
+use casefile::put_call;
+use casefile::put_text;
+use dates::Date;
+use face::FrFilled;
+use items::Header;
+use reader::Reading;
+
+// The greatest number that a header or a row can have.
+const GREATEST: usize = 18446744073709551615;
+
+// The place after the first such letter, or the end: where a part of a case stands.
+fn after(line: &[u8], letter: u8) -> usize
+    ensures { λ r. ⌜ r ≤ length (now (line .entry)) ⌝ }
+{
+    let mut i: usize = 0;
+    while i < line.len() {
+        if line[i] == letter {
+            return i + 1;
+        }
+        i += 1;
+    }
+    i
+}
+
+// The decimal number at a place; after `~` it is counted down from the greatest, which has more digits than are read.
+fn number(line: &[u8], from: usize) -> Decimal
+    ensures { λ r. ⌜ (from ≤ r .next) × Within (now (line .entry)) from (r .next) ⌝ }
+{
+    if from < line.len() {
+        if line[from] == b'~' {
+            let less = casefile::number(line, from + 1);
+            return Decimal {
+                value: GREATEST - less.value,
+                next: less.next,
+            };
+        }
+    }
+    casefile::number(line, from)
+}
+
+// The numbers that stand at a place, each after a space, put at the start of the table as far as it has room, and how many were put there.
+fn numbers(line: &[u8], from: usize, table: &mut [usize]) -> usize
+    ensures { λ r. ⌜ Counts r (now (table .exit)) ⌝ }
+{
+    let mut i = from;
+    let mut count: usize = 0;
+    while i < line.len() {
+        let word = number(line, i + 1);
+        // no digit: the part ends here
+        if word.next == i + 1 {
+            return count;
+        }
+        if count == table.len() {
+            return count;
+        }
+        table[count] = word.value;
+        count += 1;
+        i = word.next;
+    }
+    count
+}
+
+// A header of the numbers of a line: version, L, both dates, definition reference, category.
+fn header_of(n: &[usize; 10], country: [u8; 3]) -> Header {
+    Header {
+        version: n[0],
+        country,
+        length: n[1],
+        issued: Date {
+            month: n[2],
+            day: n[3],
+            year: n[4],
+        },
+        signed: Date {
+            month: n[5],
+            day: n[6],
+            year: n[7],
+        },
+        definition: n[8],
+        category: n[9],
+    }
+}
+
+// Whether a buffer begins with all of a seal.
+fn begins(buffer: &[u8], seal: &[u8]) -> bool
+    ensures { λ r. ⌜ Tells r (take (length (now (seal .entry))) (now (buffer .entry)) ≡ now (seal .entry)) ⌝ }
+{
+    if buffer.len() < seal.len() {
+        return false;
+    }
+    let mut i: usize = 0;
+    while i < seal.len() {
+        if buffer[i] != seal[i] {
+            return false;
+        }
+        i += 1;
+    }
+    true
+}
+
+// Writes with the first `room` bytes of the buffer lent to the writer.
+fn write(
+    header: Header,
+    text: &[u8],
+    rows: &[usize],
+    values: &[u8],
+    signature: &[u8],
+    room: usize,
+    buffer: &mut [u8],
+) -> FrFilled
+    requires { ⌜ room ≤ length (now buffer) ⌝ }
+{
+    answers::written(writer::write(header, text, rows, values, signature, &mut buffer[..room]))
+}
+
+// Runs one case.
+fn run_case(
+    header: Header,
+    text: &[u8],
+    rows: &[usize],
+    values: &[u8],
+    signature: &[u8],
+    room: usize,
+    out: &mut [u8],
+    to: usize,
+) -> usize
+    ensures { λ r. ⌜ Within (now (out .entry)) to r ⌝ }
+{
+    if casefile::MOST < room {
+        return put_text(out, to, b"too much room\n");
+    }
+    let mut buffer = casefile::filled();
+    let a = write(header, text, rows, values, signature, room, &mut buffer);
+    put_call(a.number, a.count, &buffer, out, to)
+}
+
+// `w ROOM h NUMBERS c RUNS t RUNS r NUMBERS v RUNS g RUNS`: the header's numbers, its country, the text, the rows, the values and the signature.
+fn run_given(line: &[u8], out: &mut [u8], to: usize) -> usize
+    ensures { λ r. ⌜ Within (now (out .entry)) to r ⌝ }
+{
+    let mut fields = [0usize; 10];
+    numbers(line, after(line, b'h'), &mut fields);
+    let mut country = [0u8; 3];
+    casefile::runs(line, after(line, b'c'), &mut country);
+    let mut text = [0u8; 400];
+    let size = casefile::runs(line, after(line, b't'), &mut text);
+    let mut rows = [0usize; 800];
+    let count = numbers(line, after(line, b'r'), &mut rows);
+    let mut values = [0u8; 8192];
+    let end = casefile::runs(line, after(line, b'v'), &mut values);
+    let mut signature = [0u8; 8192];
+    let length = casefile::runs(line, after(line, b'g'), &mut signature);
+    let header = header_of(&fields, country);
+    let room = casefile::number(line, 2);
+    run_case(
+        header,
+        &text[..size],
+        &rows[..count],
+        &values[..end],
+        &signature[..length],
+        room.value,
+        out,
+        to,
+    )
+}
+
+// Puts down whether the writer made the seal again, and the line of its answer.
+fn put_back(a: FrFilled, buffer: &[u8], seal: &[u8], out: &mut [u8], to: usize) -> usize
+    ensures { λ r. ⌜ Within (now (out .entry)) to r ⌝ }
+{
+    if begins(buffer, seal) {
+        let o = put_text(out, to, b"same ");
+        return put_call(a.number, a.count, buffer, out, o);
+    }
+    let o = put_text(out, to, b"other ");
+    put_call(a.number, a.count, buffer, out, o)
+}
+
+// Writes with the seal as the values and exactly its room.
+fn write_again(
+    header: Header,
+    text: &[u8],
+    rows: &[usize],
+    signature: &[u8],
+    seal: &[u8],
+    out: &mut [u8],
+    to: usize,
+) -> usize
+    ensures { λ r. ⌜ Within (now (out .entry)) to r ⌝ }
+{
+    let room = seal.len();
+    if casefile::MOST < room {
+        return put_text(out, to, b"too much room\n");
+    }
+    let mut buffer = casefile::filled();
+    let a = write(header, text, rows, seal, signature, room, &mut buffer);
+    put_back(a, &buffer, seal, out, to)
+}
+
+// Writes what was read of a good seal.
+fn write_back(
+    r: Reading,
+    seal: &[u8],
+    table: &[usize],
+    text: &[u8],
+    out: &mut [u8],
+    to: usize,
+) -> usize
+    ensures { λ r. ⌜ Within (now (out .entry)) to r ⌝ }
+{
+    let header = r.header;
+    let length = header.length;
+    let signature = r.signature;
+    if 255 < r.count {
+        return put_text(out, to, b"more than 255 rows\n");
+    }
+    if table.len() < 3 * r.count {
+        return put_text(out, to, b"more rows than the table has\n");
+    }
+    if 255 < length {
+        return put_text(out, to, b"L is over 255\n");
+    }
+    if text.len() < 4 + length {
+        return put_text(out, to, b"more than the text has\n");
+    }
+    let place = signature.place;
+    if seal.len() < place {
+        return put_text(out, to, b"the signature is past the seal\n");
+    }
+    let rest = &seal[place..];
+    let end = signature.length;
+    if rest.len() < end {
+        return put_text(out, to, b"the signature ends past the seal\n");
+    }
+    let rows = 3 * r.count;
+    let size = 4 + length;
+    write_again(
+        header,
+        &text[..size],
+        &table[..rows],
+        &rest[..end],
+        seal,
+        out,
+        to,
+    )
+}
+
+// `b RUNS`: a seal that is read and written back.
+fn run_back(line: &[u8], out: &mut [u8], to: usize) -> usize
+    ensures { λ r. ⌜ Within (now (out .entry)) to r ⌝ }
+{
+    let mut seal = [0u8; 8192];
+    let size = casefile::runs(line, 1, &mut seal);
+    let mut table = [0usize; 765];
+    let mut text = [0u8; 259];
+    let reading = reader::read(&seal[..size], &mut table, &mut text);
+    if reading.number != 0 {
+        return put_text(out, to, b"not read\n");
+    }
+    write_back(reading, &seal[..size], &table, &text, out, to)
+}
+
+// Runs the case of a line, by its letter; any other line is a comment and gives nothing.
+pub fn run_line(line: &[u8], out: &mut [u8], to: usize) -> usize
+    ensures { λ r. ⌜ Within (now (out .entry)) to r ⌝ }
+{
+    let kind = at(line, 0);
+    match kind {
+        b'w' => run_given(line, out, to),
+        b'b' => run_back(line, out, to),
+        _ => to,
+    }
+}
