@@ -188,20 +188,9 @@ fn put_written(r: Reading, table: &[usize], text: &[u8], out: &mut [u8], to: usi
     if r.number != 0 {
         return put_kept(table, 0, text, 0, out, to);
     }
-    let count = r.count;
-    if table.len() / 3 < count {
-        return put_text(out, to, b" more rows than the table has");
-    }
     let header = r.header;
-    let length = header.length;
-    if 255 < length {
-        return put_text(out, to, b" L is over 255");
-    }
-    let rows = 3 * count;
-    let size = 4 + length;
-    if text.len() < size {
-        return put_text(out, to, b" more than the text has");
-    }
+    let rows = casefile::whole_rows(table, r.count);
+    let size = casefile::reach(text, 4, header.length);
     let mut o = put_part(out, to, b" rows", &table[..rows]);
     o = put_text(out, o, b" text ");
     o = put_text(out, o, &text[..size]);

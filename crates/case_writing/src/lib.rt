@@ -218,31 +218,12 @@ fn write_back(
     ensures { λ r. ⌜ Within (now (out .entry)) to r ⌝ }
 {
     let header = r.header;
-    let length = header.length;
     let signature = r.signature;
-    if 255 < r.count {
-        return put_text(out, to, b"more than 255 rows\n");
-    }
-    if table.len() < 3 * r.count {
-        return put_text(out, to, b"more rows than the table has\n");
-    }
-    if 255 < length {
-        return put_text(out, to, b"L is over 255\n");
-    }
-    if text.len() < 4 + length {
-        return put_text(out, to, b"more than the text has\n");
-    }
-    let place = signature.place;
-    if seal.len() < place {
-        return put_text(out, to, b"the signature is past the seal\n");
-    }
+    let size = casefile::reach(text, 4, header.length);
+    let rows = casefile::whole_rows(table, r.count);
+    let place = casefile::reach(seal, 0, signature.place);
     let rest = &seal[place..];
-    let end = signature.length;
-    if rest.len() < end {
-        return put_text(out, to, b"the signature ends past the seal\n");
-    }
-    let rows = 3 * r.count;
-    let size = 4 + length;
+    let end = casefile::reach(rest, 0, signature.length);
     write_again(
         header,
         &text[..size],

@@ -1,8 +1,9 @@
 // The buffer that a call of a case is to fill, and a line's words on what the call left in it.
 ghost use mathlib.Core.Path.{_≡_};
 ghost use mathlib.Core.List.{_++_};
-ghost use lib.ListN.{replicate};
-ghost use Rattle.casefile.specs.Line.{Put, decimalOf};
+ghost use Prim.Native.Nat.{_+_, _*_, _/_, min};
+ghost use lib.ListN.{length, replicate};
+ghost use Rattle.casefile.specs.Line.{Put, Counts, decimalOf};
 ghost use Rattle.casefile.specs.Fill.{keptWords, writtenWords, filledLine};
 use crate::line::put_bytes;
 use crate::line::unchanged;
@@ -21,6 +22,33 @@ pub fn filled() -> [u8; 7016]
     ensures { λ r. ⌜ r ≡ replicate 7016 0x5A ⌝ }
 {
     [FILLING; 7016]
+}
+
+// The place so many bytes past another, or the end: what a call says of a buffer is looked at as far as there is any.
+pub fn reach(buffer: &[u8], from: usize, size: usize) -> usize
+    ensures { λ r. ⌜ Counts r (now (buffer .entry)) ⌝ }
+    ensures { λ r. ⌜ r ≡ min (from + size) (length (now (buffer .entry))) ⌝ }
+{
+    let end = buffer.len();
+    if end <= from {
+        return end;
+    }
+    if end - from <= size {
+        return end;
+    }
+    from + size
+}
+
+// How many numbers of a table so many rows take, or all its whole rows.
+pub fn whole_rows(table: &[usize], count: usize) -> usize
+    ensures { λ r. ⌜ Counts r (now (table .entry)) ⌝ }
+    ensures { λ r. ⌜ r ≡ 3 * min count (length (now (table .entry)) / 3) ⌝ }
+{
+    let most = table.len() / 3;
+    if most <= count {
+        return 3 * most;
+    }
+    3 * count
 }
 
 // Puts down whether the call left every byte past the count alone, the guard bytes too.

@@ -6,6 +6,8 @@ pub use fill::MOST;
 pub use fill::filled;
 pub use fill::put_call;
 pub use fill::put_filled;
+pub use fill::reach;
+pub use fill::whole_rows;
 pub use line::checksum;
 pub use line::put_answer;
 pub use line::put_bytes;
