@@ -14,7 +14,7 @@ pub fn text_read(answer: Reading) -> FrFilled
         Reading::Done(count) => FrFilled::done(count),
         Reading::TooLong => FrFilled::refused(45, 0),
         Reading::Odd(at) => FrFilled::refused(40, at),
-        Reading::WrongPair(at) => FrFilled::refused(41, at),
+        Reading::WrongPair(_, at) => FrFilled::refused(41, at),
         Reading::NoRoom => FrFilled::refused(42, 0),
     }
 }

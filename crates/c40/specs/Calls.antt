@@ -49,7 +49,7 @@ abbrev pub readingOf : Reading → Answer
 readingOf (read.Done count) = record { number = 0; place = 0; count = count }
 readingOf read.TooLong = record { number = 45; place = 0; count = 0 }
 readingOf (read.Odd at) = record { number = 40; place = at; count = 0 }
-readingOf (read.WrongPair at) = record { number = 41; place = at; count = 0 }
+readingOf (read.WrongPair fault at) = record { number = 41; place = at; count = 0 }
 readingOf read.NoRoom = record { number = 42; place = 0; count = 0 }
 
 abbrev pub writingOf : Writing → Answer

@@ -19,10 +19,14 @@ use Rattle.c40.specs.Chart.{valueOf, InChart}
 use Rattle.c40.specs.Text.{Text, TextOf, triple, publish, width}
 use Rattle.c40.specs.Text.Laws.{triple-is, length-publish, publish-three, publish-two, publish-one, publish-none}
 use Rattle.c40.specs.Pairs.{pairOf, charsOf}
-use Rattle.c40.specs.Pairs.Laws.{chars-some}
+use Rattle.c40.specs.Pairs.Laws.{chars-some, by-pair}
 use Rattle.c40.specs.Pairs.Exact.{pair-three, pair-two, pair-one, pair-sound}
 use Rattle.c40.specs.Decode.{Decoded, text, wrong, ahead, follow, none, decode}
-use Rattle.c40.specs.Decode.Laws.{follow-good, follow-wrong, ahead-text, wrong-text}
+use Rattle.c40.specs.Decode.Laws.{follow-good, ahead-text, wrong-text}
+use Rattle.c40.specs.declared.decode.Fault.{Fault}
+use Rattle.c40.specs.declared.decode.Fault.the-variants.{WronglyCoded}
+use Rattle.c40.specs.declared.decode.Pair.{Pair}
+use Rattle.c40.specs.declared.decode.Pair.the-variants.{Wrong}
 use Rattle.c40.specs.Calls.{known, reading, writing}
 use Rattle.c40.specs.Calls.Laws.{known-text, text-known, reading-long, reading-odd, reading-wrong, reading-no-room, reading-done, writing-long, writing-stranger, writing-no-room, writing-done}
 
@@ -31,13 +35,13 @@ pub published-decodes : (t : List ℕ) → Text t → (at : ℕ) → decode at (
 unfolding decode
 published-decodes [] h at = ap (decode at) publish-none
 published-decodes (a ∷ []) h at =
-    ap (decode at) (publish-one a) ∙ ap (λ p. follow at (charsOf p) (text [])) (pair-one a (h .0))
+    ap (decode at) (publish-one a) ∙ ap (λ p. follow at p (text [])) (pair-one a (h .0))
 published-decodes (a ∷ b ∷ []) h at =
-    ap (decode at) (publish-two a b ∙ triple-is (valueOf a) (valueOf b) 0) ∙ ap (λ p. follow at (charsOf p) (text [])) (pair-two a b (h .0) (h .1 .0))
+    ap (decode at) (publish-two a b ∙ triple-is (valueOf a) (valueOf b) 0) ∙ ap (λ p. follow at p (text [])) (pair-two a b (h .0) (h .1 .0))
 published-decodes (a ∷ b ∷ c ∷ t) h at =
     let ih = published-decodes t (h .1 .1 .1) (at + 2) in
     ap (decode at) (publish-three a b c t ∙ ap (λ p. p ++ publish t) (triple-is (valueOf a) (valueOf b) (valueOf c)))
-    ∙ ap (λ p. follow at (charsOf p) (decode (at + 2) (publish t))) (pair-three a b c (none (publish t)) (h .0) (h .1 .0) (h .1 .1 .0))
+    ∙ ap (λ p. follow at p (decode (at + 2) (publish t))) (pair-three a b c (none (publish t)) (h .0) (h .1 .0) (h .1 .1 .0))
     ∙ ap (ahead (a ∷ b ∷ c ∷ [])) ih
 
 -- three characters in front are a triple in front
@@ -62,26 +66,24 @@ joined [] p u whole e =
 joined (z ∷ s) p u whole e = three-ahead p u (whole refl) ∙ ap (λ q. publish p ++ q) e
 
 -- one pair, where the rest is settled
-turn : (x y : ℕ) (s : List ℕ) → Byte x → Byte y → (at : ℕ) (t : List ℕ) → follow at (charsOf (pairOf (none s) x y)) (decode (at + 2) s) ≡ text t → ((u : List ℕ) → decode (at + 2) s ≡ text u → Text u × (publish u ≡ s)) → Text t × (publish t ≡ x ∷ y ∷ s)
-turn x y s hx hy at t e rest = by-test (ltb 0 (length p)) some nothing
+turn : (x y : ℕ) (s : List ℕ) → Byte x → Byte y → (at : ℕ) (t : List ℕ) → follow at (pairOf (none s) x y) (decode (at + 2) s) ≡ text t → ((u : List ℕ) → decode (at + 2) s ≡ text u → Text u × (publish u ≡ s)) → Text t × (publish t ≡ x ∷ y ∷ s)
+turn x y s hx hy at t e rest = by-pair pair some nothing
   where
-    p : List ℕ
-    p = charsOf (pairOf (none s) x y)
+    pair : Pair
+    pair = pairOf (none s) x y
 
-    some : ltb 0 (length p) ≡ true → Text t × (publish t ≡ x ∷ y ∷ s)
-    some h =
-        let good = ltb-true 0 (length p) h in
-        let u = ahead-text p (decode (at + 2) s) t (sym (follow-good at p (decode (at + 2) s) good) ∙ e) in
+    some : 0 < length (charsOf pair) → Text t × (publish t ≡ x ∷ y ∷ s)
+    some good =
+        let p = charsOf pair in
+        let u = ahead-text p (decode (at + 2) s) t (sym (follow-good at pair (decode (at + 2) s) good) ∙ e) in
         let r = rest (u .0) (u .1) in
-        let c = pair-sound (none s) x y hx hy (chars-some (pairOf (none s) x y) good) in (
+        let c = pair-sound (none s) x y hx hy (chars-some pair good) in (
           subst (λ v. Text v) (u .2) (all-append InChart p (u .0) (c .is-text) (r .0)),
           ap publish (sym (u .2)) ∙ joined s p (u .0) (c .whole) (r .1) ∙ ap (λ q. q ++ s) (c .form),
         )
 
-    nothing : ltb 0 (length p) ≡ false → Text t × (publish t ≡ x ∷ y ∷ s)
-    nothing h =
-        let low = ltb-false 0 (length p) h in
-        absurd (wrong-text (follow-wrong at p (decode (at + 2) s) (omega arith)) e)
+    nothing : (fault : Fault) → pair ≡ Wrong fault → Text t × (publish t ≡ x ∷ y ∷ s)
+    nothing fault bad = absurd (wrong-text (ap (λ p. follow at p (decode (at + 2) s)) bad) e)
 
 -- what decodes as text is the published form of that text
 pub decodes-published : (s : List ℕ) → Bytes s → (at : ℕ) (t : List ℕ) → decode at s ≡ text t → Text t × (publish t ≡ s)
@@ -89,7 +91,7 @@ unfolding decode
 decodes-published [] bytes at t e =
     let is : [] ≡ t = cc in
     (subst (λ v. Text v) is tt, ap publish (sym is) ∙ publish-none)
-decodes-published (x ∷ []) bytes at t e = absurd (wrong-text {at = at} refl e)
+decodes-published (x ∷ []) bytes at t e = absurd (wrong-text {fault = WronglyCoded} {at = at} refl e)
 decodes-published (x ∷ y ∷ s) bytes at t e =
     let rest = decodes-published s (λ i. bytes (suc (suc i))) (at + 2) in
     turn x y s (bytes 0) (bytes 1) at t e rest
@@ -119,7 +121,7 @@ reads-only-published s room t bytes e =
     never number place h f = omega (arith, ap (λ o. o .number) (sym f ∙ e))
 
     pairs : length s ≤ 4096 → (length s % 2 ≡ 1 → ⊥) → (d : Decoded) → decode 0 s ≡ d → Text t × (publish t ≡ s) × (length s ≤ 4096) × (length t ≤ room)
-    pairs size even (wrong at) f = absurd (never 41 at (omega arith) (reading-wrong s room size even at f))
+    pairs size even (wrong fault at) f = absurd (never 41 at (omega arith) (reading-wrong s room size even fault at f))
     pairs size even (text u) f =
         by-test (ltb room (length u))
         (λ short. absurd (never 42 0 (omega arith) (reading-no-room s room size even u f (ltb-true room (length u) short))))

@@ -10,6 +10,11 @@ ghost use Rattle.c40.specs.Decode.{decode, judgedOf, textOf, Even, Good}
 use crate::chart::value_of;
 use octets::wide;
 
+// What is wrong with a pair of bytes: one kind, which 41 tells.
+pub enum Fault {
+    WronglyCoded,
+}
+
 // What a pair of bytes carries.
 pub enum Pair {
     Three(u8, u8, u8),
@@ -17,7 +22,8 @@ pub enum Pair {
     Two(u8, u8),
     // one character, which only the last pair may carry
     One(u8),
-    Wrong,
+    // no characters, but what is wrong
+    Wrong(Fault),
 }
 
 // Three values below 40.
@@ -27,10 +33,10 @@ pub struct Values {
     pub c: usize,
 }
 
-// What all pairs together carry: so many characters, or the place of the first pair that is wrongly coded.
+// What all pairs together carry: so many characters, or the fault of the first pair that is wrongly coded, and its place.
 pub enum Judged {
     Text(usize),
-    Wrong(usize),
+    Wrong(Fault, usize),
 }
 
 // The three values of a pair's number, 1 to 64,000 (Doc 9303-13, 2.6.2).
@@ -52,17 +58,17 @@ pub(crate) fn single(chart: &[u8; 40], x: u8, y: u8, last: bool) -> Pair
     ensures { λ r. ⌜ r ≡ pairOf last x y ⌝ }
 {
     if x != 0xFE {
-        return Pair::Wrong;
+        return Pair::Wrong(Fault::WronglyCoded);
     }
     if !last {
-        return Pair::Wrong;
+        return Pair::Wrong(Fault::WronglyCoded);
     }
     if y == 0 {
-        return Pair::Wrong;
+        return Pair::Wrong(Fault::WronglyCoded);
     }
     let c = y - 1;
     if chart[value_of(c)] != c {
-        return Pair::Wrong;
+        return Pair::Wrong(Fault::WronglyCoded);
     }
     Pair::One(c)
 }
@@ -74,7 +80,7 @@ pub(crate) fn pair_of(chart: &[u8; 40], x: u8, y: u8, last: bool) -> Pair
 {
     let number = wide(x) * 256 + wide(y);
     if number == 0 {
-        return Pair::Wrong;
+        return Pair::Wrong(Fault::WronglyCoded);
     }
     if 64000 < number {
         return single(chart, x, y, last);
@@ -84,10 +90,10 @@ pub(crate) fn pair_of(chart: &[u8; 40], x: u8, y: u8, last: bool) -> Pair
     let b = v.b;
     let c = v.c;
     if a < 3 {
-        return Pair::Wrong;
+        return Pair::Wrong(Fault::WronglyCoded);
     }
     if b < 3 {
-        return Pair::Wrong;
+        return Pair::Wrong(Fault::WronglyCoded);
     }
     if 3 <= c {
         return Pair::Three(chart[a], chart[b], chart[c]);
@@ -97,7 +103,7 @@ pub(crate) fn pair_of(chart: &[u8; 40], x: u8, y: u8, last: bool) -> Pair
             return Pair::Two(chart[a], chart[b]);
         }
     }
-    Pair::Wrong
+    Pair::Wrong(Fault::WronglyCoded)
 }
 
 // How many characters a pair carries; none where it is wrongly coded.
@@ -108,7 +114,7 @@ pub(crate) fn carried(pair: Pair) -> usize
         Pair::Three(_, _, _) => 3,
         Pair::Two(_, _) => 2,
         Pair::One(_) => 1,
-        Pair::Wrong => 0,
+        Pair::Wrong(_) => 0,
     }
 }
 
@@ -121,11 +127,11 @@ pub(crate) fn judge(chart: &[u8; 40], bytes: &[u8]) -> Judged
     let mut i: usize = 0;
     let mut count: usize = 0;
     while i < n {
-        let k = carried(pair_of(chart, bytes[i], bytes[i + 1], i + 2 == n));
-        if k == 0 {
-            return Judged::Wrong(i);
+        let pair = pair_of(chart, bytes[i], bytes[i + 1], i + 2 == n);
+        if let Pair::Wrong(fault) = pair {
+            return Judged::Wrong(fault, i);
         }
-        count += k;
+        count += carried(pair);
         i += 2;
     }
     Judged::Text(count)
@@ -149,7 +155,7 @@ pub(crate) fn put_pair(pair: Pair, out: &mut [u8], at: usize)
         Pair::One(a) => {
             out[at] = a;
         }
-        Pair::Wrong => {}
+        Pair::Wrong(_) => {}
     }
 }
 

@@ -11,6 +11,7 @@ mod chart;
 mod decode;
 mod encode;
 
+pub use decode::Fault;
 use decode::Judged;
 
 // What reading C40 bytes answers; `readingOf` of specs/Calls.antt gives each case its number and place.
@@ -21,8 +22,8 @@ pub enum Reading {
     TooLong,
     // 40: an odd number of bytes, this many
     Odd(usize),
-    // 41: the place of the first pair that is wrongly coded
-    WrongPair(usize),
+    // 41: what is wrong with the first pair that is wrongly coded, and its place
+    WrongPair(Fault, usize),
     // 42: the text does not fit
     NoRoom,
 }
@@ -54,7 +55,7 @@ pub fn read(bytes: &[u8], out: &mut [u8]) -> Reading
     let chart = chart::CHART;
     let judged = decode::judge(&chart, bytes);
     match judged {
-        Judged::Wrong(at) => Reading::WrongPair(at),
+        Judged::Wrong(fault, at) => Reading::WrongPair(fault, at),
         Judged::Text(count) => {
             if out.len() < count {
                 return Reading::NoRoom;

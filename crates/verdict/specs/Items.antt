@@ -64,7 +64,7 @@ version at s = byte at s (versionIn at)
 -- text of exactly k characters, or none
 abbrev pub exactly : ℕ → Decoded → List ℕ
 exactly k (text t) = pick (eqb (length t) k) t []
-exactly k (wrong at) = []
+exactly k (wrong fault at) = []
 
 -- a field of k characters, 1 or more, that pass a test
 abbrev pub fieldIn : ℕ → (List ℕ → Bool) → ℕ → List ℕ → Item (List ℕ)

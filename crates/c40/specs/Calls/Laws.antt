@@ -14,6 +14,7 @@ use Rattle.c40.specs.Chart.{char, valueOf, InChart}
 use Rattle.format.specs.Answers.{done, refused}
 use Rattle.c40.specs.Text.{Text, publish, width}
 use Rattle.c40.specs.Decode.{Decoded, decode, text, wrong, textOf, isText, wrongAt}
+use Rattle.c40.specs.declared.decode.Fault.{Fault}
 use Rattle.c40.specs.Calls.{known, reading, writing}
 
 known-in : (c : ℕ) (t : List ℕ) → InChart c → known (c ∷ t) ≡ suc (known t)
@@ -73,8 +74,8 @@ module _ (s : List ℕ) (room : ℕ) where
       unfolding reading
       pairs d e = simp (le-leb (length s) 4096 size, eq-eqb (length s % 2) 0 (omega arith), e)
 
-      pub reading-wrong : (at : ℕ) → decode 0 s ≡ wrong at → reading s room ≡ refused 41 at
-      reading-wrong at e = pairs (wrong at) e
+      pub reading-wrong : (fault : Fault) (at : ℕ) → decode 0 s ≡ wrong fault at → reading s room ≡ refused 41 at
+      reading-wrong fault at e = pairs (wrong fault at) e
 
       pub reading-no-room : (t : List ℕ) → decode 0 s ≡ text t → room < length t → reading s room ≡ refused 42 0
       reading-no-room t e h = pairs (text t) e ∙ simp (lt-leb (length t) room h)

@@ -11,43 +11,44 @@ use lib.ListN.{length, getD, drop, length-append, length-drop}
 use Rattle.format.specs.Choice.Laws.{by-test}
 use Rattle.format.specs.Places.{at-place, past-end}
 use Rattle.c40.specs.Pairs.{pairOf, charsOf}
-use Rattle.c40.specs.Pairs.Laws.{pair-full, chars-some}
+use Rattle.c40.specs.Pairs.Laws.{pair-full, chars-some, by-pair}
+use Rattle.c40.specs.declared.decode.Fault.{Fault}
+use Rattle.c40.specs.declared.decode.Pair.{Pair}
+use Rattle.c40.specs.declared.decode.Pair.the-variants.{Three, Two, One, Wrong}
 use Rattle.c40.specs.declared.decode.Judged.the-variants as judged
 use Rattle.c40.specs.Decode.{Decoded, text, wrong, ahead, follow, none, decode, textOf, judgedOf}
 
 pub ahead-nothing : (d : Decoded) → ahead [] d ≡ d
 ahead-nothing (text t) = refl
-ahead-nothing (wrong at) = refl
+ahead-nothing (wrong fault at) = refl
 
 pub ahead-ahead : (p q : List ℕ) (d : Decoded) → ahead p (ahead q d) ≡ ahead (p ++ q) d
 ahead-ahead p q (text t) = ap text (sym (append-assoc p q t))
-ahead-ahead p q (wrong at) = refl
+ahead-ahead p q (wrong fault at) = refl
 
 -- text with characters in front is those characters and text
 pub ahead-text : (p : List ℕ) (d : Decoded) (t : List ℕ) → ahead p d ≡ text t → (u : List ℕ) × (d ≡ text u) × (p ++ u ≡ t)
 ahead-text p (text u) t e = (u, refl, cc)
-ahead-text p (wrong at) t e = let z : _≡_ {A = ℕ} 0 1 = cc in absurd (omega arith)
+ahead-text p (wrong fault at) t e = let z : _≡_ {A = ℕ} 0 1 = cc in absurd (omega arith)
 
-pub wrong-text : {at : ℕ} {t : List ℕ} {d : Decoded} → d ≡ wrong at → d ≡ text t → ⊥
+pub wrong-text : {fault : Fault} {at : ℕ} {t : List ℕ} {d : Decoded} → d ≡ wrong fault at → d ≡ text t → ⊥
 wrong-text e f = let z : _≡_ {A = ℕ} 0 1 = cc in omega arith
 
 -- what the judge said, turned back
-pub judged-wrong : (d : Decoded) (at : ℕ) → judgedOf d ≡ judged.Wrong at → d ≡ wrong at
-judged-wrong (text t) at e = let z : _≡_ {A = ℕ} 0 1 = cc in absurd (omega arith)
-judged-wrong (wrong p) at e = cc
+pub judged-wrong : (d : Decoded) (fault : Fault) (at : ℕ) → judgedOf d ≡ judged.Wrong fault at → d ≡ wrong fault at
+judged-wrong (text t) fault at e = let z : _≡_ {A = ℕ} 0 1 = cc in absurd (omega arith)
+judged-wrong (wrong f p) fault at e = cc
 
 pub judged-text : (d : Decoded) (count : ℕ) → judgedOf d ≡ judged.Text count → (d ≡ text (textOf d)) × (length (textOf d) ≡ count)
 judged-text (text t) count e = (refl, cc)
-judged-text (wrong p) count e = let z : _≡_ {A = ℕ} 0 1 = cc in absurd (omega arith)
+judged-text (wrong f p) count e = let z : _≡_ {A = ℕ} 0 1 = cc in absurd (omega arith)
 
--- a pair that carries characters, and one that does not
-pub follow-good : (at : ℕ) (p : List ℕ) (d : Decoded) → 0 < length p → follow at p d ≡ ahead p d
-follow-good at [] d h = absurd (omega arith)
-follow-good at (x ∷ p) d h = refl
-
-pub follow-wrong : (at : ℕ) (p : List ℕ) (d : Decoded) → length p ≡ 0 → follow at p d ≡ wrong at
-follow-wrong at [] d h = refl
-follow-wrong at (x ∷ p) d h = absurd (omega arith)
+-- a pair that carries characters
+pub follow-good : (at : ℕ) (p : Pair) (d : Decoded) → 0 < length (charsOf p) → follow at p d ≡ ahead (charsOf p) d
+follow-good at (Three a b c) d h = refl
+follow-good at (Two a b) d h = refl
+follow-good at (One a) d h = refl
+follow-good at (Wrong fault) d h = absurd (omega arith)
 
 none-by-length : (s : List ℕ) (n k : ℕ) → length s ≡ n - k → k ≤ n → none s ≡ eqb k n
 none-by-length [] n k e h = sym (eq-eqb k n (omega arith))
@@ -55,14 +56,14 @@ none-by-length (x ∷ s) n k e h = sym (ne-eqb k n (λ f. omega arith))
 
 -- one pair more, at a place; the end
 module _ (s : List ℕ) (i : ℕ) where
-  pub decode-pair : i + 2 ≤ length s → decode i (drop i s) ≡ follow i (charsOf (pairOf (eqb (i + 2) (length s)) (getD s i 0) (getD s (i + 1) 0))) (decode (i + 2) (drop (i + 2) s))
+  pub decode-pair : i + 2 ≤ length s → decode i (drop i s) ≡ follow i (pairOf (eqb (i + 2) (length s)) (getD s i 0) (getD s (i + 1) 0)) (decode (i + 2) (drop (i + 2) s))
   unfolding decode
   decode-pair h =
       let next : i + 1 + 1 ≡ i + 2 = omega arith in
       let two : drop i s ≡ getD s i 0 ∷ getD s (i + 1) 0 ∷ drop (i + 2) s =
       at-place s i 0 (omega arith) ∙ ap (λ t. getD s i 0 ∷ t) (at-place s (i + 1) 0 (omega arith) ∙ ap (λ k. getD s (i + 1) 0 ∷ drop k s) next) in
       let last : none (drop (i + 2) s) ≡ eqb (i + 2) (length s) = none-by-length (drop (i + 2) s) (length s) (i + 2) (length-drop (i + 2) s) h in
-      ap (decode i) two ∙ ap (λ l. follow i (charsOf (pairOf l (getD s i 0) (getD s (i + 1) 0))) (decode (i + 2) (drop (i + 2) s))) last
+      ap (decode i) two ∙ ap (λ l. follow i (pairOf l (getD s i 0) (getD s (i + 1) 0)) (decode (i + 2) (drop (i + 2) s))) last
 
   pub decode-end : length s ≤ i → decode i (drop i s) ≡ text []
   unfolding decode
@@ -87,29 +88,26 @@ pub record Last (s : List ℕ) (i : ℕ) (before t : List ℕ) : Type 0 where
 
 -- a pair's turn: on to the next place, or the answer
 module _ (s : List ℕ) (i : ℕ) (before : List ℕ) (sofar : Sofar s i before) where
-  module _ (h : i + 2 ≤ length s) (pair : List ℕ) (e : pair ≡ charsOf (pairOf (eqb (i + 2) (length s)) (getD s i 0) (getD s (i + 1) 0))) where
+  module _ (h : i + 2 ≤ length s) (pair : Pair) (e : pair ≡ pairOf (eqb (i + 2) (length s)) (getD s i 0) (getD s (i + 1) 0)) where
     turn : decode 0 s ≡ ahead before (follow i pair (decode (i + 2) (drop (i + 2) s)))
     turn = sofar ∙ ap (ahead before) (decode-pair s i h ∙ ap (λ p. follow i p (decode (i + 2) (drop (i + 2) s))) (sym e))
 
-    pub sofar-more : 0 < length pair → Sofar s (i + 2) (before ++ pair)
+    pub sofar-more : 0 < length (charsOf pair) → Sofar s (i + 2) (before ++ charsOf pair)
     sofar-more good =
-        turn ∙ ap (ahead before) (follow-good i pair (decode (i + 2) (drop (i + 2) s)) good) ∙ ahead-ahead before pair (decode (i + 2) (drop (i + 2) s))
+        turn ∙ ap (ahead before) (follow-good i pair (decode (i + 2) (drop (i + 2) s)) good) ∙ ahead-ahead before (charsOf pair) (decode (i + 2) (drop (i + 2) s))
 
-    pub sofar-wrong : length pair ≡ 0 → decode 0 s ≡ wrong i
-    sofar-wrong bad = turn ∙ ap (ahead before) (follow-wrong i pair (decode (i + 2) (drop (i + 2) s)) bad)
+    pub sofar-wrong : (fault : Fault) → pair ≡ Wrong fault → decode 0 s ≡ wrong fault i
+    sofar-wrong fault bad = turn ∙ ap (λ p. ahead before (follow i p (decode (i + 2) (drop (i + 2) s)))) bad
 
     -- in bytes that decode as text the pair carries characters, and the text has them
-    pub sofar-good : (t : List ℕ) → decode 0 s ≡ text t → (0 < length pair) × (length before + length pair ≤ length t)
-    sofar-good t whole = by-test (ltb 0 (length pair)) some nothing
+    pub sofar-good : (t : List ℕ) → decode 0 s ≡ text t → (0 < length (charsOf pair)) × (length before + length (charsOf pair) ≤ length t)
+    sofar-good t whole = by-pair pair some (λ fault bad. absurd (wrong-text (sofar-wrong fault bad) whole))
       where
-        some : ltb 0 (length pair) ≡ true → (0 < length pair) × (length before + length pair ≤ length t)
-        some h =
-            let good = ltb-true 0 (length pair) h in
-            let u = ahead-text (before ++ pair) (decode (i + 2) (drop (i + 2) s)) t (sym (sofar-more good) ∙ whole) in
-            (good, omega (arith, length-append before pair, length-append (before ++ pair) (u .0), ap length (u .2)))
-
-        nothing : ltb 0 (length pair) ≡ false → (0 < length pair) × (length before + length pair ≤ length t)
-        nothing h = let low = ltb-false 0 (length pair) h in absurd (wrong-text (sofar-wrong (omega arith)) whole)
+        some : 0 < length (charsOf pair) → (0 < length (charsOf pair)) × (length before + length (charsOf pair) ≤ length t)
+        some good =
+            let p = charsOf pair in
+            let u = ahead-text (before ++ p) (decode (i + 2) (drop (i + 2) s)) t (sym (sofar-more good) ∙ whole) in
+            (good, omega (arith, length-append before p, length-append (before ++ p) (u .0), ap length (u .2)))
 
   pub sofar-end : length s ≤ i → decode 0 s ≡ text before
   sofar-end h = sofar ∙ ap (ahead before) (decode-end s i h) ∙ ap text (append-nil before)
@@ -119,17 +117,17 @@ module _ (s : List ℕ) (i : ℕ) (before : List ℕ) (sofar : Sofar s i before)
     sofar-inner h =
         let p = pairOf false (getD s i 0) (getD s (i + 1) 0) in
         let inner : eqb (i + 2) (length s) ≡ false = ne-eqb (i + 2) (length s) (λ e. omega arith) in
-        let is : charsOf p ≡ charsOf (pairOf (eqb (i + 2) (length s)) (getD s i 0) (getD s (i + 1) 0)) = ap (λ l. charsOf (pairOf l (getD s i 0) (getD s (i + 1) 0))) (sym inner) in
-        let good = sofar-good (omega arith) (charsOf p) is t whole in
+        let is : p ≡ pairOf (eqb (i + 2) (length s)) (getD s i 0) (getD s (i + 1) 0) = ap (λ l. pairOf l (getD s i 0) (getD s (i + 1) 0)) (sym inner) in
+        let good = sofar-good (omega arith) p is t whole in
         let three : length (charsOf p) ≡ 3 = ap (λ q. length (charsOf q)) (pair-full false (getD s i 0) (getD s (i + 1) 0) refl (chars-some p (good .0)) .2) in
-        record { three = three; room = omega arith; next = sofar-more (omega arith) (charsOf p) is (good .0) }
+        record { three = three; room = omega arith; next = sofar-more (omega arith) p is (good .0) }
 
     pub sofar-last : i + 2 ≡ length s → Last s i before t
     sofar-last h =
         let p = pairOf true (getD s i 0) (getD s (i + 1) 0) in
         let last : eqb (i + 2) (length s) ≡ true = eq-eqb (i + 2) (length s) h in
-        let is : charsOf p ≡ charsOf (pairOf (eqb (i + 2) (length s)) (getD s i 0) (getD s (i + 1) 0)) = ap (λ l. charsOf (pairOf l (getD s i 0) (getD s (i + 1) 0))) (sym last) in
-        let good = sofar-good (omega arith) (charsOf p) is t whole in
+        let is : p ≡ pairOf (eqb (i + 2) (length s)) (getD s i 0) (getD s (i + 1) 0) = ap (λ l. pairOf l (getD s i 0) (getD s (i + 1) 0)) (sym last) in
+        let good = sofar-good (omega arith) p is t whole in
         let end : decode 0 s ≡ text (before ++ charsOf p) =
-        sofar-more (omega arith) (charsOf p) is (good .0) ∙ ap (ahead (before ++ charsOf p)) (decode-end s (i + 2) (omega arith)) ∙ ap text (append-nil (before ++ charsOf p)) in
+        sofar-more (omega arith) p is (good .0) ∙ ap (ahead (before ++ charsOf p)) (decode-end s (i + 2) (omega arith)) ∙ ap text (append-nil (before ++ charsOf p)) in
         record { room = good .1; whole = cc }

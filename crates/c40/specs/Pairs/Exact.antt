@@ -12,6 +12,7 @@ use Rattle.c40.specs.Text.{Text, packedOf, triple, publish}
 use Rattle.c40.specs.Text.Laws.{triple-is, publish-three, publish-two, publish-one, publish-none}
 use Rattle.c40.specs.Pairs.{number, first, second, third, pairOf, charsOf}
 use Rattle.c40.specs.Pairs.Laws.{pair-cases, pair-values, pair-single, values-three, values-two, single-one, apart}
+use Rattle.c40.specs.declared.decode.Fault.{Fault}
 use Rattle.c40.specs.declared.decode.Pair.the-variants.{Three, Two, One, Wrong}
 
 -- three values and their number, there and back
@@ -85,10 +86,10 @@ pub record Carries (last : Bool) (x y : ℕ) (p : List ℕ) : Type 0 where
   pub whole : last ≡ false → length p ≡ 3
 
 module _ (last : Bool) (x y : ℕ) (hx : x < 256) (hy : y < 256) where
-  pub pair-sound : (pairOf last x y ≡ Wrong → ⊥) → Carries last x y (charsOf (pairOf last x y))
+  pub pair-sound : ((fault : Fault) → pairOf last x y ≡ Wrong fault → ⊥) → Carries last x y (charsOf (pairOf last x y))
   pair-sound good =
       pair-cases last x y
-      (λ e. absurd (good e))
+      (λ fault e. absurd (good fault e))
       (λ h k a b c e. subst (λ p. Carries last x y (charsOf p)) (sym e) (three h k a b c))
       (λ h k a b c l e. subst (λ p. Carries last x y (charsOf p)) (sym e) (two h k a b c l))
       (λ f h i l e. subst (λ p. Carries last x y (charsOf p)) (sym e) (one f h i l))

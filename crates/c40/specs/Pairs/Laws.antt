@@ -9,7 +9,9 @@ use lib.Dec.{ltb, eqb}
 use lib.ListN.{length}
 use Rattle.format.specs.Choice.Laws.{by-test}
 use Rattle.c40.specs.Chart.{char, valueOf, inChart, InChart}
-use Rattle.c40.specs.Pairs.{number, first, second, third, single, values, pairOf, charsOf}
+use Rattle.c40.specs.Pairs.{number, first, second, third, faulty, single, values, pairOf, charsOf}
+use Rattle.c40.specs.declared.decode.Fault.{Fault}
+use Rattle.c40.specs.declared.decode.Fault.the-variants.{WronglyCoded}
 use Rattle.c40.specs.declared.decode.Pair.{Pair}
 use Rattle.c40.specs.declared.decode.Pair.the-variants.{Three, Two, One, Wrong}
 
@@ -18,16 +20,16 @@ apart e f = let z : _≡_ {A = ℕ} 0 1 = cc in omega arith
 
 -- FE and a code
 module _ (y : ℕ) where
-  pub single-inner : (last : Bool) → last ≡ false → Wrong ≡ single last y
+  pub single-inner : (last : Bool) → last ≡ false → faulty ≡ single last y
   unfolding single
   single-inner last e = simp e
 
-  pub single-none : (last : Bool) → y ≡ 0 → Wrong ≡ single last y
+  pub single-none : (last : Bool) → y ≡ 0 → faulty ≡ single last y
   unfolding single
   single-none true h = simp (le-ltb 0 y (omega arith))
   single-none false h = refl
 
-  pub single-stranger : (last : Bool) → (InChart (y - 1) → ⊥) → Wrong ≡ single last y
+  pub single-stranger : (last : Bool) → (InChart (y - 1) → ⊥) → faulty ≡ single last y
   unfolding single
   single-stranger true h =
       by-test (ltb 0 y) (λ e. simp (e, ne-eqb (char (valueOf (y - 1))) (y - 1) h)) (λ e. simp e)
@@ -39,11 +41,11 @@ module _ (y : ℕ) where
 
 -- three values
 module _ (last : Bool) (a b c : ℕ) where
-  pub values-first : a < 3 → Wrong ≡ values last a b c
+  pub values-first : a < 3 → faulty ≡ values last a b c
   unfolding values
   values-first h = simp (lt-ltb a 3 h)
 
-  pub values-second : 3 ≤ a → b < 3 → Wrong ≡ values last a b c
+  pub values-second : 3 ≤ a → b < 3 → faulty ≡ values last a b c
   unfolding values
   values-second h k = simp (le-ltb a 3 h, lt-ltb b 3 k)
 
@@ -51,7 +53,7 @@ module _ (last : Bool) (a b c : ℕ) where
   unfolding values
   values-three h k l = simp (le-ltb a 3 h, le-ltb b 3 k, le-ltb c 3 l)
 
-  pub values-third : 3 ≤ a → 3 ≤ b → c < 3 → (c ≡ 0 → ⊥) → Wrong ≡ values last a b c
+  pub values-third : 3 ≤ a → 3 ≤ b → c < 3 → (c ≡ 0 → ⊥) → faulty ≡ values last a b c
   unfolding values
   values-third h k l m = simp (le-ltb a 3 h, le-ltb b 3 k, lt-ltb c 3 l, ne-eqb c 0 m)
 
@@ -59,19 +61,19 @@ module _ (last : Bool) (a b c : ℕ) where
   unfolding values
   values-two e h k l = simp (e, le-ltb a 3 h, le-ltb b 3 k, lt-ltb c 3 (omega arith), eq-eqb c 0 l)
 
-  pub values-inner : last ≡ false → 3 ≤ a → 3 ≤ b → c ≡ 0 → Wrong ≡ values last a b c
+  pub values-inner : last ≡ false → 3 ≤ a → 3 ≤ b → c ≡ 0 → faulty ≡ values last a b c
   unfolding values
   values-inner e h k l = simp (e, le-ltb a 3 h, le-ltb b 3 k, lt-ltb c 3 (omega arith), eq-eqb c 0 l)
 
 -- a pair
 module _ (last : Bool) (x y : ℕ) where
-  pub pair-zero : number x y ≡ 0 → Wrong ≡ pairOf last x y
+  pub pair-zero : number x y ≡ 0 → faulty ≡ pairOf last x y
   unfolding pairOf
   pair-zero h =
       let off : x ≡ 0xFE → ⊥ = λ e. omega arith in
       simp (ne-eqb x 0xFE off, le-ltb 0 (number x y) (omega arith))
 
-  pub pair-large : (x ≡ 0xFE → ⊥) → 64000 < number x y → Wrong ≡ pairOf last x y
+  pub pair-large : (x ≡ 0xFE → ⊥) → 64000 < number x y → faulty ≡ pairOf last x y
   unfolding pairOf
   pair-large h k = simp (ne-eqb x 0xFE h, lt-ltb 0 (number x y) (omega arith), lt-ltb 64000 (number x y) k)
 
@@ -87,7 +89,7 @@ module _ (last : Bool) (x y : ℕ) where
 
   -- every pair is wrongly coded, or carries three characters, or is the last and carries two or one
   pub pair-cases : {C : Type 0}
-      → (pairOf last x y ≡ Wrong → C)
+      → ((fault : Fault) → pairOf last x y ≡ Wrong fault → C)
       → (0 < number x y → number x y ≤ 64000 → 3 ≤ first (number x y) → 3 ≤ second (number x y) → 3 ≤ third (number x y)
       → pairOf last x y ≡ Three (char (first (number x y))) (char (second (number x y))) (char (third (number x y))) → C)
       → (0 < number x y → number x y ≤ 64000 → 3 ≤ first (number x y) → 3 ≤ second (number x y) → third (number x y) ≡ 0 → last ≡ true
@@ -97,8 +99,8 @@ module _ (last : Bool) (x y : ℕ) where
   pair-cases {C} wrong three two one =
       by-test (eqb x 0xFE) fe
       (λ e. by-test (ltb 0 n)
-      (λ h. by-test (ltb 64000 n) (λ k. wrong (sym (pair-large (eqb-false x 0xFE e) (ltb-true 64000 n k)))) (λ k. inside (ltb-true 0 n h) (ltb-false 64000 n k)))
-      (λ h. let low = ltb-false 0 n h in wrong (sym (pair-zero (omega arith)))))
+      (λ h. by-test (ltb 64000 n) (λ k. wrong WronglyCoded (sym (pair-large (eqb-false x 0xFE e) (ltb-true 64000 n k)))) (λ k. inside (ltb-true 0 n h) (ltb-false 64000 n k)))
+      (λ h. let low = ltb-false 0 n h in wrong WronglyCoded (sym (pair-zero (omega arith)))))
     where
       n : ℕ
       n = number x y
@@ -111,40 +113,47 @@ module _ (last : Bool) (x y : ℕ) where
           (λ h. by-test (inChart (y - 1))
           (λ i. let chr = eqb-true (char (valueOf (y - 1))) (y - 1) i in
           one is (ltb-true 0 y h) chr l (sym (single-one y last l (ltb-true 0 y h) chr ∙ pair-single is)))
-          (λ i. wrong (sym (single-stranger y last (eqb-false (char (valueOf (y - 1))) (y - 1) i) ∙ pair-single is))))
-          (λ h. let low = ltb-false 0 y h in wrong (sym (single-none y last (omega arith) ∙ pair-single is))))
-          (λ l. wrong (sym (single-inner y last l ∙ pair-single is)))
+          (λ i. wrong WronglyCoded (sym (single-stranger y last (eqb-false (char (valueOf (y - 1))) (y - 1) i) ∙ pair-single is))))
+          (λ h. let low = ltb-false 0 y h in wrong WronglyCoded (sym (single-none y last (omega arith) ∙ pair-single is))))
+          (λ l. wrong WronglyCoded (sym (single-inner y last l ∙ pair-single is)))
 
       inside : 0 < n → n ≤ 64000 → C
       inside h k =
           let e = pair-values h k in
           by-test (ltb (first n) 3)
-          (λ a. wrong (sym (values-first last (first n) (second n) (third n) (ltb-true (first n) 3 a) ∙ e)))
+          (λ a. wrong WronglyCoded (sym (values-first last (first n) (second n) (third n) (ltb-true (first n) 3 a) ∙ e)))
           (λ a. let a3 = ltb-false (first n) 3 a in
           by-test (ltb (second n) 3)
-          (λ b. wrong (sym (values-second last (first n) (second n) (third n) a3 (ltb-true (second n) 3 b) ∙ e)))
+          (λ b. wrong WronglyCoded (sym (values-second last (first n) (second n) (third n) a3 (ltb-true (second n) 3 b) ∙ e)))
           (λ b. let b3 = ltb-false (second n) 3 b in
           by-test (ltb (third n) 3)
           (λ c. by-test (eqb (third n) 0)
           (λ z. let c0 = eqb-true (third n) 0 z in
           by-test last
           (λ l. two h k a3 b3 c0 l (sym (values-two last (first n) (second n) (third n) l a3 b3 c0 ∙ e)))
-          (λ l. wrong (sym (values-inner last (first n) (second n) (third n) l a3 b3 c0 ∙ e))))
-          (λ z. wrong (sym (values-third last (first n) (second n) (third n) a3 b3 (ltb-true (third n) 3 c) (eqb-false (third n) 0 z) ∙ e))))
+          (λ l. wrong WronglyCoded (sym (values-inner last (first n) (second n) (third n) l a3 b3 c0 ∙ e))))
+          (λ z. wrong WronglyCoded (sym (values-third last (first n) (second n) (third n) a3 b3 (ltb-true (third n) 3 c) (eqb-false (third n) 0 z) ∙ e))))
           (λ c. let c3 = ltb-false (third n) 3 c in
           three h k a3 b3 c3 (sym (values-three last (first n) (second n) (third n) a3 b3 c3 ∙ e)))))
 
   -- a pair that is not the last and carries something carries three characters
-  pub pair-full : last ≡ false → (pairOf last x y ≡ Wrong → ⊥) → (0 < number x y) × (number x y ≤ 64000) × (pairOf last x y ≡ Three (char (first (number x y))) (char (second (number x y))) (char (third (number x y))))
+  pub pair-full : last ≡ false → ((fault : Fault) → pairOf last x y ≡ Wrong fault → ⊥) → (0 < number x y) × (number x y ≤ 64000) × (pairOf last x y ≡ Three (char (first (number x y))) (char (second (number x y))) (char (third (number x y))))
   pair-full l not-wrong =
-      pair-cases (λ e. absurd (not-wrong e)) (λ h k a b c e. (h, k, e)) (λ h k a b c l′ e. absurd (apart l l′)) (λ f h i l′ e. absurd (apart l l′))
+      pair-cases (λ fault e. absurd (not-wrong fault e)) (λ h k a b c e. (h, k, e)) (λ h k a b c l′ e. absurd (apart l l′)) (λ f h i l′ e. absurd (apart l l′))
 
 -- a pair carries at most three characters; one that carries none is wrongly coded
 pub chars-most : (p : Pair) → length (charsOf p) ≤ 3
 chars-most (Three a b c) = omega arith
 chars-most (Two a b) = omega arith
 chars-most (One a) = omega arith
-chars-most Wrong = omega arith
+chars-most (Wrong fault) = omega arith
 
-pub chars-some : (p : Pair) → 0 < length (charsOf p) → p ≡ Wrong → ⊥
-chars-some p h e = let z : length (charsOf p) ≡ 0 = ap (λ q. length (charsOf q)) e in omega arith
+pub chars-some : (p : Pair) → 0 < length (charsOf p) → (fault : Fault) → p ≡ Wrong fault → ⊥
+chars-some p h fault e = let z : length (charsOf p) ≡ 0 = ap (λ q. length (charsOf q)) e in omega arith
+
+-- a pair carries characters, or says what is wrong
+pub by-pair : {C : Type 0} (p : Pair) → (0 < length (charsOf p) → C) → ((fault : Fault) → p ≡ Wrong fault → C) → C
+by-pair (Three a b c) some none = some (omega arith)
+by-pair (Two a b) some none = some (omega arith)
+by-pair (One a) some none = some (omega arith)
+by-pair (Wrong fault) some none = none fault refl

@@ -23,7 +23,7 @@ refusal (reading.Done count) (inr (inr (inl e))) = absurd (omega arith)
 refusal (reading.Done count) (inr (inr (inr e))) = absurd (omega arith)
 refusal reading.TooLong k = omega arith
 refusal (reading.Odd at) k = omega arith
-refusal (reading.WrongPair at) k = omega arith
+refusal (reading.WrongPair fault at) k = omega arith
 refusal reading.NoRoom k = omega arith
 
 read-requires : tie.Need-read-requires

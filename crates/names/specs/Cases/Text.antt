@@ -15,14 +15,15 @@ use Rattle.format.specs.Places.{past-end}
 use Rattle.c40.specs.Decode.{Decoded, text, wrong, decode}
 use Rattle.c40.specs.Calls.{reading, readingOf}
 use Rattle.c40.specs.Calls.Laws.{reading-wrong, reading-no-room, reading-done}
+use Rattle.c40.specs.declared.decode.Fault.{Fault}
 use Rattle.c40.specs.declared.Reading.{Reading}
 use Rattle.c40.specs.declared.Reading.the-variants.{Done}
 use Rattle.verdict.specs.Items.{exactly}
 use Rattle.names.specs.Cases.{Sized, Fills}
 
 -- text of exactly k characters: what is wrongly coded is none, nor is text of another length
-pub exactly-wrong : (k at : ℕ) (d : Decoded) → d ≡ wrong at → exactly k d ≡ []
-exactly-wrong k at d e = ap (exactly k) e
+pub exactly-wrong : (k : ℕ) (fault : Fault) (at : ℕ) (d : Decoded) → d ≡ wrong fault at → exactly k d ≡ []
+exactly-wrong k fault at d e = ap (exactly k) e
 
 pub exactly-other : (k : ℕ) (t : List ℕ) (d : Decoded) → d ≡ text t → (length t ≡ k → ⊥) → exactly k d ≡ []
 exactly-other k t d e h = ap (exactly k) e ∙ ap (λ b. pick b t []) (ne-eqb (length t) k h)
@@ -46,7 +47,7 @@ module _ (bytes room out : List ℕ) (sized : Sized bytes room) (r : Reading) (a
   done-is t e = (ap (λ (a : Answer). a .number) (answer ∙ ap told e), (ap (λ (a : Answer). a .count) (answer ∙ ap told e), buffer ∙ ap (λ o. filled o room) e))
 
   fills-not-in : (d : Decoded) → decode 0 bytes ≡ d → 0 < readingOf r .number → exactly (length out) (decode 0 bytes) ≡ []
-  fills-not-in (wrong at) e h = exactly-wrong (length out) at (decode 0 bytes) e
+  fills-not-in (wrong fault at) e h = exactly-wrong (length out) fault at (decode 0 bytes) e
   fills-not-in (text t) e h =
       by-test (ltb (length room) (length t))
       (λ b.
@@ -63,8 +64,8 @@ module _ (bytes room out : List ℕ) (sized : Sized bytes room) (r : Reading) (a
   fills-not h = fills-not-in (decode 0 bytes) refl h
 
   fills-done-in : (count : ℕ) → readingOf r ≡ record { number = 0; place = 0; count = count } → (d : Decoded) → decode 0 bytes ≡ d → Fills (eqb count (length out)) bytes out
-  fills-done-in count e (wrong at) f =
-      let q = refused-is 41 at (reading-wrong bytes (length room) few even at f) in
+  fills-done-in count e (wrong fault at) f =
+      let q = refused-is 41 at (reading-wrong bytes (length room) few even fault at f) in
       let z : readingOf r .number ≡ 0 = ap (λ (a : Answer). a .number) e in
       absurd (omega (arith, q .0))
   fills-done-in count e (text t) f =

@@ -37,7 +37,7 @@ use Rattle.verdict.specs.Items.Sound.{Stands, stands-append, steps, stan
 
 -- text that was found is all that was decoded
 exactly-is : (k : ℕ) (d : Decoded) → 0 < length (exactly k d) → (d ≡ text (exactly k d)) × (length (exactly k d) ≡ k)
-exactly-is k (wrong at) h = absurd (omega arith)
+exactly-is k (wrong fault at) h = absurd (omega arith)
 exactly-is k (text t) h =
     by-test (eqb (length t) k)
     (λ e. (sym (ap (λ b. text (pick b t [])) e), ap (λ b. length (pick b t [])) e ∙ eqb-true (length t) k e))

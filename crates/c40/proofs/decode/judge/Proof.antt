@@ -3,13 +3,19 @@
 use borrow.Author.Needs.{needs}
 use native.Mathlib.Omega.{arith}
 use mathlib.Core.Path.{_≡_, _∙_, refl, ap, ap₂, sym}
-use Prim.Native.Nat.{ℕ, _+_, _*_, _-_, _%_, _≤_}
-use mathlib.Core.List.{List, [], _++_}
+use mathlib.Core.Logic.{inl, inr}
+use Prim.Native.Nat.{ℕ, _+_, _*_, _-_, _%_, _≤_, _<_}
+use mathlib.Core.List.{List, [], _∷_, _++_}
+use types.Run.{OneOf}
+use denote.Enum.Declared.{tagOf}
 use lib.ListN.{length, length-append}
 use Rattle.c40.specs.Pairs.{charsOf}
 use Rattle.c40.specs.Pairs.Laws.{chars-most}
 use Rattle.c40.specs.Decode.{judgedOf}
 use Rattle.c40.specs.Decode.Laws.{Sofar, sofar-start, sofar-more, sofar-wrong, sofar-end}
+use Rattle.c40.specs.declared.decode.Pair.{Pair}
+use Rattle.c40.specs.declared.decode.Pair.the-variants.{Three, Two, One, Wrong}
+use Rattle.c40.proofs.decode.Pair.{the-type}
 use Rattle.c40.specs.declared.decode.Judged.the-variants.{Text}
 use Rattle.c40.proofs.decode.judge.Statement.{statement}
 use Rattle.c40.proofs.decode.judge.Tie as tie
@@ -39,13 +45,26 @@ add-pair-of-2 c = omega arith
 pair-of-requires : tie.Need-pair-of-requires Inv-loop μ-loop
 pair-of-requires c κs = c .before .before .before .before .before .pre .is-chart
 
-carried-requires : tie.Need-carried-requires Inv-loop μ-loop
-carried-requires c κs = search needs
+enum-known-pair : tie.Need-enum-known-pair Inv-loop μ-loop
+enum-known-pair c = search needs
 
 returns : tie.Need-returns Inv-loop μ-loop
 returns c =
-    let on = c .before .before .before .before .before .before in
-    ap judgedOf (sym (sofar-wrong _ _ _ (on .loop .inv .5) (omega arith) _ (ap charsOf (c .before .before .pair-of .ensures)) (omega arith)))
+    let told = c .before .before .before in
+    let on = told .before .before .before .before in
+    ap judgedOf (sym (sofar-wrong _ _ _ (on .loop .inv .5) (omega arith) _ (told .pair-of .ensures) _ (c .before .pair .given .1)))
+
+carried-requires : tie.Need-carried-requires Inv-loop μ-loop
+carried-requires c κs = search needs
+
+-- a pair that is not wrong carries characters
+carries : (p : Pair) → OneOf (0 ∷ 1 ∷ 2 ∷ []) (tagOf the-type p) → 0 < length (charsOf p)
+carries (Three a b c) k = omega arith
+carries (Two a b) k = omega arith
+carries (One a) k = omega arith
+carries (Wrong fault) (inl e) = absurd (omega arith)
+carries (Wrong fault) (inr (inl e)) = absurd (omega arith)
+carries (Wrong fault) (inr (inr e)) = absurd (omega arith)
 
 add-count : tie.Need-add-count Inv-loop μ-loop
 add-count c = omega (arith, chars-most (c .before .before .pair-of .result))
@@ -58,17 +77,19 @@ loop-less c = omega arith
 
 loop-again : tie.Need-loop-again Inv-loop μ-loop
 loop-again c =
-    let on = c .before .before .before .before .before .before in
-    let pair = charsOf (c .before .before .pair-of .result) in
-    let most = chars-most (c .before .before .pair-of .result) in
-    let many : length (on .loop .inv .3 ++ pair) ≡ on .loop .count + c .before .carried .result =
-    length-append (on .loop .inv .3) pair ∙ ap₂ (λ a b. a + b) (on .loop .inv .4) (sym (c .before .carried .ensures)) in (
+    let told = c .before .before in
+    let on = told .before .before .before .before in
+    let pair = told .pair-of .result in
+    let some = carries pair (c .before .match .keys2) in
+    let most = chars-most pair in
+    let many : length (on .loop .inv .3 ++ charsOf pair) ≡ on .loop .count + c .carried .result =
+    length-append (on .loop .inv .3) (charsOf pair) ∙ ap₂ (λ a b. a + b) (on .loop .inv .4) (sym (c .carried .ensures)) in (
       omega arith,
       omega arith,
       omega arith,
-      on .loop .inv .3 ++ pair,
+      on .loop .inv .3 ++ charsOf pair,
       many,
-      sofar-more _ _ _ (on .loop .inv .5) (omega arith) _ (ap charsOf (c .before .before .pair-of .ensures)) (omega arith),
+      sofar-more _ _ _ (on .loop .inv .5) (omega arith) _ (told .pair-of .ensures) some,
     )
 
 returns-2 : tie.Need-returns-2 Inv-loop μ-loop
@@ -86,8 +107,9 @@ judge-spec =
     shared-slice-read-pair-of-2
     add-pair-of-2
     pair-of-requires
-    carried-requires
+    enum-known-pair
     returns
+    carried-requires
     add-count
     add-i
     loop-less

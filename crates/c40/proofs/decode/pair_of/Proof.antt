@@ -50,14 +50,14 @@ returns-3 c = values-first _ _ _ _ (omega arith) ∙ whole (c .before)
 returns-4 : tie.Need-returns-4
 returns-4 c = values-second _ _ _ _ (omega arith) (omega arith) ∙ whole (c .before .before)
 
-element-copy-out-t16 : tie.Need-element-copy-out-t16
-element-copy-out-t16 c = search needs
-
 element-copy-out-t19 : tie.Need-element-copy-out-t19
 element-copy-out-t19 c = search needs
 
 element-copy-out-t22 : tie.Need-element-copy-out-t22
 element-copy-out-t22 c = search needs
+
+element-copy-out-t25 : tie.Need-element-copy-out-t25
+element-copy-out-t25 c = search needs
 
 returns-5 : tie.Need-returns-5
 returns-5 c =
@@ -67,11 +67,11 @@ returns-5 c =
     ∙ values-three _ _ _ _ (omega arith) (omega arith) (omega arith)
     ∙ whole on
 
-element-copy-out-t26 : tie.Need-element-copy-out-t26
-element-copy-out-t26 c = search needs
-
 element-copy-out-t29 : tie.Need-element-copy-out-t29
 element-copy-out-t29 c = search needs
+
+element-copy-out-t32 : tie.Need-element-copy-out-t32
+element-copy-out-t32 c = search needs
 
 returns-6 : tie.Need-returns-6
 returns-6 c =
@@ -101,12 +101,12 @@ pair-of-spec =
     split-requires
     returns-3
     returns-4
-    element-copy-out-t16
     element-copy-out-t19
     element-copy-out-t22
+    element-copy-out-t25
     returns-5
-    element-copy-out-t26
     element-copy-out-t29
+    element-copy-out-t32
     returns-6
     returns-7
     returns-8)
