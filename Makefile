@@ -4,8 +4,8 @@
 # make lib    prove and build the library for C and Rust alone: target/lib/libfenderrope.a
 #             (does nothing where nothing changed)
 # make checker  the same, and build the program over it: target/bin/fenderrope-check
-# make test   the gate: looks for its tools; the tests in C and Rust, of the programs and of the installing; then prove
-#             everything from nothing, try the must-fail edits, run the programs
+# make test   the gate: looks for its tools; proves everything from nothing, tries the must-fail edits, runs the
+#             programs; then the tests in C and Rust, of the programs and of the installing, on what was proved
 # make face   the C tests alone, in C and C++, with each compiler that is there
 # make rust   the Rust tests alone; GATE_INPUTS says how many inputs the differential test has
 # make difference  the differential test at its full size (FR_INPUTS, FR_SEED in the environment change it)
@@ -82,8 +82,7 @@ $(CHECKER):
 test:
 	@tests/tools
 	@$(MAKE) --no-print-directory kit
-	@tests/run
-	@rt ci
+	@tests/gate
 
 face: lib
 	@tests/x86 tests/face
