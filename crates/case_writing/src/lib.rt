@@ -1,10 +1,7 @@
 // A case of the writer, and the line of its answer: the number, the count, whether every byte past the count was kept, and the bytes written.
-// A seal that is read and written back has before that whether it came back the same.
-ghost use mathlib.Core.Path.{_≡_};
 ghost use Prim.Native.Nat.{_≤_};
-ghost use lib.ListN.{length, take};
+ghost use lib.ListN.{length};
 ghost use Rattle.casefile.specs.Line.{Within, Counts};
-ghost use Rattle.case_writing.specs.Back.{Tells};
 use casefile::Decimal;
 use casefile::at;
 use casefile::put_call;
@@ -12,7 +9,6 @@ use casefile::put_text;
 use dates::Date;
 use face::FrFilled;
 use items::Header;
-use reader::Reading;
 
 // The greatest number that a header or a row can have.
 const GREATEST: usize = 18446744073709551615;
@@ -90,23 +86,6 @@ fn header_of(n: &[usize; 10], country: [u8; 3]) -> Header {
     }
 }
 
-// Whether a buffer begins with all of a seal.
-fn begins(buffer: &[u8], seal: &[u8]) -> bool
-    ensures { λ r. ⌜ Tells r (take (length (now (seal .entry))) (now (buffer .entry)) ≡ now (seal .entry)) ⌝ }
-{
-    if buffer.len() < seal.len() {
-        return false;
-    }
-    let mut i: usize = 0;
-    while i < seal.len() {
-        if buffer[i] != seal[i] {
-            return false;
-        }
-        i += 1;
-    }
-    true
-}
-
 // Writes with the first `room` bytes of the buffer lent to the writer.
 fn write(
     header: Header,
@@ -173,91 +152,12 @@ fn run_given(line: &[u8], out: &mut [u8], to: usize) -> usize
     )
 }
 
-// Puts down whether the writer made the seal again, and the line of its answer.
-fn put_back(a: FrFilled, buffer: &[u8], seal: &[u8], out: &mut [u8], to: usize) -> usize
-    ensures { λ r. ⌜ Within (now (out .entry)) to r ⌝ }
-{
-    if begins(buffer, seal) {
-        let o = put_text(out, to, b"same ");
-        return put_call(a.number, a.count, buffer, out, o);
-    }
-    let o = put_text(out, to, b"other ");
-    put_call(a.number, a.count, buffer, out, o)
-}
-
-// Writes with the seal as the values and exactly its room.
-fn write_again(
-    header: Header,
-    text: &[u8],
-    rows: &[usize],
-    signature: &[u8],
-    seal: &[u8],
-    out: &mut [u8],
-    to: usize,
-) -> usize
-    ensures { λ r. ⌜ Within (now (out .entry)) to r ⌝ }
-{
-    let room = seal.len();
-    if casefile::MOST < room {
-        return put_text(out, to, b"too much room\n");
-    }
-    let mut buffer = casefile::filled();
-    let a = write(header, text, rows, seal, signature, room, &mut buffer);
-    put_back(a, &buffer, seal, out, to)
-}
-
-// Writes what was read of a good seal.
-fn write_back(
-    r: Reading,
-    seal: &[u8],
-    table: &[usize],
-    text: &[u8],
-    out: &mut [u8],
-    to: usize,
-) -> usize
-    ensures { λ r. ⌜ Within (now (out .entry)) to r ⌝ }
-{
-    let header = r.header;
-    let signature = r.signature;
-    let size = casefile::reach(text, 4, header.length);
-    let rows = casefile::whole_rows(table, r.count);
-    let place = casefile::reach(seal, 0, signature.place);
-    let rest = &seal[place..];
-    let end = casefile::reach(rest, 0, signature.length);
-    write_again(
-        header,
-        &text[..size],
-        &table[..rows],
-        &rest[..end],
-        seal,
-        out,
-        to,
-    )
-}
-
-// `b RUNS`: a seal that is read and written back.
-fn run_back(line: &[u8], out: &mut [u8], to: usize) -> usize
-    ensures { λ r. ⌜ Within (now (out .entry)) to r ⌝ }
-{
-    let mut seal = [0u8; 8192];
-    let size = casefile::runs(line, 1, &mut seal);
-    let mut table = [0usize; 765];
-    let mut text = [0u8; 259];
-    let reading = reader::read(&seal[..size], &mut table, &mut text);
-    if reading.number != 0 {
-        return put_text(out, to, b"not read\n");
-    }
-    write_back(reading, &seal[..size], &table, &text, out, to)
-}
-
-// Runs the case of a line, by its letter; any other line is a comment and gives nothing.
+// Runs the case of a line, of the letter `w`; any other line is a comment and gives nothing.
 pub fn run_line(line: &[u8], out: &mut [u8], to: usize) -> usize
     ensures { λ r. ⌜ Within (now (out .entry)) to r ⌝ }
 {
-    let kind = at(line, 0);
-    match kind {
-        b'w' => run_given(line, out, to),
-        b'b' => run_back(line, out, to),
-        _ => to,
+    if at(line, 0) != b'w' {
+        return to;
     }
+    run_given(line, out, to)
 }

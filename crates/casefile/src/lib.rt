@@ -12,6 +12,7 @@ pub use line::checksum;
 pub use line::put_answer;
 pub use line::put_bytes;
 pub use line::put_hex;
+pub use line::put_part;
 pub use line::put_words;
 pub use line::unchanged;
 pub use lines::put;

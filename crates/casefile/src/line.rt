@@ -24,6 +24,14 @@ pub fn put_words(out: &mut [u8], at: usize, numbers: &[usize]) -> usize
     o
 }
 
+// Puts down a label, and numbers after it.
+pub fn put_part(out: &mut [u8], at: usize, label: &[u8], numbers: &[usize]) -> usize
+    ensures { λ r. ⌜ Put (now (out .entry)) at (now (label .entry) ++ wordsOf (now (numbers .entry))) (now (out .exit)) r ⌝ }
+{
+    let o = put_text(out, at, label);
+    put_words(out, o, numbers)
+}
+
 // Puts down the line of a call that fills no buffer: the number that it answered, and the values.
 pub fn put_answer(out: &mut [u8], at: usize, number: usize, values: &[usize]) -> usize
     ensures { λ r. ⌜ Put (now (out .entry)) at (decimalOf number ++ (wordsOf (now (values .entry)) ++ (10 ∷ []))) (now (out .exit)) r ⌝ }

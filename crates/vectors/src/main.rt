@@ -9,6 +9,7 @@ enum Calls {
     Signatures,
     Seals,
     Writing,
+    Back,
     Listing,
 }
 
@@ -22,6 +23,7 @@ fn run_line(calls: Calls, line: &[u8], out: &mut [u8], to: usize) -> usize
         Calls::Signatures => case_signatures::run_line(line, out, to),
         Calls::Seals => case_seals::run_line(line, out, to),
         Calls::Writing => case_writing::run_line(line, out, to),
+        Calls::Back => case_back::run_line(line, out, to),
         Calls::Listing => case_listing::run_line(line, out, to),
     }
 }
@@ -102,8 +104,8 @@ fn run_writing() {
     run_file(Calls::Writing, b"writing/toolong3");
     run_file(Calls::Writing, b"writing/several4");
     run_file(Calls::Writing, b"writing/mixed");
-    run_file(Calls::Writing, b"writing/back1");
-    run_file(Calls::Writing, b"writing/back2");
+    run_file(Calls::Back, b"writing/back1");
+    run_file(Calls::Back, b"writing/back2");
 }
 
 // The listing's cases, a file for each chapter.

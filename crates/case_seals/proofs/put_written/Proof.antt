@@ -53,7 +53,7 @@ returns-2 c =
     let three = four .before .before .before .before in
     let two = three .before .before .before .before .before in
     let one = two .before .before .before .before .before in
-    within-more _ _ _ _ _ (one .put-part .ensures) (one .put-part .kept .0)
+    within-more _ _ _ _ _ (one .put-part .ensures .within) (one .put-part .kept .0)
     (within-more _ _ _ _ _ (two .put-text .ensures .within) (two .put-text .kept .0)
     (within-more _ _ _ _ _ (three .put-text2 .ensures .within) (three .put-text2 .kept .0)
     (four .put-kept2 .ensures)))

@@ -7,7 +7,7 @@ use mathlib.Core.Bool.{Bool, true, false, cond}
 use mathlib.Core.List.{List}
 use lib.ListN.{length, take, getD, length-take}
 use lib.Seq.{ext-getD, getD-take, length-take-le}
-use Rattle.case_writing.specs.Back.{Tells}
+use Rattle.case_back.specs.Back.{Tells}
 
 pub yes-tells : {fact : Type 0} → fact → Tells true fact
 yes-tells f = (λ e. f, λ g. refl)

@@ -1,4 +1,4 @@
--- `case_seals::same` meets its contract. The loop's invariant: `i` is no more than 19, and the numbers before it are the same.
+-- `case_fields::same` meets its contract. The loop's invariant: `i` is no more than 19, and the numbers before it are the same.
 -- Assumes nothing.
 use borrow.Author.Needs.{needs}
 use native.Mathlib.Omega.{arith}
@@ -6,9 +6,9 @@ use borrow.Author.Count.{below-more}
 use Prim.Native.Nat.{ℕ, _-_, _≤_, _<_}
 use mathlib.Core.Path.{_≡_}
 use lib.ListN.{getD}
-use Rattle.case_seals.specs.Fields.Laws.{yes-tells, no-tells}
-use Rattle.case_seals.proofs.same.Statement.{statement}
-use Rattle.case_seals.proofs.same.Tie as tie
+use Rattle.case_fields.specs.Fields.Laws.{yes-tells, no-tells}
+use Rattle.case_fields.proofs.same.Statement.{statement}
+use Rattle.case_fields.proofs.same.Tie as tie
 
 abbrev Inv-loop : tie.InvT-loop
 Inv-loop a b i₀ i = (i ≤ 19) × ((k : ℕ) → k < i → getD a k 0 ≡ getD b k 0)

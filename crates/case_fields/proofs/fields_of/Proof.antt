@@ -1,8 +1,8 @@
--- `case_seals::fields_of` meets its contract.
+-- `case_fields::fields_of` meets its contract.
 -- Assumes nothing.
 use borrow.Author.Needs.{needs}
-use Rattle.case_seals.proofs.fields_of.Statement.{statement}
-use Rattle.case_seals.proofs.fields_of.Tie as tie
+use Rattle.case_fields.proofs.fields_of.Statement.{statement}
+use Rattle.case_fields.proofs.fields_of.Tie as tie
 
 array-read-wide : tie.Need-array-read-wide
 array-read-wide c = search needs

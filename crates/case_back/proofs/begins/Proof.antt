@@ -1,13 +1,13 @@
--- `case_writing::begins` meets its contract. The loop's invariant: the bytes before `i` are the same.
+-- `case_back::begins` meets its contract. The loop's invariant: the bytes before `i` are the same.
 -- Assumes nothing.
 use native.Mathlib.Omega.{arith}
 use borrow.Author.Count.{below-more}
 use Prim.Native.Nat.{ℕ, _-_, _≤_, _<_}
 use mathlib.Core.Path.{_≡_}
 use lib.ListN.{length, getD}
-use Rattle.case_writing.specs.Back.Laws.{yes-tells, no-tells, begins-all, begins-at, begins-short}
-use Rattle.case_writing.proofs.begins.Statement.{statement}
-use Rattle.case_writing.proofs.begins.Tie as tie
+use Rattle.case_back.specs.Back.Laws.{yes-tells, no-tells, begins-all, begins-at, begins-short}
+use Rattle.case_back.proofs.begins.Statement.{statement}
+use Rattle.case_back.proofs.begins.Tie as tie
 
 abbrev Inv-loop : tie.InvT-loop
 Inv-loop buffer seal i₀ i = (k : ℕ) → k < i → getD buffer k 0 ≡ getD seal k 0

@@ -1,9 +1,9 @@
--- `case_seals::put_header` meets its contract: three parts, each within the room that the one before it left.
+-- `case_fields::put_header` meets its contract: three parts, each within the room that the one before it left.
 -- Assumes nothing.
 use borrow.Author.Needs.{needs}
 use Rattle.casefile.specs.Line.Laws.{within-more}
-use Rattle.case_seals.proofs.put_header.Statement.{statement}
-use Rattle.case_seals.proofs.put_header.Tie as tie
+use Rattle.case_fields.proofs.put_header.Statement.{statement}
+use Rattle.case_fields.proofs.put_header.Tie as tie
 
 slice-aggregate-put-text : tie.Need-slice-aggregate-put-text
 slice-aggregate-put-text c = search needs
@@ -36,7 +36,7 @@ returns c =
     let one = two .before .before .before .before .before in
     within-more _ _ _ _ _ (one .put-text .ensures .within) (one .put-text .kept .0)
     (within-more _ _ _ _ _ (two .put-text2 .ensures .within) (two .put-text2 .kept .0)
-    (three .put-part .ensures))
+    (three .put-part .ensures .within))
 
 pub put-header-spec : {M : Type 1} → statement M
 put-header-spec =

@@ -4,7 +4,7 @@ use Prim.Native.Nat.{ℕ}
 use native.Mathlib.Omega.{arith}
 use mathlib.Core.Path.{_≡_, refl, ap}
 use mathlib.Core.Bool.{Bool, true, false, cond}
-use Rattle.case_seals.specs.Fields.{Tells}
+use Rattle.case_fields.specs.Fields.{Tells}
 
 pub yes-tells : {fact : Type 0} → fact → Tells true fact
 yes-tells f = (λ e. f, λ g. refl)

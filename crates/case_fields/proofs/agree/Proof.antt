@@ -1,4 +1,4 @@
--- `case_seals::agree` meets its contract: number, place, and the fields taken from both.
+-- `case_fields::agree` meets its contract: number, place, and the fields taken from both.
 -- Assumes nothing.
 use borrow.Author.Needs.{needs}
 use mathlib.Core.Path.{refl, ap, sym, _∙_}
@@ -6,10 +6,10 @@ use mathlib.Core.List.{List}
 use Prim.Native.Nat.{ℕ}
 use lib.ListN.{getD}
 use lib.Seq.{ext-getD}
-use Rattle.case_seals.specs.Fields.{fieldsOf}
-use Rattle.case_seals.specs.Fields.Laws.{no-tells, tells-through}
-use Rattle.case_seals.proofs.agree.Statement.{statement}
-use Rattle.case_seals.proofs.agree.Tie as tie
+use Rattle.case_fields.specs.Fields.{fieldsOf}
+use Rattle.case_fields.specs.Fields.Laws.{no-tells, tells-through}
+use Rattle.case_fields.proofs.agree.Statement.{statement}
+use Rattle.case_fields.proofs.agree.Tie as tie
 
 returns : tie.Need-returns
 returns c = no-tells (λ e. c .if1 .taken (e .0))

@@ -1,9 +1,9 @@
--- `case_seals::put_fields` meets its contract: four parts, each within the room that the one before it left.
+-- `case_fields::put_fields` meets its contract: four parts, each within the room that the one before it left.
 -- Assumes nothing.
 use borrow.Author.Needs.{needs}
 use Rattle.casefile.specs.Line.Laws.{within-more}
-use Rattle.case_seals.proofs.put_fields.Statement.{statement}
-use Rattle.case_seals.proofs.put_fields.Tie as tie
+use Rattle.case_fields.proofs.put_fields.Statement.{statement}
+use Rattle.case_fields.proofs.put_fields.Tie as tie
 
 put-header-requires : tie.Need-put-header-requires
 put-header-requires c κs = search needs
@@ -45,9 +45,9 @@ returns c =
     let two = three .before .before .before .before .before .before in
     let one = two .before .before .before .before .before .before in
     within-more _ _ _ _ _ (one .put-header .ensures) (one .put-header .kept .1 .0)
-    (within-more _ _ _ _ _ (two .put-part .ensures) (two .put-part .kept .0)
-    (within-more _ _ _ _ _ (three .put-part2 .ensures) (three .put-part2 .kept .0)
-    (four .put-part3 .ensures)))
+    (within-more _ _ _ _ _ (two .put-part .ensures .within) (two .put-part .kept .0)
+    (within-more _ _ _ _ _ (three .put-part2 .ensures .within) (three .put-part2 .kept .0)
+    (four .put-part3 .ensures .within)))
 
 pub put-fields-spec : {M : Type 1} → statement M
 put-fields-spec =

@@ -1,0 +1,40 @@
+-- `case_back::write` meets its contract.
+-- Assumes nothing.
+use borrow.Author.Needs.{needs}
+use mathlib.Core.Path.{sym}
+use denote.Ref.{now}
+use lib.ListN.{length}
+use lib.Seq.{length-take-le}
+use Rattle.case_back.proofs.write.Statement.{statement}
+use Rattle.case_back.proofs.write.Tie as tie
+
+slice-relend-prefix-write : tie.Need-slice-relend-prefix-write
+slice-relend-prefix-write c = search needs
+
+slice-aggregate-write : tie.Need-slice-aggregate-write
+slice-aggregate-write c =
+    let start = c .before .before .before .before .before .before in
+    sym (length-take-le (length (now (start .args .seal))) (now (start .args .buffer)) (start .pre))
+
+write-requires : tie.Need-write-requires
+write-requires c κs = search needs
+
+written-requires : tie.Need-written-requires
+written-requires c κs = search needs
+
+same-length : tie.Need-same-length
+same-length c = search needs
+
+returns : tie.Need-returns
+returns c = search needs
+
+pub write-spec : {M : Type 1} → statement M
+write-spec =
+    tie.close
+    (tie.spec
+    slice-relend-prefix-write
+    slice-aggregate-write
+    write-requires
+    written-requires
+    same-length
+    returns)
