@@ -11,7 +11,7 @@ use face::FrFilled;
 use face::FrHeader;
 use face::FrReading;
 
-// Reads a seal: `reader::read`. On 0 a row for each feature (tag, value place, value length) stands in `table`, and signer and reference in `text`; on any
+// Reads a seal: `reader::read`. On 0 a row for each feature stands in `table`, and signer and reference in `text`; on any
 // other number both stay, and every field but number and place is 0.
 #[no_mangle]
 pub extern "C" fn fr_read(seal: &[u8], table: &mut [usize], text: &mut [u8]) -> FrReading

@@ -108,7 +108,7 @@ fn write_back(
 fn run_seal(seal: &[u8], out: &mut [u8], to: usize) -> usize
     ensures { λ r. ⌜ Within (now (out .entry)) to r ⌝ }
 {
-    let mut table = [0usize; 765];
+    let mut table = [0usize; rows::MOST];
     let mut text = [0u8; 259];
     let reading = reader::read(seal, &mut table, &mut text);
     if reading.number != 0 {

@@ -17,8 +17,8 @@ const NUMBER: usize = 0x5A5A5A5A;
 
 const BYTE: u8 = 0x5A;
 
-// The most numbers and bytes that a case lends; 16 guards more stand past them.
-const MOST_NUMBERS: usize = 800;
+// The most numbers and bytes that a case lends, some more than the rows of every seal take; 16 guards more stand past them.
+const MOST_NUMBERS: usize = rows::MOST + 35;
 
 const MOST_TEXT: usize = 300;
 
@@ -125,7 +125,7 @@ pub fn run_line(line: &[u8], out: &mut [u8], to: usize) -> usize
     }
     let mut seal = [0u8; 8192];
     let size = casefile::runs(line, second.next, &mut seal);
-    let mut table = [NUMBER; 816];
+    let mut table = [NUMBER; MOST_NUMBERS + 16];
     let mut text = [BYTE; 316];
     run_case(&seal[..size], numbers, room, &mut table, &mut text, out, to)
 }

@@ -132,7 +132,7 @@ fn run_given(line: &[u8], out: &mut [u8], to: usize) -> usize
     casefile::runs(line, after(line, b'c'), &mut country);
     let mut text = [0u8; 400];
     let size = casefile::runs(line, after(line, b't'), &mut text);
-    let mut rows = [0usize; 800];
+    let mut rows = [0usize; rows::MOST + 35];
     let count = numbers(line, after(line, b'r'), &mut rows);
     let mut values = [0u8; 8192];
     let end = casefile::runs(line, after(line, b'v'), &mut values);

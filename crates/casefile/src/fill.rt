@@ -3,6 +3,7 @@ ghost use mathlib.Core.Path.{_≡_};
 ghost use mathlib.Core.List.{_++_};
 ghost use Prim.Native.Nat.{_+_, _*_, _/_, min};
 ghost use lib.ListN.{length, replicate};
+ghost use Rattle.rows.specs.Rows.{width};
 ghost use Rattle.casefile.specs.Line.{Put, Counts, decimalOf};
 ghost use Rattle.casefile.specs.Fill.{keptWords, writtenWords, filledLine};
 use crate::line::put_bytes;
@@ -10,6 +11,7 @@ use crate::line::unchanged;
 use lines::put;
 use lines::put_number;
 use lines::put_text;
+use rows::WIDTH;
 
 // What every byte of the buffer is before the call.
 const FILLING: u8 = 0x5A;
@@ -42,13 +44,13 @@ pub fn reach(buffer: &[u8], from: usize, size: usize) -> usize
 // How many numbers of a table so many rows take, or all its whole rows.
 pub fn whole_rows(table: &[usize], count: usize) -> usize
     ensures { λ r. ⌜ Counts r (now (table .entry)) ⌝ }
-    ensures { λ r. ⌜ r ≡ 3 * min count (length (now (table .entry)) / 3) ⌝ }
+    ensures { λ r. ⌜ r ≡ width * min count (length (now (table .entry)) / width) ⌝ }
 {
-    let most = table.len() / 3;
+    let most = table.len() / WIDTH;
     if most <= count {
-        return 3 * most;
+        return WIDTH * most;
     }
-    3 * count
+    WIDTH * count
 }
 
 // Puts down whether the call left every byte past the count alone, the guard bytes too.

@@ -8,16 +8,9 @@ use lib.ListN.{take, drop, getD}
 use Rattle.versions.specs.declared.Version.{Version}
 use Rattle.versions.specs.Versions.{versionOf}
 use Rattle.grammar.specs.Content.{Feature, Content, Header as Headed}
-use Rattle.verdict.specs.Judge.{Row}
+use Rattle.rows.specs.Rows.{rowsOf}
 use Rattle.verdict.specs.Report.{featureOf}
 use Rattle.items.specs.declared.Header.{Header}
-
--- the rows of a table, as the reader gives them: three numbers each; what is over is no row
-unfoldable pub rowsOf : List ℕ → List Row
-rowsOf [] = []
-rowsOf (tag ∷ []) = []
-rowsOf (tag ∷ place ∷ []) = []
-rowsOf (tag ∷ place ∷ size ∷ table) = record { tag = tag; place = place; size = size } ∷ rowsOf table
 
 pub record Given : Type 0 where
   pub header : Header

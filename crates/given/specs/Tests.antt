@@ -3,7 +3,7 @@
 -- Assumes nothing.
 pub mod Laws
 use mathlib.Core.Bool.{Bool, true, false}
-use Prim.Native.Nat.{ℕ, _+_, _%_}
+use Prim.Native.Nat.{ℕ, _+_}
 use mathlib.Core.List.{List, [], _∷_}
 use lib.Dec.{leb, eqb}
 use lib.ListN.{length, take, drop}
@@ -12,9 +12,10 @@ use Rattle.format.specs.Table.{both}
 use Rattle.dates.specs.Days.{within, isDay}
 use Rattle.grammar.specs.Content.{Version, three, four}
 use Rattle.letters.specs.Characters.{isReference, all, isCountry, isSigner}
-use Rattle.verdict.specs.Judge.{Row, used}
+use Rattle.rows.specs.declared.Row.{Row}
+use Rattle.rows.specs.Rows.{isWhole, rowsOf}
+use Rattle.verdict.specs.Judge.{used}
 use Rattle.items.specs.declared.Header.{Header}
-use Rattle.given.specs.Given.{rowsOf}
 
 -- the text is signer then reference: 9 bytes in version 3, 5 to 259 in version 4
 abbrev pub isTextSize : Version → ℕ → Bool
@@ -36,7 +37,7 @@ areDays h = both (isDay (h .issued)) (isDay (h .signed))
 abbrev pub areLast : Header → Bool
 areLast h = both (within 1 254 (h .definition)) (within 1 254 (h .category))
 
--- 24: table not in threes, tag over 254 or used twice, or a value outside the values buffer, of so many bytes
+-- 24: table not in whole rows, tag over 254 or used twice, or a value outside the values buffer, of so many bytes
 abbrev pub isRow : ℕ → List Row → Row → Bool
 isRow n before r = both (leb (r .tag) 254) (both (pick (used (r .tag) before) false true) (leb (r .place + r .size) n))
 
@@ -45,7 +46,7 @@ areRows n before [] = true
 areRows n before (r ∷ rows) = both (isRow n before r) (areRows n (r ∷ before) rows)
 
 abbrev pub isTable : ℕ → List ℕ → Bool
-isTable n table = both (eqb (length table % 3) 0) (areRows n [] (rowsOf table))
+isTable n table = both (isWhole table) (areRows n [] (rowsOf table))
 
 -- 25: value over 255 bytes in version 3
 unfoldable pub areShort : List Row → Bool

@@ -1,13 +1,13 @@
-// What the writer is given, judged (document 01, numbers 21 to 25): header and text here, rows in rows.rt. 20 is `Version::from_number`,
+// What the writer is given, judged (document 01, numbers 21 to 25): header and text here, rows in table.rt. 20 is `Version::from_number`,
 // 26 `items::is_signature`.
 ghost use mathlib.Core.Path.{_≡_};
 ghost use Rattle.given.specs.Tests as test;
 
-mod rows;
+mod table;
 
 use items::Header;
-pub use rows::are_rows;
-pub use rows::are_values;
+pub use table::are_rows;
+pub use table::are_values;
 use versions::Version;
 
 // Whether text of so many bytes has the size that signer and reference have.

@@ -10,7 +10,8 @@ use lib.ListN.{take}
 use Rattle.format.specs.Choice.{pick}
 use Rattle.dates.specs.declared.Date.{Date}
 use Rattle.versions.specs.Versions.{versionNumber}
-use Rattle.verdict.specs.Judge.{Row, Verdict, accepted, refused, judge}
+use Rattle.rows.specs.declared.Row.{Row}
+use Rattle.verdict.specs.Judge.{Verdict, accepted, refused, judge}
 use Rattle.lines.specs.Line.{decimalOf, ascii, _then_}
 
 -- a line: a name, what it says, a newline

@@ -1,23 +1,20 @@
 -- What the code puts down for a reading, with the rows of the table and the text: where these have room it is the listing (Listed.antt).
 -- Assumes nothing.
 pub mod Laws
-use Prim.Native.Nat.{ℕ, zero, suc}
-use mathlib.Core.List.{List, [], _∷_}
+use Prim.Native.Nat.{ℕ}
+use mathlib.Core.List.{List, []}
 use lib.Dec.{eqb}
 use lib.ListN.{take, drop}
 use Rattle.format.specs.Choice.{pick}
 use Rattle.lines.specs.Line.{decimalOf, ascii, _then_}
+use Rattle.rows.specs.Rows.{rowsOf}
 use Rattle.items.specs.declared.Header.{Header}
 use Rattle.reader.specs.declared.Reading.{Reading}
-use Rattle.listing.specs.Listed.{line, day, part, feature}
+use Rattle.listing.specs.Listed.{line, day, part, featureLines}
 
--- a line for each of so many rows (tag, value place, value length), as far as the table has them
+-- a line for each of so many rows, as far as the table has them
 unfoldable pub features : ℕ → List ℕ → List ℕ
-features zero table = []
-features (suc k) [] = []
-features (suc k) (tag ∷ []) = []
-features (suc k) (tag ∷ place ∷ []) = []
-features (suc k) (tag ∷ place ∷ size ∷ table) = feature tag place size then features k table
+features count table = featureLines (take count (rowsOf table))
 
 -- version and country, and out of the text the signer, its first four bytes, and the reference after them
 unfoldable pub nameLines : Header → List ℕ → List ℕ

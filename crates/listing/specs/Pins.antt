@@ -2,6 +2,7 @@
 -- Assumes nothing.
 use mathlib.Core.Path.{_≡_, refl}
 use mathlib.Core.List.{[], _∷_}
+use Rattle.rows.specs.Rows.{valued}
 use Rattle.verdict.specs.Judge.{accepted, refused}
 use Rattle.verdict.specs.Judge.Pins.{report-a}
 use Rattle.lines.specs.Line.{decimalOf, digits, ascii, _then_}
@@ -37,7 +38,7 @@ unfolding decimalOf digits
 last-day = refl
 
 -- two rows in order
-pub two-rows : featureLines (record { tag = 254; place = 20; size = 0 } ∷ record { tag = 0; place = 24; size = 128 } ∷ []) ≡
+pub two-rows : featureLines (valued 254 20 0 ∷ valued 0 24 128 ∷ []) ≡
     ascii "feature 254 at 20 length 0\n" then ascii "feature 0 at 24 length 128\n"
 unfolding featureLines decimalOf digits
 two-rows = refl

@@ -9,7 +9,7 @@ ghost use Rattle.listing.specs.Listed.{listed, Enough};
 ghost use Rattle.listing.specs.Listing.{accepted, refused, listing};
 
 mod header;
-mod rows;
+mod parts;
 mod words;
 
 use lines::put;
@@ -23,9 +23,7 @@ pub const READ: usize = 4097;
 // Room for every listing (specs/Room.antt).
 pub const ROOM: usize = 8562;
 
-// Room for the rows of every seal, and for its signer and reference: 12 is never listed.
-const NUMBERS: usize = 765;
-
+// Room for signer and reference of every seal. A table of rows::MOST numbers has room for its rows, so 12 is never listed.
 const NAMES: usize = 259;
 
 // The lines of an accepted seal.
@@ -37,8 +35,8 @@ fn put_accepted(out: &mut [u8], at: usize, reading: Reading, table: &[usize], te
     let mut o = put_text(out, at, b"accepted\n");
     o = header::put_names(out, o, header, text);
     o = header::put_dates(out, o, header);
-    o = rows::put_features(out, o, reading.count, table);
-    rows::put_signature(out, o, signature.place, signature.length)
+    o = parts::put_features(out, o, reading.count, table);
+    parts::put_signature(out, o, signature.place, signature.length)
 }
 
 // The line of a refusal.
@@ -69,7 +67,7 @@ pub fn list(seal: &[u8], out: &mut [u8; ROOM]) -> usize
     ensures room { λ r. do ⌜ length (listed (judge (now (seal .entry)))) ≤ (← ⟦ROOM⟧ .entry) ⌝ }
     ensures enough { λ r. do ⌜ Enough (← ⟦READ⟧ .entry) ⌝ }
 {
-    let mut table = [0usize; NUMBERS];
+    let mut table = [0usize; rows::MOST];
     let mut text = [0u8; NAMES];
     let reading = reader::read(seal, &mut table, &mut text);
     put_listing(reading, &table, &text, out)

@@ -1,21 +1,16 @@
 -- What a caller holds after a reading, turned back into a content: the answer, the table and the text that were lent, and the seal's own bytes.
 -- Assumes nothing.
 pub mod Laws
-use Prim.Native.Nat.{ℕ, zero, suc}
-use mathlib.Core.List.{List, [], _∷_, map}
+use Prim.Native.Nat.{ℕ}
+use mathlib.Core.List.{List, map}
 use mathlib.Core.Option.{Option, Option·map}
-use lib.ListN.{take, drop, getD}
+use lib.ListN.{take, drop}
 use Rattle.grammar.specs.Content.{Content}
 use Rattle.versions.specs.declared.Version.{Version}
 use Rattle.versions.specs.Versions.{versionOf}
-use Rattle.verdict.specs.Judge.{Row}
+use Rattle.rows.specs.Rows.{rowsOf}
 use Rattle.verdict.specs.Report.{part, featureOf}
 use Rattle.reader.specs.declared.Reading.{Reading}
-
--- so many rows of a table, three numbers each
-unfoldable pub rowsOf : ℕ → List ℕ → List Row
-rowsOf zero table = []
-rowsOf (suc count) table = record { tag = getD table 0 0; place = getD table 1 0; size = getD table 2 0 } ∷ rowsOf count (drop 3 table)
 
 -- the content in a version, and the content: none where the header's version is neither 3 nor 4
 unfoldable pub contentAs : List ℕ → Reading → List ℕ → List ℕ → Version → Content
@@ -23,7 +18,7 @@ contentAs s r table text v =
     let h = r .header in
     record {
       header = record { version = v; country = h .country; signer = take 4 text; reference = take (h .length) (drop 4 text); issued = h .issued; signed = h .signed; definition = h .definition; category = h .category };
-      features = map (featureOf s) (rowsOf (r .count) table);
+      features = map (featureOf s) (take (r .count) (rowsOf table));
       signature = part (r .signature .place) (r .signature .length) s;
     }
 

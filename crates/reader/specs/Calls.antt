@@ -16,7 +16,8 @@ use Rattle.versions.specs.declared.Version.{Version}
 use Rattle.versions.specs.declared.Stated.{Stated}
 use Rattle.versions.specs.declared.Stated.the-variants as stated
 use Rattle.items.specs.declared.Header.{Header}
-use Rattle.verdict.specs.Judge.{Row, Report, Verdict, accepted, refused, judge}
+use Rattle.rows.specs.Rows.{width, table}
+use Rattle.verdict.specs.Judge.{Report, Verdict, accepted, refused, judge}
 use Rattle.reader.specs.declared.Ends.{Ends}
 use Rattle.reader.specs.declared.Part.{Part}
 use Rattle.reader.specs.declared.Reading.{Reading}
@@ -56,19 +57,14 @@ judgementOf v = record { reading = answerOf v; version = versionIn v }
 abbrev pub judged : Version → Header → Ends → Part → ℕ → Judgement
 judged v header ends signature count = record { reading = answer header ends signature count; version = stated.Is v }
 
--- a row a feature: tag, value place, value length
-unfoldable pub table : List Row → List ℕ
-table [] = []
-table (r ∷ rows) = r .tag ∷ r .place ∷ r .size ∷ table rows
-
 -- signer and reference
 abbrev pub text : Report → List ℕ
 text r = r .header .signer ++ r .header .reference
 
--- 12: seal good, but the lent table has under 3 numbers a feature, or the text room is under 4 + L
+-- 12: seal good, but the lent table has under a row's numbers a feature, or the text room is under 4 + L
 abbrev pub given : ℕ → ℕ → Verdict → Verdict
 given numbers room (accepted r) =
-    pick (ltb numbers (3 * length (r .rows))) (refused 12 0)
+    pick (ltb numbers (width * length (r .rows))) (refused 12 0)
     (pick (ltb room (4 + length (r .header .reference))) (refused 12 0) (accepted r))
 given numbers room (refused number place) = refused number place
 
@@ -76,7 +72,7 @@ given numbers room (refused number place) = refused number place
 abbrev pub reading : List ℕ → ℕ → ℕ → Verdict
 reading s numbers room = given numbers room (judge s)
 
--- what is written from the start of the table, and of the text; a refusal writes nothing
+-- what is written from the start of the table, a row a feature, and of the text; a refusal writes nothing
 abbrev pub rowsIn : Verdict → List ℕ
 rowsIn (accepted r) = table (r .rows)
 rowsIn (refused number place) = []

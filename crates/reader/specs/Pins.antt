@@ -1,7 +1,7 @@
 -- Computed examples of what the calls answer and write, for Seal A and for a refusal, and when 12 is told.
 -- Assumes nothing.
 use mathlib.Core.Path.{_≡_, refl, ap}
-use Prim.Native.Nat.{ℕ}
+use Prim.Native.Nat.{ℕ, _-_}
 use mathlib.Core.List.{List, [], _∷_}
 use mathlib.Core.Option.{none, Option·map}
 use Rattle.format.specs.Numbers.{val}
@@ -12,12 +12,13 @@ use Rattle.dates.specs.Days.{isDay}
 use Rattle.dates.specs.Calls.{no-date}
 use Rattle.der.specs.Length.{readLength, longForm}
 use Rattle.grammar.specs.Examples.{header-a, seal-a}
+use Rattle.rows.specs.Rows.{width, numbers, table}
 use Rattle.verdict.specs.Judge.{accepted, refused, header, tag, row, features, signature, reading, judge}
 use Rattle.verdict.specs.Judge.Pins.{report-a}
 use Rattle.versions.specs.Versions.{versionOf}
 use Rattle.reader.specs.Answer.{contentAs, contentIn}
 use Rattle.reader.specs.declared.Reading.{Reading}
-use Rattle.reader.specs.Calls.{answerOf, table, reading as asked, rowsIn, textIn, then}
+use Rattle.reader.specs.Calls.{answerOf, reading as asked, rowsIn, textIn, then}
 
 -- what the calls answer for Seal A and for a refusal
 a-answered : answerOf (accepted report-a) ≡ record { number = 0; place = 0; header = record { version = 3; country = header-a .country; length = 5; issued = header-a .issued; signed = header-a .signed; definition = 1; category = 2 }; ends = record { header = 18; message = 24; seal = 82 }; signature = record { place = 26; length = 56 }; count = 1 }
@@ -36,15 +37,15 @@ unfolding contentIn
 version-7 s table text r e = ap (λ n. Option·map (contentAs s r table text) (versionOf n)) e
 
 -- 12, and the room that is just enough
-table-short : asked seal-a 2 9 ≡ refused 12 0
+table-short : asked seal-a (width - 1) 9 ≡ refused 12 0
 unfolding judge reading header tag row features signature decode pairOf single values theChart valueOf isDay readLength longForm val
 table-short = refl
 
-text-short : asked seal-a 3 8 ≡ refused 12 0
+text-short : asked seal-a width 8 ≡ refused 12 0
 unfolding judge reading header tag row features signature decode pairOf single values theChart valueOf isDay readLength longForm val
 text-short = refl
 
-enough : asked seal-a 3 9 ≡ accepted report-a
+enough : asked seal-a width 9 ≡ accepted report-a
 unfolding judge reading header tag row features signature decode pairOf single values theChart valueOf isDay readLength longForm val
 enough = refl
 
@@ -54,7 +55,7 @@ verdict-first = refl
 
 -- what is written: the row, signer and reference; a refusal writes nothing, and memory past what is written stays
 a-rows : rowsIn (accepted report-a) ≡ 10 ∷ 20 ∷ 4 ∷ []
-unfolding table
+unfolding table numbers
 a-rows = refl
 
 a-text : textIn (accepted report-a) ≡ 85 ∷ 84 ∷ 65 ∷ 66 ∷ 48 ∷ 48 ∷ 48 ∷ 48 ∷ 49 ∷ []

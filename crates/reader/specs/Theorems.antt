@@ -17,7 +17,8 @@ use Rattle.verdict.specs.Judge.{Report, accepted, refused, judge}
 use Rattle.verdict.specs.Judge.Numbers.{from-list}
 use Rattle.verdict.specs.Judge.Complete.{reportOf}
 use Rattle.verdict.specs.Judge.Seals.{accepted-only}
-use Rattle.reader.specs.Calls.{answerOf, table, text, reading, rowsIn, textIn, then}
+use Rattle.rows.specs.Rows.{width, table}
+use Rattle.reader.specs.Calls.{answerOf, text, reading, rowsIn, textIn, then}
 use Rattle.reader.specs.Calls.Given.{room-enough, given-accepted, given-listed}
 use Rattle.reader.specs.Answer.{contentIn}
 use Rattle.reader.specs.Answer.Laws.{held}
@@ -32,7 +33,9 @@ pub refusal-keeps : (s : List ℕ) (rows names : List ℕ) (number place : ℕ) 
 refusal-keeps s rows names number place e = (ap (λ v. then (rowsIn v) rows) e, ap (λ v. then (textIn v) names) e)
 
 -- Condition 3: "Given room for the answer, a byte string is accepted exactly when it is the published form of a legal content": a published form is accepted
-pub accepted-when : (c : Content) → Legal c → (numbers room : ℕ) → 3 * length (c .features) ≤ numbers → 4 + length (c .header .reference) ≤ room → reading (publish c) numbers room ≡ accepted (reportOf c)
+pub accepted-when :
+    (c : Content) → Legal c → (numbers room : ℕ) → width * length (c .features) ≤ numbers → 4 + length (c .header .reference) ≤ room →
+    reading (publish c) numbers room ≡ accepted (reportOf c)
 accepted-when c l numbers room rows names = room-enough c l numbers room rows names
 
 -- The zone ends and the signature's part that an answer gives are those of a content: header, message and signature zone one after another

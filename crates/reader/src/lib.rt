@@ -5,7 +5,7 @@ ghost use lib.ListN.{length};
 ghost use Rattle.verdict.specs.Judge.{judge as verdict, refused as refusedBy};
 ghost use Rattle.reader.specs.Calls.{answerOf, judged, judgementOf, reading, rowsIn, textIn, then, Named};
 
-mod rows;
+mod table;
 
 use dates::Date;
 use items::Cursor;
@@ -196,7 +196,7 @@ pub fn read(seal: &[u8], table: &mut [usize], text: &mut [u8]) -> Reading
     let header = reading.header;
     let size = 4 + header.length;
     let count = reading.count;
-    if table.len() < 3 * count {
+    if table.len() < rows::WIDTH * count {
         return refused(Refusal {
             number: 12,
             place: 0,
@@ -210,7 +210,7 @@ pub fn read(seal: &[u8], table: &mut [usize], text: &mut [u8]) -> Reading
     }
     let ends = reading.ends;
     let start = Cursor { place: ends.header };
-    rows::put_rows(start, seal, version, count, table);
+    table::put_rows(start, seal, version, count, table);
     octets::copy(&names[..size], text, 0);
     reading
 }

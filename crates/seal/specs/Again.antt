@@ -5,15 +5,18 @@ pub mod Laws
 use Prim.Native.Nat.{ℕ, _+_, _*_}
 use mathlib.Core.List.{List}
 use lib.ListN.{take}
+use Rattle.rows.specs.Rows.{width, table}
 use Rattle.verdict.specs.Judge.{Report, accepted}
 use Rattle.verdict.specs.Report.{part}
-use Rattle.reader.specs.Calls.{answerOf, table, text}
+use Rattle.reader.specs.Calls.{answerOf, text}
 use Rattle.reader.specs.declared.Reading.{Reading}
 use Rattle.given.specs.Given.{Given, given}
 
 -- from the seal, the answer, and the lent table and text after the reading
 abbrev pub againFrom : List ℕ → Reading → List ℕ → List ℕ → Given
-againFrom s q rows names = given (q .header) (take (4 + q .header .length) names) (take (3 * q .count) rows) s (part (q .signature .place) (q .signature .length) s)
+againFrom s q rows names =
+    given (q .header) (take (4 + q .header .length) names) (take (width * q .count) rows) s
+    (part (q .signature .place) (q .signature .length) s)
 
 -- the same from the seal and its report
 abbrev pub again : List ℕ → Report → Given

@@ -22,6 +22,7 @@ use Rattle.grammar.specs.Content.{Content}
 use Rattle.grammar.specs.Publish.{signatureZone, signedBytes, publish}
 use Rattle.grammar.specs.Legal.{Legal}
 use Rattle.grammar.specs.Theorems as grammar
+use Rattle.rows.specs.Rows.{width}
 use Rattle.verdict.specs.Judge.{accepted, refused, judge}
 use Rattle.verdict.specs.Judge.Numbers.{from-list}
 use Rattle.verdict.specs.Judge.Complete.{published-accepted as legal-accepted}
@@ -153,9 +154,9 @@ pub record Published (s : List ℕ) : Type 0 where
   pub legal : Legal content
   pub form-is : publish content ≡ s
 
--- room for the answer: three numbers a feature, and 4 + L characters
+-- room for the answer: a row's numbers a feature, and 4 + L characters
 abbrev pub Room : Content → List ℕ → List ℕ → Type 0
-Room c rows names = (3 * length (c .features) ≤ length rows) × (4 + length (c .header .reference) ≤ length names)
+Room c rows names = (width * length (c .features) ≤ length rows) × (4 + length (c .header .reference) ≤ length names)
 
 pub accepted-published : (s : List ℕ) → Bytes s → (rows names : List ℕ) → answer s rows names .number ≡ 0 → Published s
 accepted-published s bytes rows names z =

@@ -14,13 +14,8 @@ use lib.ListN.{length}
 use Rattle.format.specs.Choice.{pick}
 use Rattle.format.specs.Table.{either}
 use Rattle.grammar.specs.Content.{Version, Header}
+pub use Rattle.rows.specs.declared.Row.{Row}
 use Rattle.verdict.specs.Items.{Item, is, not, next, whole, byte, mark, version, country, names, date, last, derLength, featureLength}
-
--- a feature's tag, the place of its value and its length
-pub record Row : Type 0 where
-  pub tag : ℕ
-  pub place : ℕ
-  pub size : ℕ
 
 -- what is reported of a seal; each zone ends one past its last byte
 pub record Report : Type 0 where

@@ -4,11 +4,9 @@ pub mod Order
 pub mod Names
 pub mod Rows
 use mathlib.Core.Path.{_≡_, ap, sym, subst, _∙_}
-use Prim.Native.Nat.{ℕ, _+_, _%_, _≤_}
-use borrow.Author.Tests.{eqb-true, eq-eqb}
+use Prim.Native.Nat.{ℕ, _+_, _≤_}
 use mathlib.Core.List.{List, []}
 use mathlib.Core.Option.{some}
-use lib.Dec.{eqb}
 use lib.ListN.{length}
 use Rattle.format.specs.Answers.{done}
 use Rattle.format.specs.Bytes.{Bytes, All}
@@ -20,8 +18,10 @@ use Rattle.grammar.specs.Publish.{publish}
 use Rattle.grammar.specs.Legal.{Legal}
 use Rattle.dates.specs.Days.Laws.{within-true, within-both}
 use Rattle.format.specs.Table.Laws.{both-true, both-are}
+use Rattle.rows.specs.Rows.{rowsOf, Whole, isWhole}
+use Rattle.rows.specs.Rows.Laws.{whole-true, whole-is}
 use Rattle.given.specs.Tests.{areRows}
-use Rattle.given.specs.Given.{rowsOf, Given, contentAs, contentOf}
+use Rattle.given.specs.Given.{Given, contentAs, contentOf}
 use Rattle.given.specs.Given.Laws.{says, said}
 use Rattle.writer.specs.Calls.{writing}
 use Rattle.writer.specs.Legal.Order.{done-passes, passes-done}
@@ -36,11 +36,12 @@ pub record Lent (g : Given) : Type 0 where
   pub values : Bytes (g .values)
   pub signature : Bytes (g .signature)
 
--- what is asked of a call beside its content: a country of three characters, L as the text has it, a table in threes, and each value inside the values buffer
+-- what is asked of a call beside its content: a country of three characters, L as the text has it, a table of whole rows, and each value
+-- inside the values buffer
 pub record Sound (g : Given) : Type 0 where
   pub country : length (g .header .country) ≡ 3
   pub measured : g .header .length + 4 ≡ length (g .text)
-  pub threes : length (g .table) % 3 ≡ 0
+  pub whole : Whole (g .table)
   pub inside : All (Inside (length (g .values))) (rowsOf (g .table))
 
 -- a call that is answered 0
@@ -63,7 +64,7 @@ written-legal g room s lent e =
     let n = names-legal v h (g .text) (p .names) in
     let days = both-true (isDay (h .issued)) (isDay (h .signed)) (p .days) in
     let last = both-true (within 1 254 (h .definition)) (within 1 254 (h .category)) (p .last) in
-    let table = both-true (eqb (length (g .table) % 3) 0) (areRows (length (g .values)) [] (rowsOf (g .table))) (p .table) in
+    let table = both-true (isWhole (g .table)) (areRows (length (g .values)) [] (rowsOf (g .table))) (p .table) in
     let rows = rows-legal (g .values) v [] (rowsOf (g .table)) (lent .values) (table .1) (p .sizes) in
     record {
       content = contentAs g v;
@@ -87,7 +88,7 @@ written-legal g room s lent e =
       sound = record {
         country = lent .country;
         measured = n .measured;
-        threes = eqb-true (length (g .table) % 3) 0 (table .0);
+        whole = whole-true (g .table) (table .0);
         inside = rows .1;
       };
       form-is = d .form-is;
@@ -106,7 +107,9 @@ legal-as v g room version sound l fits =
       names = names-pass v h (g .text) (record { country = l .header .country; signer = l .header .signer; reference = l .header .reference; size = l .header .size; measured = sound .measured });
       days = both-are (isDay (h .issued)) (isDay (h .signed)) (l .header .issued) (l .header .signed);
       last = both-are (within 1 254 (h .definition)) (within 1 254 (h .category)) (within-true 1 254 (h .definition) (l .header .definition .0) (l .header .definition .1)) (within-true 1 254 (h .category) (l .header .category .0) (l .header .category .1));
-      table = both-are (eqb (length (g .table) % 3) 0) (areRows (length (g .values)) [] (rowsOf (g .table))) (eq-eqb (length (g .table) % 3) 0 (sound .threes)) (rows .0);
+      table =
+          both-are (isWhole (g .table)) (areRows (length (g .values)) [] (rowsOf (g .table)))
+          (whole-is (g .table) (sound .whole)) (rows .0);
       sizes = rows .1;
       signature = size-passes (length (g .signature)) (l .signature);
       size = l .size;

@@ -26,9 +26,9 @@ use Rattle.grammar.specs.Content.{Version, three, four}
 use Rattle.grammar.specs.Legal.{ValueSize}
 use Rattle.grammar.specs.Publish.{names, lengthOf, feature, messageZone}
 use Rattle.verdict.specs.Report.{featureOf}
-use Rattle.verdict.specs.Judge.{Row}
-use Rattle.given.specs.Given.{rowsOf}
-use Rattle.given.specs.Rows.{rowAt, rows-end, rows-here}
+use Rattle.rows.specs.declared.Row.{Row}
+use Rattle.rows.specs.Rows.{width, rowAt, rowsOf}
+use Rattle.rows.specs.Rows.Laws.{rows-here, rows-end}
 use Rattle.writer.specs.Steps.{Room, Named, Measured, Fits, Fitting, spelled, sixOf}
 use Rattle.given.specs.Tests.Laws.{size-four}
 use Rattle.writer.specs.Steps.Laws.{spelled-six, six-text, reference-text}
@@ -239,10 +239,10 @@ pub record Putting (version : Version) (values t out₀ : List ℕ) (start : ℕ
   pub whole : messageZone version (map (featureOf values) (rowsOf t)) ≡ before ++ messageZone version (map (featureOf values) (rowsOf (drop row t)))
   pub fits : Fitting version (length values) (rowsOf (drop row t))
   pub room : Room out₀ start (messageZone version (map (featureOf values) (rowsOf t)))
-  pub inside : row ≤ length t
 
 pub putting-start : (version : Version) (values t out : List ℕ) (start : ℕ) → Fitting version (length values) (rowsOf t) → Room out start (messageZone version (map (featureOf values) (rowsOf t))) → Putting version values t out start out start 0
-putting-start version values t out start fits room = record { before = []; reached = omega arith; is = sym (over-none out start); whole = refl; fits = fits; room = room; inside = omega arith }
+putting-start version values t out start fits room =
+    record { before = []; reached = omega arith; is = sym (over-none out start); whole = refl; fits = fits; room = room }
 
 module _ (version : Version) (values t out₀ : List ℕ) (start : ℕ) (out : List ℕ) (at row : ℕ) (p : Putting version values t out₀ start out at row) where
   long : length (p .before) ≤ length (messageZone version (map (featureOf values) (rowsOf t)))
@@ -251,49 +251,70 @@ module _ (version : Version) (values t out₀ : List ℕ) (start : ℕ) (out : L
   pub putting-length : length out ≡ length out₀
   putting-length = ap length (p .is) ∙ length-over out₀ start (p .before) (omega (arith, long, p .room))
 
-  pub putting-end : length t ≤ row + 2 → (at ≡ start + length (messageZone version (map (featureOf values) (rowsOf t)))) × (out ≡ over out₀ start (messageZone version (map (featureOf values) (rowsOf t))))
+  abbrev zone : List Row → List ℕ
+  zone rows = messageZone version (map (featureOf values) rows)
+
+  pub putting-end : length t < row + width → (at ≡ start + length (zone (rowsOf t))) × (out ≡ over out₀ start (zone (rowsOf t)))
   putting-end h =
-      let all : messageZone version (map (featureOf values) (rowsOf t)) ≡ p .before =
-      p .whole ∙ ap (λ r. p .before ++ messageZone version (map (featureOf values) r)) (rows-end t row h) ∙ ap (λ z. p .before ++ z) (zone-none version values) ∙ append-nil (p .before) in
+      let all : zone (rowsOf t) ≡ p .before =
+      p .whole ∙ ap (λ rows. p .before ++ zone rows) (rows-end t row h) ∙ ap (λ z. p .before ++ z) (zone-none version values)
+      ∙ append-nil (p .before) in
       (omega (arith, ap length all, p .reached), p .is ∙ ap (over out₀ start) (sym all))
 
-  module _ (here : row + 2 < length t) where
-    all-fit : All (Fits version (length values)) (rowAt t row ∷ rowsOf (drop (row + 3) t))
-    all-fit = subst (λ r. All (Fits version (length values)) r) (rows-here t row here) (p .fits)
+  -- the row that stands here
+  module _ (here : row + width ≤ length t) (r : Row) (e : r ≡ rowAt t row) where
+    abbrev rows-left : List Row
+    rows-left = rowsOf (drop (row + width) t)
 
-    -- the row was judged
-    pub putting-fits : Fits version (length values) (rowAt t row)
+    row-first : rowsOf (drop row t) ≡ r ∷ rows-left
+    row-first = rows-here t row here ∙ ap (λ q. q ∷ rows-left) (sym e)
+
+    all-fit : All (Fits version (length values)) (r ∷ rows-left)
+    all-fit = subst (λ rows. All (Fits version (length values)) rows) row-first (p .fits)
+
+    -- it was judged
+    pub putting-fits : Fits version (length values) r
     putting-fits = all-fit .0
 
-    on : messageZone version (map (featureOf values) (rowsOf t)) ≡ p .before ++ (feature version (featureOf values (rowAt t row)) ++ messageZone version (map (featureOf values) (rowsOf (drop (row + 3) t))))
-    on =
-        p .whole ∙ ap (λ r. p .before ++ messageZone version (map (featureOf values) r)) (rows-here t row here)
-        ∙ ap (λ z. p .before ++ z) (zone-cons version values (rowAt t row) (rowsOf (drop (row + 3) t)))
+    on : zone (rowsOf t) ≡ p .before ++ (feature version (featureOf values r) ++ zone rows-left)
+    on = p .whole ∙ ap (λ rows. p .before ++ zone rows) row-first ∙ ap (λ z. p .before ++ z) (zone-cons version values r rows-left)
 
-    module _ (value : List ℕ) (e : value ≡ take (getD t (row + 2) 0) (drop (getD t (row + 1) 0) values)) where
-      same : feature version (featureOf values (rowAt t row)) ≡ feature version (record { tag = getD t row 0; value = value })
-      same = ap (λ l. feature version (record { tag = getD t row 0; value = l })) (sym e)
+    module _ (value : List ℕ) (f : value ≡ take (r .size) (drop (r .place) values)) where
+      abbrev put : List ℕ
+      put = feature version (record { tag = r .tag; value = value })
 
-      sized : length value ≡ getD t (row + 2) 0
-      sized = ap length e ∙ length-take-le (getD t (row + 2) 0) (drop (getD t (row + 1) 0) values) (omega (arith, putting-fits .1, length-drop (getD t (row + 1) 0) values))
+      same : feature version (featureOf values r) ≡ put
+      same = ap (λ l. feature version (record { tag = r .tag; value = l })) (sym f)
 
-      fits-here : Room out at (feature version (record { tag = getD t row 0; value = value }))
+      sized : length value ≡ r .size
+      sized =
+          ap length f
+          ∙ length-take-le (r .size) (drop (r .place) values) (omega (arith, putting-fits .1, length-drop (r .place) values))
+
+      fits-here : Room out at put
       fits-here =
-          let f = feature version (featureOf values (rowAt t row)) in
-          let rest = messageZone version (map (featureOf values) (rowsOf (drop (row + 3) t))) in
-          omega (arith, ap length on, length-append (p .before) (f ++ rest), length-append f rest, ap length same, p .room, p .reached, putting-length)
+          let one = feature version (featureOf values r) in
+          let rest = zone rows-left in
+          let whole = length-append (p .before) (one ++ rest) in
+          omega (arith, ap length on, whole, length-append one rest, ap length same, p .room, p .reached, putting-length)
 
-      pub putting-asks : (getD t row 0 < 256) × Measured version (length value) × Room out at (feature version (record { tag = getD t row 0; value = value }))
-      putting-asks = (omega (arith, putting-fits .0), (omega (arith, putting-fits .2 .0, sized), subst (ValueSize version) (sym sized) (putting-fits .2 .1)), fits-here)
+      pub putting-asks : (r .tag < 256) × Measured version (length value) × Room out at put
+      putting-asks = (
+        omega (arith, putting-fits .0),
+        (omega (arith, putting-fits .2 .0, sized), subst (ValueSize version) (sym sized) (putting-fits .2 .1)),
+        fits-here,
+      )
 
-      pub putting-more : (out′ : List ℕ) (at′ : ℕ) → at′ ≡ at + length (feature version (record { tag = getD t row 0; value = value })) → out′ ≡ over out at (feature version (record { tag = getD t row 0; value = value })) → Putting version values t out₀ start out′ at′ (row + 3)
-      putting-more out′ at′ ea eo =
-          let f = feature version (record { tag = getD t row 0; value = value }) in record {
-            before = p .before ++ f;
-            reached = omega (arith, p .reached, ea, length-append (p .before) f);
-            is = eo ∙ ap (λ o. over o at f) (p .is) ∙ ap (λ k. over (over out₀ start (p .before)) k f) (p .reached) ∙ over-over out₀ start (p .before) f (omega (arith, long, p .room));
-            whole = on ∙ ap (λ l. p .before ++ (l ++ messageZone version (map (featureOf values) (rowsOf (drop (row + 3) t))))) same ∙ sym (append-assoc (p .before) f (messageZone version (map (featureOf values) (rowsOf (drop (row + 3) t)))));
-            fits = all-fit .1;
-            room = p .room;
-            inside = omega arith;
-          }
+      pub putting-more :
+          (out′ : List ℕ) (at′ : ℕ) → at′ ≡ at + length put → out′ ≡ over out at put →
+          Putting version values t out₀ start out′ at′ (row + width)
+      putting-more out′ at′ ea eo = record {
+        before = p .before ++ put;
+        reached = omega (arith, p .reached, ea, length-append (p .before) put);
+        is =
+            eo ∙ ap (λ o. over o at put) (p .is) ∙ ap (λ k. over (over out₀ start (p .before)) k put) (p .reached)
+            ∙ over-over out₀ start (p .before) put (omega (arith, long, p .room));
+        whole = on ∙ ap (λ l. p .before ++ (l ++ zone rows-left)) same ∙ sym (append-assoc (p .before) put (zone rows-left));
+        fits = all-fit .1;
+        room = p .room;
+      }

@@ -7,7 +7,7 @@ use lib.ListN.{length}
 use Rattle.der.specs.Length.{form}
 use Rattle.grammar.specs.Content.{Version, three, four}
 use Rattle.grammar.specs.Publish.{lengthOf}
-use Rattle.verdict.specs.Judge.{Row}
+use Rattle.rows.specs.declared.Row.{Row}
 
 -- the features of the rows
 unfoldable pub rowsSize : Version → List Row → ℕ

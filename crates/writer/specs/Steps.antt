@@ -14,7 +14,8 @@ use Rattle.versions.specs.declared.Version.{Version}
 use Rattle.grammar.specs.Legal.{ValueSize}
 use Rattle.grammar.specs.Publish.{carried, hexDigits, names, publish}
 use Rattle.letters.specs.Characters.{isReference, all, isSigner}
-use Rattle.verdict.specs.Judge.{Row, isSignature}
+use Rattle.rows.specs.declared.Row.{Row}
+use Rattle.verdict.specs.Judge.{isSignature}
 use Rattle.items.specs.declared.Header.{Header}
 use Rattle.given.specs.Tests.{isTextSize, areNames, areDays, areLast, isTable, areValues}
 use Rattle.given.specs.Given.{Given, threeOf, contentAs}

@@ -2,7 +2,7 @@
 -- Assumes nothing.
 use mathlib.Core.Path.{_≡_, refl, ap, sym, subst, _∙_}
 use mathlib.Core.Bool.{true, false}
-use Prim.Native.Nat.{ℕ, _+_, _-_, _*_, _/_, _%_, _≤_}
+use Prim.Native.Nat.{ℕ, _+_, _-_, _*_, _/_, _≤_}
 use native.Mathlib.Omega.{arith}
 use native.Mathlib.Nat.{zero-add}
 use borrow.Author.Tests.{leb-true}
@@ -26,13 +26,15 @@ use Rattle.grammar.specs.Publish.{carried, names, lengthOf, feature, headerZone
 use Rattle.format.specs.Table.Laws.{both-true}
 use Rattle.letters.specs.Characters.{isSigner, isCountry}
 use Rattle.verdict.specs.Report.{featureOf}
-use Rattle.verdict.specs.Judge.{Row, used, isSignature}
+use Rattle.rows.specs.declared.Row.{Row}
+use Rattle.rows.specs.Rows.{rowsOf, isWhole}
+use Rattle.verdict.specs.Judge.{used, isSignature}
 use Rattle.verdict.specs.Judge.Complete.{size-small}
 use Rattle.verdict.specs.Judge.Sound.{size-of}
 use Rattle.items.specs.declared.Header.{Header}
 use Rattle.given.specs.Tests.Laws.{size-three, size-four, sized-head}
 use Rattle.given.specs.Tests.{isTextSize, isRow, areRows, isTable, areSized}
-use Rattle.given.specs.Given.{rowsOf, threeOf, Given, contentAs}
+use Rattle.given.specs.Given.{threeOf, Given, contentAs}
 use Rattle.writer.specs.Steps.{Room, Fitting, Named, Headed, Dated, front, rest, Passed, spelled}
 use Rattle.writer.specs.Sizes.{rowsSize, namesSize, sealSize}
 use Rattle.writer.specs.Put.{zone-none, zone-cons, names-three, names-four, spelled-long}
@@ -150,7 +152,10 @@ seal-parts v g = simp append-assoc
 
 module _ (v : Version) (g : Given) (h : Headed v (g .header) (g .text)) (table : isTable (length (g .values)) (g .table) ≡ true) where
   inside : All (Inside (length (g .values))) (rowsOf (g .table))
-  inside = rows-inside (length (g .values)) [] (rowsOf (g .table)) (both-true (eqb (length (g .table) % 3) 0) (areRows (length (g .values)) [] (rowsOf (g .table))) table .1)
+  inside =
+      let n = length (g .values) in
+      let rows = rowsOf (g .table) in
+      rows-inside n [] rows (both-true (isWhole (g .table)) (areRows n [] rows) table .1)
 
   pub seal-size : length (publish (contentAs g v)) ≡ sealSize v (length (g .text)) (rowsOf (g .table)) (length (g .signature))
   seal-size =

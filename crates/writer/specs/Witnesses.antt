@@ -17,7 +17,8 @@ use Rattle.grammar.specs.Publish.{headerZone, messageZone, signatureZone, signe
 use Rattle.grammar.specs.Examples.{uto, utab, ref-00001, d-fillers, spring, content-a, seal-a, content-b, signed-b}
 use Rattle.items.specs.declared.Header.{Header}
 use Rattle.given.specs.Tests.{areRows, areShort}
-use Rattle.given.specs.Given.{rowsOf, Given, contentAs, contentOf, given}
+use Rattle.rows.specs.Rows.{numbers, valued, rowAt, table, firstRows, rowsOf}
+use Rattle.given.specs.Given.{Given, contentAs, contentOf, given}
 use Rattle.writer.specs.Calls.{writingAs, writing}
 
 -- Seal A as it is given: header, text, one row over four bytes, signature
@@ -31,7 +32,7 @@ abbrev text-a : List ℕ
 text-a = utab ++ ref-00001
 
 abbrev table-a : List ℕ
-table-a = 10 ∷ 0 ∷ 4 ∷ []
+table-a = table (valued 10 0 4 ∷ [])
 
 abbrev values-a : List ℕ
 values-a = 0xDE ∷ 0x51 ∷ 0x58 ∷ 0x26 ∷ []
@@ -43,11 +44,12 @@ abbrev pub given-a : Given
 given-a = given header-a text-a table-a values-a signature-a
 
 a-content : contentOf given-a ≡ some content-a
-unfolding contentOf contentAs rowsOf
+unfolding contentOf contentAs numbers rowAt table firstRows rowsOf
 a-content = refl
 
 pub seal-a-written : writing given-a 82 ≡ done seal-a
-unfolding writing writingAs contentAs rowsOf areRows areShort isDay publish signedBytes headerZone messageZone signatureZone date be c40 triple theChart valueOf form
+unfolding writing writingAs contentAs areRows areShort isDay publish signedBytes headerZone messageZone signatureZone date be c40 triple
+    theChart valueOf form numbers rowAt table firstRows rowsOf
 seal-a-written = refl
 
 -- B, version 4, where no two fields are alike: the rows stand in another order than their values, and the last value is empty at the buffer's end
@@ -56,16 +58,17 @@ given-b =
     given
     (record { version = 4; country = d-fillers; length = 10; issued = lastDay; signed = firstDay; definition = 254; category = 1 })
     (65 ∷ 90 ∷ 48 ∷ 57 ∷ 70 ∷ 57 ∷ 65 ∷ 48 ∷ 65 ∷ 66 ∷ 67 ∷ 68 ∷ 69 ∷ 70 ∷ [])
-    (254 ∷ 1 ∷ 128 ∷ 0 ∷ 129 ∷ 0 ∷ [])
+    (table (valued 254 1 128 ∷ valued 0 129 0 ∷ []))
     (9 ∷ replicate 128 7)
     (replicate 128 0xAA)
 
 b-content : contentOf given-b ≡ some content-b
-unfolding contentOf contentAs rowsOf
+unfolding contentOf contentAs numbers rowAt table firstRows rowsOf
 b-content = refl
 
 pub seal-b-written : writing given-b 288 ≡ done (signed-b ++ (0xFF ∷ 0x81 ∷ 0x80 ∷ replicate 128 0xAA))
-unfolding writing writingAs contentAs rowsOf areRows areShort isDay publish signedBytes headerZone messageZone signatureZone date be c40 triple theChart valueOf form
+unfolding writing writingAs contentAs areRows areShort isDay publish signedBytes headerZone messageZone signatureZone date be c40 triple
+    theChart valueOf form numbers rowAt table firstRows rowsOf
 seal-b-written = refl
 
 -- a call, the room lent and the number of the refusal
@@ -85,11 +88,11 @@ abbrev with-text : ℕ → List ℕ → Witness
 with-text size text = record { call = given (headed 3 uto size spring 2) text table-a values-a signature-a; room = 82; number = 21 }
 
 abbrev with-table : List ℕ → Witness
-with-table table = record { call = given header-a text-a table values-a signature-a; room = 82; number = 24 }
+with-table t = record { call = given header-a text-a t values-a signature-a; room = 82; number = 24 }
 
 -- so many bytes as the one value, in version 4
 abbrev large : ℕ → Given
-large n = given (headed 4 uto 1 spring 2) (utab ++ (55 ∷ [])) (0 ∷ 0 ∷ n ∷ []) (replicate n 0) signature-a
+large n = given (headed 4 uto 1 spring 2) (utab ++ (55 ∷ [])) (table (valued 0 0 n ∷ [])) (replicate n 0) signature-a
 
 abbrev day-32 : Date
 day-32 = record { month = 3; day = 32; year = 1957 }
@@ -109,20 +112,21 @@ witnesses =
     ∷ with-header (headed 3 uto 5 day-32 2) 22
     ∷ with-header (headed 3 uto 5 spring 0) 23
     ∷ with-header (headed 3 uto 5 spring 255) 23
-    -- not in threes; tag 255; used twice; a value that ends, and one that starts, outside
-    ∷ with-table (10 ∷ 0 ∷ 4 ∷ 11 ∷ [])
-    ∷ with-table (255 ∷ 0 ∷ 4 ∷ [])
-    ∷ with-table (10 ∷ 0 ∷ 1 ∷ 11 ∷ 1 ∷ 1 ∷ 10 ∷ 2 ∷ 1 ∷ [])
-    ∷ with-table (10 ∷ 1 ∷ 4 ∷ [])
-    ∷ with-table (10 ∷ 5 ∷ 0 ∷ [])
-    ∷ record { call = given header-a text-a (10 ∷ 0 ∷ 256 ∷ []) (replicate 256 0) signature-a; room = 400; number = 25 }
+    -- a number over; tag 255; used twice; a value that ends, and one that starts, outside
+    ∷ with-table (table (valued 10 0 4 ∷ []) ++ (11 ∷ []))
+    ∷ with-table (table (valued 255 0 4 ∷ []))
+    ∷ with-table (table (valued 10 0 1 ∷ valued 11 1 1 ∷ valued 10 2 1 ∷ []))
+    ∷ with-table (table (valued 10 1 4 ∷ []))
+    ∷ with-table (table (valued 10 5 0 ∷ []))
+    ∷ record { call = given header-a text-a (table (valued 10 0 256 ∷ [])) (replicate 256 0) signature-a; room = 400; number = 25 }
     ∷ record { call = given header-a text-a table-a values-a (replicate 57 0xAA); room = 100; number = 26 }
     ∷ record { call = large 4017; room = 5000; number = 27 }
     ∷ record { call = given-a; room = 81; number = 28 }
     ∷ []
 
 pub each-is-given : All Refused witnesses
-unfolding writing writingAs contentAs rowsOf areRows areShort isDay publish signedBytes headerZone messageZone signatureZone date be c40 triple theChart valueOf form
+unfolding writing writingAs contentAs areRows areShort isDay publish signedBytes headerZone messageZone signatureZone date be c40 triple
+    theChart valueOf form numbers rowAt table firstRows rowsOf
 each-is-given = (refl, (refl, (refl, (refl, (refl, (refl, (refl, (refl, (refl, (refl, (refl, (refl, (refl, (refl, (refl, (refl, (refl, (refl, (refl, tt)))))))))))))))))))
 
 -- they are 20 to 28, none left out
@@ -131,21 +135,22 @@ all-of-them = refl
 
 -- "20 to 28 in order": a call with every fault, and after it the faults put right one by one from the left; past 26 a seal that would be too long for which there is no room
 abbrev faults : Header → List ℕ → List ℕ → List ℕ → ℕ → Witness
-faults h text table values number = record { call = given h text table values (replicate 57 0xAA); room = 0; number = number }
+faults h text t values number = record { call = given h text t values (replicate 57 0xAA); room = 0; number = number }
 
 abbrev pub in-order : List Witness
 in-order =
-    faults (headed 2 (68 ∷ 32 ∷ 32 ∷ []) 5 day-32 0) [] (10 ∷ 0 ∷ 256 ∷ 1 ∷ []) (replicate 256 0) 20
-    ∷ faults (headed 3 (68 ∷ 32 ∷ 32 ∷ []) 5 day-32 0) [] (10 ∷ 0 ∷ 256 ∷ 1 ∷ []) (replicate 256 0) 21
-    ∷ faults (headed 3 uto 5 day-32 0) text-a (10 ∷ 0 ∷ 256 ∷ 1 ∷ []) (replicate 256 0) 22
-    ∷ faults (headed 3 uto 5 spring 0) text-a (10 ∷ 0 ∷ 256 ∷ 1 ∷ []) (replicate 256 0) 23
-    ∷ faults header-a text-a (10 ∷ 0 ∷ 256 ∷ 1 ∷ []) (replicate 256 0) 24
-    ∷ faults header-a text-a (10 ∷ 0 ∷ 256 ∷ []) (replicate 256 0) 25
-    ∷ faults header-a text-a (10 ∷ 0 ∷ 255 ∷ []) (replicate 256 0) 26
+    faults (headed 2 (68 ∷ 32 ∷ 32 ∷ []) 5 day-32 0) [] (table (valued 10 0 256 ∷ []) ++ (1 ∷ [])) (replicate 256 0) 20
+    ∷ faults (headed 3 (68 ∷ 32 ∷ 32 ∷ []) 5 day-32 0) [] (table (valued 10 0 256 ∷ []) ++ (1 ∷ [])) (replicate 256 0) 21
+    ∷ faults (headed 3 uto 5 day-32 0) text-a (table (valued 10 0 256 ∷ []) ++ (1 ∷ [])) (replicate 256 0) 22
+    ∷ faults (headed 3 uto 5 spring 0) text-a (table (valued 10 0 256 ∷ []) ++ (1 ∷ [])) (replicate 256 0) 23
+    ∷ faults header-a text-a (table (valued 10 0 256 ∷ []) ++ (1 ∷ [])) (replicate 256 0) 24
+    ∷ faults header-a text-a (table (valued 10 0 256 ∷ [])) (replicate 256 0) 25
+    ∷ faults header-a text-a (table (valued 10 0 255 ∷ [])) (replicate 256 0) 26
     ∷ record { call = large 4017; room = 0; number = 27 }
     ∷ record { call = large 4016; room = 0; number = 28 }
     ∷ []
 
 pub each-in-order : All Refused in-order
-unfolding writing writingAs contentAs rowsOf areRows areShort isDay publish signedBytes headerZone messageZone signatureZone date be c40 triple theChart valueOf form
+unfolding writing writingAs contentAs areRows areShort isDay publish signedBytes headerZone messageZone signatureZone date be c40 triple
+    theChart valueOf form numbers rowAt table firstRows rowsOf
 each-in-order = (refl, (refl, (refl, (refl, (refl, (refl, (refl, (refl, (refl, tt)))))))))

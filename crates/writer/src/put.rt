@@ -6,8 +6,9 @@ ghost use lib.ListN.{length};
 ghost use Rattle.format.specs.Buffer.{over};
 ghost use Rattle.dates.specs.Days.{Day, publish as dateIn};
 ghost use Rattle.grammar.specs.Publish.{lengthOf, feature, messageZone, publish};
+ghost use Rattle.rows.specs.Rows.{rowsOf};
 ghost use Rattle.verdict.specs.Report.{featureOf};
-ghost use Rattle.given.specs.Given.{given, rowsOf, contentAs};
+ghost use Rattle.given.specs.Given.{given, contentAs};
 ghost use Rattle.writer.specs.Steps.{Room, Measured, Fitting, Headed, Dated, front, rest, Passed};
 use crate::names::carried;
 use crate::names::put_names;
@@ -15,6 +16,9 @@ use crate::names::put_text;
 use dates::Date;
 use dates::Numbered;
 use items::Header;
+use rows::Found;
+use rows::WIDTH;
+use rows::row_at;
 use versions::Version;
 
 // Puts down a date.
@@ -120,20 +124,17 @@ pub(crate) fn put_rows(
     ensures place { λ r. ⌜ r ≡ start + length (messageZone version (map (featureOf (now (values .entry))) (rowsOf (now (rows .entry))))) ⌝ }
     ensures buffer { λ r. ⌜ now (out .exit) ≡ over (now (out .entry)) start (messageZone version (map (featureOf (now (values .entry))) (rowsOf (now (rows .entry))))) ⌝ }
 {
-    let n = rows.len();
-    if n < 3 {
-        return start;
-    }
-    let last = n - 2;
     let mut at = start;
-    let mut row: usize = 0;
-    while row < last {
-        let place = rows[row + 1];
-        let end = place + rows[row + 2];
-        at = put_feature(version, rows[row], &values[place..end], out, at);
-        row += 3;
+    let mut from: usize = 0;
+    loop {
+        let Found::Is(row) = row_at(rows, from) else {
+            return at;
+        };
+        let place = row.place;
+        let end = place + row.size;
+        at = put_feature(version, row.tag, &values[place..end], out, at);
+        from += WIDTH;
     }
-    at
 }
 
 // Puts down a seal whose parts were judged, from the start of `out`, which has room for it.

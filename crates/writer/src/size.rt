@@ -3,8 +3,11 @@ ghost use mathlib.Core.Path.{_≡_};
 ghost use Prim.Native.Nat.{min, _+_, _≤_};
 ghost use lib.ListN.{length};
 ghost use Rattle.grammar.specs.Publish.{lengthOf};
-ghost use Rattle.given.specs.Given.{rowsOf};
+ghost use Rattle.rows.specs.Rows.{rowsOf};
 ghost use Rattle.writer.specs.Sizes.{rowsSize, namesSize, sealSize};
+use rows::Found;
+use rows::WIDTH;
+use rows::row_at;
 use versions::Version;
 
 // How many bytes a length takes.
@@ -23,11 +26,13 @@ pub(crate) fn rows_size(version: Version, rows: &[usize], start: usize) -> usize
     requires { ⌜ start ≤ 4096 ⌝ }
     ensures { λ r. ⌜ r ≡ min (start + rowsSize version (rowsOf (now (rows .entry)))) 4097 ⌝ }
 {
-    let n = rows.len();
     let mut total = start;
     let mut at: usize = 0;
-    while at + 2 < n {
-        let size = rows[at + 2];
+    loop {
+        let Found::Is(row) = row_at(rows, at) else {
+            return total;
+        };
+        let size = row.size;
         if 4096 < size {
             return 4097;
         }
@@ -35,9 +40,8 @@ pub(crate) fn rows_size(version: Version, rows: &[usize], start: usize) -> usize
         if 4096 < total {
             return 4097;
         }
-        at += 3;
+        at += WIDTH;
     }
-    total
 }
 
 // How many bytes signer and reference take, of so many characters.

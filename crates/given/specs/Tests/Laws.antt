@@ -14,7 +14,7 @@ use Rattle.dates.specs.Days.Laws.{within-both}
 use Rattle.grammar.specs.Content.{Version, three, four}
 use Rattle.letters.specs.Characters.{isReference, all, isCountry, isSigner}
 use Rattle.grammar.specs.Legal.{ValueSize}
-use Rattle.verdict.specs.Judge.{Row}
+use Rattle.rows.specs.declared.Row.{Row}
 use Rattle.items.specs.declared.Header.{Header}
 use Rattle.given.specs.Tests.{isTextSize, areNames, areShort, areSized}
 

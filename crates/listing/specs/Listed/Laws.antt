@@ -1,11 +1,11 @@
 -- The listing of a verdict is what the code puts down for its reading.
 -- Assumes nothing.
 use mathlib.Core.Path.{_≡_, refl, ap, ap₂, sym, subst, _∙_}
-use Prim.Native.Nat.{ℕ, _≤_, _<_}
+use Prim.Native.Nat.{ℕ, _*_, _≤_, _<_}
 use native.Mathlib.Omega.{arith}
 use native.Mathlib.Decide.{decLe}
 use borrow.Author.Tests.{ne-eqb}
-use mathlib.Core.List.{List, [], _∷_, _++_, append-assoc}
+use mathlib.Core.List.{List, _++_, append-assoc}
 use lib.ListN.{length, take, drop, length-append, length-take, length-drop}
 use lib.Seq.{take-at, drop-at, take-all}
 use Rattle.format.specs.Choice.{pick}
@@ -14,22 +14,24 @@ use Rattle.format.specs.Answers.{done, filled}
 use Rattle.format.specs.Buffer.Laws.{over-start}
 use Rattle.lines.specs.Line.{Put, Counts}
 use Rattle.lines.specs.Line.Laws.{counts-filled, put-whole}
-use Rattle.verdict.specs.Judge.{Row, Verdict, accepted, refused, judge}
+use Rattle.rows.specs.declared.Row.{Row}
+use Rattle.rows.specs.Rows.{width, table}
+use Rattle.rows.specs.Rows.Laws.{rows-taken}
+use Rattle.verdict.specs.Judge.{Verdict, accepted, refused, judge}
 use Rattle.verdict.specs.Judge.Numbers.{FromList, from-list}
 use Rattle.reader.specs.Judged.{judge-long}
-use Rattle.reader.specs.Calls.{answerOf, table, given, reading, rowsIn, textIn, then}
+use Rattle.reader.specs.Calls.{answerOf, given, reading, rowsIn, textIn, then}
 use Rattle.reader.specs.Calls.Reads.{accepted-report, both-fit}
 use Rattle.reader.specs.declared.Reading.{Reading}
 use Rattle.listing.specs.Room.{Word, room}
-use Rattle.listing.specs.Listed.{featureLines, listed, feature, Enough}
+use Rattle.listing.specs.Listed.{featureLines, listed, Enough}
 use Rattle.listing.specs.Listing.{features, nameLines, dateLines, listing}
 use Rattle.listing.specs.Listing as put
 
 -- the rows of the table are those of the report
 rows-are : (rows : List Row) (rest : List ℕ) → features (length rows) (table rows ++ rest) ≡ featureLines rows
-unfolding features featureLines table
-rows-are [] rest = refl
-rows-are (r ∷ rows) rest = ap (λ l. feature (r .tag) (r .place) (r .size) ++ l) (rows-are rows rest)
+unfolding features
+rows-are rows rest = ap featureLines (rows-taken rows rest)
 
 -- signer and reference are found in the text again
 module _ (signer reference rest : List ℕ) (four : length signer ≡ 4) where
@@ -60,8 +62,8 @@ listing-is (refused number place) t x l four =
     let n : number ≡ 0 → ⊥ = λ e. omega (arith, l .0, e) in
     ap (λ b. pick b (put.accepted (answerOf (refused number place)) t x) (put.refused number place)) (ne-eqb number 0 n)
 
--- 765 numbers of table and 259 bytes of text are room enough for every seal, so that 12 is never answered
-module _ (numbers room : ℕ) (rows : 765 ≤ numbers) (names : 259 ≤ room) where
+-- 255 rows of table and 259 bytes of text are room enough for every seal, so that 12 is never answered
+module _ (numbers room : ℕ) (rows : 255 * width ≤ numbers) (names : 259 ≤ room) where
   fits : (s : List ℕ) → Bytes s → (v : Verdict) → judge s ≡ v → given numbers room v ≡ v
   fits s bytes (accepted r) e =
       let a = accepted-report s bytes (answerOf (judge s)) (r .header .version) r refl refl e in
@@ -105,7 +107,7 @@ Lists s old new count =
 -- the call: what a reading with so much table and text leaves, put down in a buffer with room for every listing
 module _ (s : List ℕ) (bytes : Bytes s) (t x t′ x′ : List ℕ) (q : Reading) (small : Small q) (numbers names : ℕ) where
   pub whole :
-      765 ≤ numbers →
+      255 * width ≤ numbers →
       259 ≤ names →
       q ≡ answerOf (reading s numbers names) →
       t′ ≡ then (rowsIn (reading s numbers names)) t →

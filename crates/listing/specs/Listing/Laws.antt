@@ -1,67 +1,81 @@
--- The rows of a table, one line more a turn, and where they end.
+-- The lines of a table's rows, put down one more a turn, and where they end.
 -- Assumes nothing.
-use Prim.Native.Nat.{ℕ, zero, suc, _+_, _*_, _≤_, _<_}
+use Prim.Native.Nat.{ℕ, zero, suc, _+_, _-_, _≤_, _<_}
 use native.Mathlib.Omega.{arith}
-use native.Mathlib.Nat.{not-suc-le-zero, le-of-suc-le-suc}
-use mathlib.Core.Path.{_≡_, refl, ap, sym, _∙_}
+use mathlib.Core.Path.{_≡_, refl, ap, sym, subst, _∙_}
 use mathlib.Core.List.{List, [], _∷_, _++_, append-assoc, append-nil}
-use lib.ListN.{length, getD}
+use lib.ListN.{length, take, drop}
 use Rattle.lines.specs.Line.{Put}
-use Rattle.lines.specs.Line.Laws.{put-more}
-use Rattle.listing.specs.Listed.{feature}
+use Rattle.lines.specs.Line.Laws.{put-none, put-more}
+use Rattle.rows.specs.declared.Row.{Row}
+use Rattle.rows.specs.Rows.{width, rowAt, rowsOf}
+use Rattle.rows.specs.Rows.Laws.{rows-here, rows-end}
+use Rattle.listing.specs.Listed.{feature, featureLines}
 use Rattle.listing.specs.Listing.{features}
 
--- three numbers a row
-unfoldable pub start : ℕ → ℕ
-start zero = 0
-start (suc i) = suc (suc (suc (start i)))
+-- the lines of no rows, and of one and the rows after it
+lines-none : (count : ℕ) → featureLines (take count []) ≡ []
+unfolding featureLines
+lines-none zero = refl
+lines-none (suc count) = refl
 
-start-is : (i : ℕ) → start i ≡ 3 * i
-unfolding start
-start-is zero = refl
-start-is (suc i) = let ih = start-is i in omega arith
+lines-cons : (count : ℕ) (r : Row) (rows : List Row) →
+    featureLines (take (suc count) (r ∷ rows)) ≡ feature (r .tag) (r .place) (r .size) ++ featureLines (take count rows)
+unfolding featureLines
+lines-cons count r rows = refl
 
--- the line of the row that starts at a place
-abbrev rowAt : List ℕ → ℕ → List ℕ
-rowAt t at = feature (getD t at 0) (getD t (suc at) 0) (getD t (suc (suc at)) 0)
+features-zero : (t : List ℕ) → features 0 t ≡ []
+unfolding features featureLines
+features-zero t = refl
 
-features-turn : (i : ℕ) (t : List ℕ) → suc (suc (start i)) < length t → features (suc i) t ≡ features i t ++ rowAt t (start i)
-unfolding start features
-features-turn i [] h = absurd (omega arith)
-features-turn i (a ∷ []) h = absurd (omega arith)
-features-turn i (a ∷ b ∷ []) h = absurd (omega arith)
-features-turn zero (a ∷ b ∷ c ∷ t) h = append-nil (feature a b c)
-features-turn (suc i) (a ∷ b ∷ c ∷ t) h =
-    let ih = features-turn i t (omega arith) in
-    ap (λ (l : List ℕ). feature a b c ++ l) ih ∙ sym (append-assoc (feature a b c) (features i t) (rowAt t (start i)))
+-- how far the lines of so many rows are put down: those of the rows before stand in `out`, and those from a place of the table on are left
+pub record Listing (count : ℕ) (t old : List ℕ) (start : ℕ) (out : List ℕ) (at from i : ℕ) : Type 0 where
+  pub before : List ℕ
+  pub put : Put old start before out at
+  pub same : features count t ≡ before ++ features (count - i) (drop from t)
+  pub long : length out ≡ length old
 
-short : (k : ℕ) (t : List ℕ) → length t < 3 → features k t ≡ []
-unfolding features
-short zero t h = refl
-short (suc k) [] h = refl
-short (suc k) (a ∷ []) h = refl
-short (suc k) (a ∷ b ∷ []) h = refl
-short (suc k) (a ∷ b ∷ c ∷ t) h = absurd (omega arith)
+pub listing-start : (count : ℕ) (t old : List ℕ) (start : ℕ) → Listing count t old start old start 0 0
+listing-start count t old start =
+    let all : count ≡ count - 0 = omega arith in
+    let same = ap (λ k. features k t) all in
+    record { before = []; put = put-none old start; same = same; long = refl }
 
-features-rest : (i k : ℕ) (t : List ℕ) → i ≤ k → length t < suc (suc (suc (start i))) → features k t ≡ features i t
-unfolding start features
-features-rest zero k t g h = short k t h
-features-rest (suc i) zero t g h = absurd (not-suc-le-zero g)
-features-rest (suc i) (suc k) [] g h = refl
-features-rest (suc i) (suc k) (a ∷ []) g h = refl
-features-rest (suc i) (suc k) (a ∷ b ∷ []) g h = refl
-features-rest (suc i) (suc k) (a ∷ b ∷ c ∷ t) g h = ap (λ (l : List ℕ). feature a b c ++ l) (features-rest i k t (le-of-suc-le-suc g) (omega arith))
+module _ (count : ℕ) (t old : List ℕ) (start : ℕ) (out : List ℕ) (at from i : ℕ) (l : Listing count t old start out at from i) where
+  ended : features (count - i) (drop from t) ≡ [] → Put old start (features count t) out at
+  ended none = subst (λ lines. Put old start lines out at) (sym (l .same ∙ ap (λ z. l .before ++ z) none ∙ append-nil (l .before))) (l .put)
 
--- the table has no more whole rows than i
-pub features-all : (i k : ℕ) (t : List ℕ) → i ≤ k → length t < 3 * i + 3 → features k t ≡ features i t
-features-all i k t g h = let e = start-is i in features-rest i k t g (omega arith)
+  -- all of them are put down, or all that the table has
+  pub listing-all : count ≤ i → Put old start (features count t) out at
+  listing-all h =
+      let none : count - i ≡ 0 = omega arith in
+      ended (ap (λ k. features k (drop from t)) none ∙ features-zero (drop from t))
 
--- a turn of the loop that puts down the rows
-pub row-turn : (t old : List ℕ) (at i : ℕ) → 3 * i + 2 < length t → (mid : List ℕ) (m : ℕ) → length mid ≡ length old → (new : List ℕ) (r : ℕ) → Put old at (features i t) mid m → Put mid m (feature (getD t (3 * i) 0) (getD t (3 * i + 1) 0) (getD t (3 * i + 2) 0)) new r → Put old at (features (i + 1) t) new r
-row-turn t old at i here mid m long new r p q =
-    let e : start i ≡ 3 * i = start-is i in
-    let e₁ : 3 * i + 1 ≡ suc (3 * i) = omega arith in
-    let e₂ : 3 * i + 2 ≡ suc (suc (3 * i)) = omega arith in
-    let next : i + 1 ≡ suc i = omega arith in
-    let row : rowAt t (start i) ≡ feature (getD t (3 * i) 0) (getD t (3 * i + 1) 0) (getD t (3 * i + 2) 0) = rw (e, e₁, e₂) in
-    rw (next, features-turn i t (omega arith), row) (put-more old at (features i t) mid m _ new r p long q)
+  pub listing-end : length t < from + width → Put old start (features count t) out at
+  unfolding features
+  listing-end h = ended (ap (λ rows. featureLines (take (count - i) rows)) (rows-end t from h) ∙ lines-none (count - i))
+
+  -- the line of the row that stands here is put down
+  module _ (some : i < count) (here : from + width ≤ length t) (r : Row) (e : r ≡ rowAt t from) where
+    on : features (count - i) (drop from t) ≡ feature (r .tag) (r .place) (r .size) ++ features (count - (i + 1)) (drop (from + width) t)
+    unfolding features
+    on =
+        let next : count - i ≡ suc (count - (i + 1)) = omega arith in
+        let rest = rowsOf (drop (from + width) t) in
+        ap (λ k. featureLines (take k (rowsOf (drop from t)))) next
+        ∙ ap (λ rows. featureLines (take (suc (count - (i + 1))) rows)) (rows-here t from here ∙ ap (λ q. q ∷ rest) (sym e))
+        ∙ lines-cons (count - (i + 1)) r rest
+
+    pub listing-more :
+        (new : List ℕ) (to : ℕ) → length new ≡ length out → Put out at (feature (r .tag) (r .place) (r .size)) new to →
+        Listing count t old start new to (from + width) (i + 1)
+    listing-more new to kept p =
+        let line = feature (r .tag) (r .place) (r .size) in
+        record {
+          before = l .before ++ line;
+          put = put-more old start (l .before) out at line new to (l .put) (l .long) p;
+          same =
+              l .same ∙ ap (λ z. l .before ++ z) on
+              ∙ sym (append-assoc (l .before) line (features (count - (i + 1)) (drop (from + width) t)));
+          long = kept ∙ l .long;
+        }

@@ -7,7 +7,8 @@ use Prim.Native.Nat.{_+_}
 use denote.Ref.{now}
 use lib.ListN.{length, take}
 use lib.Seq.{length-take-le}
-use Rattle.reader.specs.Calls.{table, text, then}
+use Rattle.rows.specs.Rows.{table}
+use Rattle.reader.specs.Calls.{text, then}
 use Rattle.reader.specs.Calls.Reads.{Accepted, accepted-version, reads-judged, reads-refused, reads-accepted, no-rows, no-text, both-fit, put-there, put-are, named-is, named-size, named-room, copied-names}
 use Rattle.reader.proofs.read.Statement.{statement}
 use Rattle.reader.proofs.read.Tie as tie

@@ -10,6 +10,7 @@ use Rattle.format.specs.Choice.{pick}
 use Rattle.grammar.specs.Content.{Content}
 use Rattle.grammar.specs.Publish.{publish, headerZone}
 use Rattle.grammar.specs.Legal.{Legal}
+use Rattle.rows.specs.Rows.{width}
 use Rattle.verdict.specs.Judge.{Report, Verdict, accepted, refused}
 use Rattle.verdict.specs.Judge.Numbers.{FromList}
 use Rattle.verdict.specs.Judge.Complete.{reportOf, published-accepted}
@@ -18,7 +19,9 @@ use Rattle.reader.specs.Calls.{answerOf, given, reading}
 use Rattle.reader.specs.Calls.Reads.{rows-many, both-fit}
 
 -- enough for a legal content's rows and names
-pub room-enough : (c : Content) → Legal c → (numbers room : ℕ) → 3 * length (c .features) ≤ numbers → 4 + length (c .header .reference) ≤ room → reading (publish c) numbers room ≡ accepted (reportOf c)
+pub room-enough :
+    (c : Content) → Legal c → (numbers room : ℕ) → width * length (c .features) ≤ numbers → 4 + length (c .header .reference) ≤ room →
+    reading (publish c) numbers room ≡ accepted (reportOf c)
 unfolding reportOf
 room-enough c l numbers room rows names =
     both-fit (publish c) numbers room (reportOf c) (published-accepted c l)
@@ -32,7 +35,8 @@ chosen false number place v r e = e
 
 pub given-accepted : (v : Verdict) (numbers room : ℕ) (r : Report) → given numbers room v ≡ accepted r → v ≡ accepted r
 given-accepted (accepted q) numbers room r e =
-    chosen (ltb room (4 + length (q .header .reference))) 12 0 (accepted q) r (chosen (ltb numbers (3 * length (q .rows))) 12 0 (pick (ltb room (4 + length (q .header .reference))) (refused 12 0) (accepted q)) r e)
+    let text = ltb room (4 + length (q .header .reference)) in
+    chosen text 12 0 (accepted q) r (chosen (ltb numbers (width * length (q .rows))) 12 0 (pick text (refused 12 0) (accepted q)) r e)
 given-accepted (refused number place) numbers room r e = e
 
 -- the number is of the list
@@ -42,6 +46,7 @@ listed-pick false u v l m = m
 
 pub given-listed : (v : Verdict) (numbers room : ℕ) → FromList v → answerOf (given numbers room v) .number ≤ 12
 given-listed (accepted q) numbers room l =
-    listed-pick (ltb numbers (3 * length (q .rows))) (refused 12 0) (pick (ltb room (4 + length (q .header .reference))) (refused 12 0) (accepted q)) (omega arith)
-    (listed-pick (ltb room (4 + length (q .header .reference))) (refused 12 0) (accepted q) (omega arith) (omega arith))
+    let text = ltb room (4 + length (q .header .reference)) in
+    listed-pick (ltb numbers (width * length (q .rows))) (refused 12 0) (pick text (refused 12 0) (accepted q)) (omega arith)
+    (listed-pick text (refused 12 0) (accepted q) (omega arith) (omega arith))
 given-listed (refused number place) numbers room l = omega (arith, l .1)

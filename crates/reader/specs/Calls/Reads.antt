@@ -16,6 +16,7 @@ use Rattle.grammar.specs.Content.{Version, three, four, Feature}
 use Rattle.grammar.specs.Publish.{lengthOf, headerZone}
 use Rattle.grammar.specs.Legal.{ReferenceSize}
 use Rattle.grammar.specs.Sizes.{features-most}
+use Rattle.rows.specs.Rows.{width, table}
 use Rattle.verdict.specs.Items.{is}
 use Rattle.verdict.specs.Items.Sound.{steps, same-value}
 use Rattle.verdict.specs.Judge.{Report, Verdict, accepted, refused, header, features, signature, verdict, reading as readingOf, judge}
@@ -24,7 +25,7 @@ use Rattle.verdict.specs.Judge.Features.{rowsOf}
 use Rattle.verdict.specs.Judge.Sound.{verdict-read, unaccepted}
 use Rattle.reader.specs.Rows.{rowsAt, rowsRead, AreRead}
 use Rattle.reader.specs.Rows.Laws.{rows-there, rows-are}
-use Rattle.reader.specs.Calls.{answerOf, versionIn, judgementOf, table, text, given, reading, rowsIn, textIn, then, Named}
+use Rattle.reader.specs.Calls.{answerOf, versionIn, judgementOf, text, given, reading, rowsIn, textIn, then, Named}
 use Rattle.verdict.specs.Judge.Seals.{accepted-only}
 use Rattle.reader.specs.declared.Reading.{Reading}
 use Rattle.reader.specs.declared.Judgement.{Judgement}
@@ -119,15 +120,19 @@ accepted-version s bytes q a v said = by-verdict s bytes (q .reading) v (judge s
 
 -- with too little room for the rows, or for the text, and with room for both
 module _ (s : List ℕ) (numbers room : ℕ) (r : Report) (e : judge s ≡ accepted r) where
-  pub no-rows : numbers < 3 * length (r .rows) → reading s numbers room ≡ refused 12 0
-  no-rows h = ap (given numbers room) e ∙ rw (lt-ltb numbers (3 * length (r .rows)) h) refl
+  pub no-rows : numbers < width * length (r .rows) → reading s numbers room ≡ refused 12 0
+  no-rows h = ap (given numbers room) e ∙ rw (lt-ltb numbers (width * length (r .rows)) h) refl
 
-  module _ (fits : 3 * length (r .rows) ≤ numbers) where
+  module _ (fits : width * length (r .rows) ≤ numbers) where
     pub no-text : room < 4 + length (r .header .reference) → reading s numbers room ≡ refused 12 0
-    no-text h = ap (given numbers room) e ∙ rw (le-ltb numbers (3 * length (r .rows)) fits, lt-ltb room (4 + length (r .header .reference)) h) refl
+    no-text h =
+        ap (given numbers room) e
+        ∙ rw (le-ltb numbers (width * length (r .rows)) fits, lt-ltb room (4 + length (r .header .reference)) h) refl
 
     pub both-fit : 4 + length (r .header .reference) ≤ room → reading s numbers room ≡ accepted r
-    both-fit h = ap (given numbers room) e ∙ rw (le-ltb numbers (3 * length (r .rows)) fits, le-ltb room (4 + length (r .header .reference)) h) refl
+    both-fit h =
+        ap (given numbers room) e
+        ∙ rw (le-ltb numbers (width * length (r .rows)) fits, le-ltb room (4 + length (r .header .reference)) h) refl
 
 -- the rows that are put are those of the report
 module _ (s : List ℕ) (q : Reading) (v : Version) (a : Accepted s q v) where

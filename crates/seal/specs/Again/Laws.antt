@@ -12,36 +12,28 @@ use Rattle.grammar.specs.Content.{Version, Feature, Content}
 use Rattle.grammar.specs.Publish.{headerZone, messageZone, publish, lengthOf}
 use Rattle.grammar.specs.Theorems.{zones-add-up}
 use Rattle.versions.specs.Versions.Laws.{number-back}
-use Rattle.verdict.specs.Judge.{Row, Report, accepted}
+use Rattle.rows.specs.declared.Row.{Row}
+use Rattle.rows.specs.Rows.{width, table, rowsOf}
+use Rattle.rows.specs.Rows.Laws.{rows-of-table, length-table, table-whole}
+use Rattle.verdict.specs.Judge.{Report, accepted}
 use Rattle.verdict.specs.Judge.Complete.{reportOf}
 use Rattle.verdict.specs.Judge.Features.{rowsOf as rowsFrom, feature-parts}
 use Rattle.verdict.specs.Report.{part, featureOf, contentOf as contentRead}
-use Rattle.reader.specs.Calls.{answerOf, table, text, then}
-use Rattle.given.specs.Given.{rowsOf, contentAs, contentOf}
+use Rattle.reader.specs.Calls.{answerOf, text, then}
+use Rattle.given.specs.Given.{contentAs, contentOf}
 use Rattle.given.specs.Given.Laws.{said}
 use Rattle.writer.specs.Legal.{Sound}
 use Rattle.writer.specs.Legal.Names.{three-of}
 use Rattle.writer.specs.Legal.Rows.{Inside}
 use Rattle.seal.specs.Again.{againFrom, again}
 
-pub table-size : (rows : List Row) → length (table rows) ≡ 3 * length rows
-unfolding table
-table-size [] = refl
-table-size (r ∷ rows) = let ih = table-size rows in omega arith
-
 -- what the caller holds gives the same call
 pub again-held : (s : List ℕ) (r : Report) (rows names : List ℕ) → length (r .header .signer) ≡ 4 → againFrom s (answerOf (accepted r)) (then (table (r .rows)) rows) (then (text r) names) ≡ again s r
 again-held s r rows names long =
     let h = r .header in
     let t = take-at (text r) (drop (length (text r)) names) (4 + length (h .reference)) (length-append (h .signer) (h .reference) ∙ ap (λ n. n + length (h .reference)) long) in
-    let u = take-at (table (r .rows)) (drop (length (table (r .rows))) rows) (3 * length (r .rows)) (table-size (r .rows)) in
+    let u = take-at (table (r .rows)) (drop (length (table (r .rows))) rows) (width * length (r .rows)) (length-table (r .rows)) in
     λ i. record { header = answerOf (accepted r) .header; text = t i; table = u i; values = s; signature = part (r .signature-place) (r .signature-size) s }
-
--- the rows of the table are those read
-features-again : (s : List ℕ) (rows : List Row) → map (featureOf s) (rowsOf (table rows)) ≡ map (featureOf s) rows
-unfolding rowsOf table
-features-again s [] = refl
-features-again s (r ∷ rows) = let ih = features-again s rows in ap (λ u. featureOf s r ∷ u) ih
 
 content-as : (s : List ℕ) (r : Report) → length (r .header .signer) ≡ 4 → length (r .header .country) ≡ 3 → contentAs (again s r) (r .header .version) ≡ contentRead s r
 unfolding contentAs contentRead
@@ -52,7 +44,7 @@ content-as s r long three-long =
     let country = three-of (h .country) three-long in
     λ i. record {
       header = record { version = h .version; country = country i; signer = signer i; reference = reference i; issued = h .issued; signed = h .signed; definition = h .definition; category = h .category };
-      features = features-again s (r .rows) i;
+      features = map (featureOf s) (rows-of-table (r .rows) i);
       signature = part (r .signature-place) (r .signature-size) s;
     }
 
@@ -66,15 +58,15 @@ zone-size v f fs =
     let e = ap length (sym (append-nil (messageZone v (f ∷ fs))) ∙ feature-parts v f fs []) in
     omega (arith, e, length-append (lengthOf v (length (f .value))) (f .value ++ (z ++ [])), length-append (f .value) (z ++ []), length-append z [])
 
-rows-inside : (v : Version) (at n : ℕ) (fs : List Feature) → at + length (messageZone v fs) ≤ n → All (Inside n) (rowsOf (table (rowsFrom v at fs)))
-unfolding rowsOf table rowsFrom
+rows-inside : (v : Version) (at n : ℕ) (fs : List Feature) → at + length (messageZone v fs) ≤ n → All (Inside n) (rowsFrom v at fs)
+unfolding rowsFrom
 rows-inside v at n [] h = tt
 rows-inside v at n (f ∷ fs) h =
     let z = zone-size v f fs in
     let ih = rows-inside v (at + 1 + length (lengthOf v (length (f .value))) + length (f .value)) n fs (omega arith) in
     (omega arith, ih)
 
-inside-again : (c : Content) → All (Inside (length (publish c))) (rowsOf (table (reportOf c .rows)))
+inside-again : (c : Content) → All (Inside (length (publish c))) (reportOf c .rows)
 unfolding reportOf
 inside-again c =
     rows-inside (c .header .version) (length (headerZone (c .header))) (length (publish c)) (c .features) (omega (arith, zones-add-up c))
@@ -85,6 +77,9 @@ sound-again s r c form same long three-long =
     record {
       country = three-long;
       measured = omega (arith, length-append (h .signer) (h .reference));
-      threes = omega (arith, table-size (r .rows));
-      inside = subst (λ u. All (Inside (length u)) (rowsOf (table (r .rows)))) form (subst (λ q. All (Inside (length (publish c))) (rowsOf (table (q .rows)))) (sym same) (inside-again c));
+      whole = table-whole (r .rows);
+      inside =
+          subst (All (Inside (length s))) (sym (rows-of-table (r .rows)))
+          (subst (λ u. All (Inside (length u)) (r .rows)) form
+          (subst (λ q. All (Inside (length (publish c))) (q .rows)) (sym same) (inside-again c)));
     }

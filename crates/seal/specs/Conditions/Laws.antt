@@ -23,12 +23,14 @@ use Rattle.verdict.specs.Judge.Complete.{reportOf}
 use Rattle.verdict.specs.Judge.Seals.{accepted-only}
 use Rattle.verdict.specs.Report.{contentOf as contentRead, featureOf}
 use Rattle.verdict.specs.Report.Laws.{reported}
-use Rattle.reader.specs.Calls.{answerOf, table, text, given, reading, rowsIn, textIn, then}
+use Rattle.rows.specs.Rows.{width, table, rowsOf}
+use Rattle.rows.specs.Rows.Laws.{rows-most}
+use Rattle.reader.specs.Calls.{answerOf, text, given, reading, rowsIn, textIn, then}
 use Rattle.reader.specs.Answer.{contentIn}
 use Rattle.reader.specs.Answer.Laws.{held}
 use Rattle.reader.specs.Theorems.{accepted-when}
 use Rattle.writer.specs.Legal.Names.{three-of}
-use Rattle.given.specs.Given.{rowsOf, Given, featuresOf, contentAs, contentOf}
+use Rattle.given.specs.Given.{Given, featuresOf, contentAs, contentOf}
 use Rattle.given.specs.Given.Laws.{Says, says}
 use Rattle.writer.specs.Calls.{writing}
 use Rattle.writer.specs.Legal.{Sound, Written, legal-written}
@@ -71,17 +73,9 @@ again-writes s bytes r j room fits =
     legal-written (again s r) room c same (sound-again s r c (seal .form-is) (seal .report-is) long three-long) (seal .legal) (subst (λ u. length u ≤ room) (sym (seal .form-is)) fits)
     ∙ ap done (seal .form-is)
 
--- how much table and text a call's content takes
-rows-most : (table : List ℕ) → 3 * length (rowsOf table) ≤ length table
-unfolding rowsOf
-rows-most [] = omega arith
-rows-most (tag ∷ []) = omega arith
-rows-most (tag ∷ place ∷ []) = omega arith
-rows-most (tag ∷ place ∷ size ∷ table) = let ih = rows-most table in omega arith
-
--- what a call's content says of the call, in its version
+-- what a call's content says of the call, in its version, and how much table and text it takes
 module _ (g : Given) (v : Version) where
-  features-room : 3 * length (contentAs g v .features) ≤ length (g .table)
+  features-room : width * length (contentAs g v .features) ≤ length (g .table)
   unfolding contentAs
   features-room = omega (arith, rows-most (g .table), length-map (rowsOf (g .table)) (featureOf (g .values)))
 
@@ -130,8 +124,8 @@ module _ (g : Given) (c : Content) (e : contentOf g ≡ some c) where
       let t = text (reportOf c) in
       take-at t (drop (length t) names) (length (g .text)) (ap length text-given) ∙ text-given
 
-  rows-fit : 3 * length (c .features) ≤ length (g .table)
-  rows-fit = subst (λ d. 3 * length (d .features) ≤ length (g .table)) (call .content) (features-room g (call .version))
+  rows-fit : width * length (c .features) ≤ length (g .table)
+  rows-fit = subst (λ d. width * length (d .features) ≤ length (g .table)) (call .content) (features-room g (call .version))
 
   text-fits : Sound g → 4 + length (c .header .reference) ≡ length (g .text)
   text-fits sound = ap (λ d. 4 + length (d .header .reference)) (sym (call .content)) ∙ text-room g (call .version) sound
@@ -171,8 +165,9 @@ choose false u v l m = m
 zero-given : (v : Verdict) (numbers room : ℕ) → FromList v → ZeroAccepts (given numbers room v)
 zero-given (accepted r) numbers room l =
     let twelve : ZeroAccepts (refused 12 0) = λ e. absurd (omega (arith, e)) in
-    choose (ltb numbers (3 * length (r .rows))) (refused 12 0) (pick (ltb room (4 + length (r .header .reference))) (refused 12 0) (accepted r)) twelve
-    (choose (ltb room (4 + length (r .header .reference))) (refused 12 0) (accepted r) twelve (λ e. record { report = r; reads = refl }))
+    let names = ltb room (4 + length (r .header .reference)) in
+    choose (ltb numbers (width * length (r .rows))) (refused 12 0) (pick names (refused 12 0) (accepted r)) twelve
+    (choose names (refused 12 0) (accepted r) twelve (λ e. record { report = r; reads = refl }))
 zero-given (refused number place) numbers room l = λ e. absurd (omega (arith, l .0, e))
 
 pub zero-accepted : (s : List ℕ) (numbers room : ℕ) → answerOf (reading s numbers room) .number ≡ 0 → IsAccepted (reading s numbers room)

@@ -16,7 +16,8 @@ use Rattle.grammar.specs.Content.{Version}
 use Rattle.grammar.specs.Legal.{ValueSize, Unused, LegalFeatures}
 use Rattle.format.specs.Table.Laws.{not-true, both-true, both-are}
 use Rattle.verdict.specs.Report.{featureOf}
-use Rattle.verdict.specs.Judge.{Row, used}
+use Rattle.rows.specs.declared.Row.{Row}
+use Rattle.verdict.specs.Judge.{used}
 use Rattle.verdict.specs.Items.Sound.{taken-size}
 use Rattle.given.specs.Tests.{isRow, areRows, areSized}
 use Rattle.given.specs.Tests.Laws.{sized-head, sized-cons, sized-none}

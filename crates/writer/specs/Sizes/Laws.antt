@@ -4,14 +4,14 @@ use mathlib.Core.Path.{_≡_, refl, ap, sym, _∙_}
 use Prim.Native.Nat.{ℕ, _+_, _*_, _/_, _<_, _≤_, min}
 use native.Mathlib.Omega.{arith}
 use mathlib.Core.List.{List, [], _∷_}
-use lib.ListN.{length, getD, drop}
+use lib.ListN.{length, drop}
 use Rattle.der.specs.Length.{written}
 use Rattle.der.specs.Length.Written.{written-few}
 use Rattle.grammar.specs.Publish.{lengthOf}
-use Rattle.verdict.specs.Judge.{Row}
+use Rattle.rows.specs.declared.Row.{Row}
+use Rattle.rows.specs.Rows.{width, rowAt, rowsOf}
+use Rattle.rows.specs.Rows.Laws.{rows-here, rows-end}
 use Rattle.grammar.specs.Content.{Version, three, four}
-use Rattle.given.specs.Given.{rowsOf}
-use Rattle.given.specs.Rows.{rowAt, rows-end, rows-here}
 use Rattle.writer.specs.Sizes.{rowsSize, namesSize}
 use Rattle.writer.specs.Steps.Laws.{length-plain, length-der}
 
@@ -32,30 +32,32 @@ size-cons v r rows = refl
 
 -- how far the sum has come
 pub record Summed (v : Version) (t : List ℕ) (start total at : ℕ) : Type 0 where
-  pub inside : at ≤ length t
   pub small : total ≤ 4096
   pub same : start + rowsSize v (rowsOf t) ≡ total + rowsSize v (rowsOf (drop at t))
 
 pub summed-start : (v : Version) (t : List ℕ) (start : ℕ) → start ≤ 4096 → Summed v t start start 0
-summed-start v t start h = record { inside = omega arith; small = h; same = refl }
+summed-start v t start h = record { small = h; same = refl }
 
 module _ (v : Version) (t : List ℕ) (start total at : ℕ) (s : Summed v t start total at) where
-  pub summed-end : length t ≤ at + 2 → total ≡ min (start + rowsSize v (rowsOf t)) 4097
+  pub summed-end : length t < at + width → total ≡ min (start + rowsSize v (rowsOf t)) 4097
   summed-end h = let e = ap (rowsSize v) (rows-end t at h) ∙ size-none v in omega (arith, s .same, s .small)
 
-  module _ (here : at + 2 < length t) where
-    on : rowsSize v (rowsOf (drop at t)) ≡ 1 + length (lengthOf v (getD t (at + 2) 0)) + getD t (at + 2) 0 + rowsSize v (rowsOf (drop (at + 3) t))
-    on = ap (rowsSize v) (rows-here t at here) ∙ size-cons v (rowAt t at) (rowsOf (drop (at + 3) t))
+  -- the row that stands here
+  module _ (here : at + width ≤ length t) (r : Row) (e : r ≡ rowAt t at) where
+    on : rowsSize v (rowsOf (drop at t)) ≡ 1 + length (lengthOf v (r .size)) + r .size + rowsSize v (rowsOf (drop (at + width) t))
+    on =
+        ap (rowsSize v) (rows-here t at here ∙ ap (λ q. q ∷ rowsOf (drop (at + width) t)) (sym e))
+        ∙ size-cons v r (rowsOf (drop (at + width) t))
 
-    pub summed-great : 4096 < getD t (at + 2) 0 → 4097 ≡ min (start + rowsSize v (rowsOf t)) 4097
+    pub summed-great : 4096 < r .size → 4097 ≡ min (start + rowsSize v (rowsOf t)) 4097
     summed-great h = omega (arith, s .same, on)
 
-    module _ (width : ℕ) (w : width ≡ length (lengthOf v (getD t (at + 2) 0))) where
-      pub summed-past : 4096 < total + (1 + width + getD t (at + 2) 0) → 4097 ≡ min (start + rowsSize v (rowsOf t)) 4097
+    module _ (k : ℕ) (w : k ≡ length (lengthOf v (r .size))) where
+      pub summed-past : 4096 < total + (1 + k + r .size) → 4097 ≡ min (start + rowsSize v (rowsOf t)) 4097
       summed-past h = omega (arith, s .same, on, w)
 
-      pub summed-more : total + (1 + width + getD t (at + 2) 0) ≤ 4096 → Summed v t start (total + (1 + width + getD t (at + 2) 0)) (at + 3)
-      summed-more h = record { inside = omega arith; small = h; same = omega (arith, s .same, on, w) }
+      pub summed-more : total + (1 + k + r .size) ≤ 4096 → Summed v t start (total + (1 + k + r .size)) (at + width)
+      summed-more h = record { small = h; same = omega (arith, s .same, on, w) }
 
 -- the width of a length is small
 pub width-small : (v : Version) (n : ℕ) → n ≤ 4096 → length (lengthOf v n) ≤ 3

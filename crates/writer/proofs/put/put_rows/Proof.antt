@@ -1,81 +1,78 @@
 -- `put_rows` meets its contract. The loop's invariant: the features of the rows before stand in `out`.
 -- Assumes nothing.
+use borrow.Author.Needs.{needs}
 use native.Mathlib.Omega.{arith}
-use mathlib.Core.Path.{_≡_, ap}
-use Prim.Native.Nat.{ℕ, _+_, _-_}
+use mathlib.Core.Path.{_≡_, ap, sym, _∙_}
+use Prim.Native.Nat.{ℕ, _+_, _-_, _≤_}
 use denote.Ref.{now}
 use mathlib.Core.List.{List}
-use lib.ListN.{length, getD, take, drop}
-use Rattle.given.specs.Rows.{rowAt}
+use lib.ListN.{length, take, drop}
+use Rattle.rows.specs.Rows.{width, rowAt}
+use Rattle.rows.specs.Rows.Laws.{found-none, found-row}
 use Rattle.writer.specs.Steps.{Fits}
 use Rattle.writer.specs.Put.{Putting, putting-start, putting-length, putting-end, putting-fits, putting-asks, putting-more}
 use Rattle.writer.proofs.put.put_rows.Statement.{statement}
 use Rattle.writer.proofs.put.put_rows.Tie as tie
 
 abbrev Inv-loop : tie.InvT-loop
-Inv-loop version rows values out₀ start n last at₀ row₀ out at row = Putting version values rows out₀ start out at row
+Inv-loop version rows values out₀ start at₀ from₀ out at from = Putting version values rows out₀ start out at from
 
 abbrev μ-loop : tie.MeasureT-loop
-μ-loop version rows values out₀ start n last at₀ row₀ out at row = length rows - row
+μ-loop version rows values out₀ start at₀ from₀ out at from = length rows - from
 
 -- the table and the values that were handed over
-abbrev table : tie.At-loop Inv-loop μ-loop → List ℕ
-table on = now (on .before .before .before .before .before .args .rows)
+abbrev tableAt : tie.At-loop Inv-loop μ-loop → List ℕ
+tableAt on = now (on .before .before .before .before .args .rows)
 
-abbrev all-values : tie.At-loop Inv-loop μ-loop → List ℕ
-all-values on = now (on .before .before .before .before .before .args .values)
+abbrev valuesAt : tie.At-loop Inv-loop μ-loop → List ℕ
+valuesAt on = now (on .before .before .before .before .args .values)
 
--- the row here was judged
-fits : (c : tie.In-loop Inv-loop μ-loop) → let on = c .before in Fits (on .before .before .before .before .before .args .version) (length (all-values on)) (rowAt (table on) (on .loop .row))
-fits c = putting-fits _ _ _ _ _ _ _ _ (c .before .loop .inv) (omega arith)
+-- the row that stands here, which was judged
+there : (c : tie.After-known-told Inv-loop μ-loop) →
+    let on = c .before .before .before .before in
+    (on .loop .from + width ≤ length (tableAt on)) × (c .before .row .given .0 .0 ≡ rowAt (tableAt on) (on .loop .from))
+there c = found-row _ _ _ (sym (c .before .row .given .1) ∙ c .before .before .before .row-at .ensures)
+
+fits : (c : tie.After-known-told Inv-loop μ-loop) →
+    let on = c .before .before .before .before in
+    Fits (on .before .before .before .before .args .version) (length (valuesAt on)) (c .before .row .given .0 .0)
+fits c = putting-fits _ _ _ _ _ _ _ _ (c .before .before .before .before .loop .inv) (there c .0) _ (there c .1)
 
 -- the part that is lent is its value
-value : (on : tie.At-loop Inv-loop μ-loop) → let place = getD (table on) (on .loop .row + 1) 0 in let size = getD (table on) (on .loop .row + 2) 0 in take (place + size - place) (drop place (all-values on)) ≡ take size (drop place (all-values on))
-value on =
-    let place = getD (table on) (on .loop .row + 1) 0 in
-    let size = getD (table on) (on .loop .row + 2) 0 in
-    let e : place + size - place ≡ size = omega arith in
-    ap (λ k. take k (drop place (all-values on))) e
-
--- no row, and nothing to put down
-returns : tie.Need-returns Inv-loop μ-loop
-returns c =
-    let s = c .before .before .before .before in
-    let none = putting-start (s .args .version) (now (s .args .values)) (now (s .args .rows)) (now (s .args .out)) (s .args .start) (s .pre .0) (s .pre .1) in
-    putting-end _ _ _ _ _ _ _ _ none (omega arith)
-
-sub-last : tie.Need-sub-last Inv-loop μ-loop
-sub-last c = omega arith
+value : (c : tie.After-known-told Inv-loop μ-loop) →
+    let r = c .before .row .given .0 .0 in
+    let values = valuesAt (c .before .before .before .before) in
+    take (r .place + r .size - r .place) (drop (r .place) values) ≡ take (r .size) (drop (r .place) values)
+value c =
+    let r = c .before .row .given .0 .0 in
+    let e : r .place + r .size - r .place ≡ r .size = omega arith in
+    ap (λ k. take k (drop (r .place) (valuesAt (c .before .before .before .before)))) e
 
 loop-holds : tie.Need-loop-holds Inv-loop μ-loop
-loop-holds c = let s = c .before .before .before .before in putting-start (s .args .version) (now (s .args .values)) (now (s .args .rows)) (now (s .args .out)) (s .args .start) (s .pre .0) (s .pre .1)
+loop-holds c =
+    let s = c .before .before .before in
+    let a = s .args in
+    putting-start (a .version) (now (a .values)) (now (a .rows)) (now (a .out)) (a .start) (s .pre .0) (s .pre .1)
 
-add-place : tie.Need-add-place Inv-loop μ-loop
-add-place c = omega arith
+row-at-requires : tie.Need-row-at-requires Inv-loop μ-loop
+row-at-requires c κs = search needs
 
-mul-place : tie.Need-mul-place Inv-loop μ-loop
-mul-place c = omega arith
+enum-known-row : tie.Need-enum-known-row Inv-loop μ-loop
+enum-known-row c = search needs
 
-shared-slice-read-place : tie.Need-shared-slice-read-place Inv-loop μ-loop
-shared-slice-read-place c = omega arith
+enum-told : tie.Need-enum-told Inv-loop μ-loop
+enum-told c = search needs
+
+same-length : tie.Need-same-length Inv-loop μ-loop
+same-length c = putting-length _ _ _ _ _ _ _ _ (c .before .before .before .loop .inv)
+
+returns : tie.Need-returns Inv-loop μ-loop
+returns c =
+    putting-end _ _ _ _ _ _ _ _ (c .before .before .before .loop .inv)
+    (found-none _ _ (sym (c .enum-told .given .1) ∙ c .before .before .row-at .ensures))
 
 add-end : tie.Need-add-end Inv-loop μ-loop
-add-end c = omega arith
-
-mul-end : tie.Need-mul-end Inv-loop μ-loop
-mul-end c = omega arith
-
-shared-slice-read-end : tie.Need-shared-slice-read-end Inv-loop μ-loop
-shared-slice-read-end c = omega arith
-
-add-end-2 : tie.Need-add-end-2 Inv-loop μ-loop
-add-end-2 c = let f = fits (c .before .before) in omega (arith, f .1)
-
-mul-put-feature : tie.Need-mul-put-feature Inv-loop μ-loop
-mul-put-feature c = omega arith
-
-shared-slice-read-put-feature : tie.Need-shared-slice-read-put-feature Inv-loop μ-loop
-shared-slice-read-put-feature c = omega arith
+add-end c = let f = fits (c .before) in omega (arith, f .1)
 
 sub-put-feature : tie.Need-sub-put-feature Inv-loop μ-loop
 sub-put-feature c = omega arith
@@ -84,25 +81,25 @@ part-put-feature-start : tie.Need-part-put-feature-start Inv-loop μ-loop
 part-put-feature-start c = omega arith
 
 part-put-feature-end : tie.Need-part-put-feature-end Inv-loop μ-loop
-part-put-feature-end c = let f = fits (c .before .before .before) in omega (arith, f .1)
+part-put-feature-end c = let f = fits (c .before) in omega (arith, f .1)
 
 put-feature-requires : tie.Need-put-feature-requires Inv-loop μ-loop
-put-feature-requires c κs = let on = c .before .before .before .before .before .before in putting-asks _ _ _ _ _ _ _ _ (on .loop .inv) (omega arith) _ (value on)
+put-feature-requires c κs =
+    let row = c .before .before .before in
+    putting-asks _ _ _ _ _ _ _ _ (row .before .before .before .before .loop .inv) (there row .0) _ (there row .1) _ (value row)
 
-add-row : tie.Need-add-row Inv-loop μ-loop
-add-row c = omega arith
+add-from : tie.Need-add-from Inv-loop μ-loop
+add-from c = omega (arith, there (c .before .before .before .before .before .before) .0)
 
 loop-less : tie.Need-loop-less Inv-loop μ-loop
-loop-less c = omega arith
+loop-less c = omega (arith, there (c .before .before .before .before .before .before) .0)
 
 loop-again : tie.Need-loop-again Inv-loop μ-loop
-loop-again c = let on = c .before .before .before .before .before .before .before .before .before in putting-more _ _ _ _ _ _ _ _ (on .loop .inv) (omega arith) _ (value on) _ _ (c .before .before .put-feature .ensures .0) (c .before .before .put-feature .ensures .1)
-
-same-length : tie.Need-same-length Inv-loop μ-loop
-same-length c = putting-length _ _ _ _ _ _ _ _ (c .before .loop .inv)
-
-returns-2 : tie.Need-returns-2 Inv-loop μ-loop
-returns-2 c = putting-end _ _ _ _ _ _ _ _ (c .before .loop .inv) (omega arith)
+loop-again c =
+    let put = c .before .before in
+    let row = put .before .before .before .before in
+    putting-more _ _ _ _ _ _ _ _ (row .before .before .before .before .loop .inv) (there row .0) _ (there row .1) _ (value row) _ _
+    (put .put-feature .ensures .0) (put .put-feature .ensures .1)
 
 pub put-rows-spec : {M : Type 1} → statement M
 put-rows-spec =
@@ -110,24 +107,17 @@ put-rows-spec =
     (tie.spec
     Inv-loop
     μ-loop
-    returns
-    sub-last
     loop-holds
-    add-place
-    mul-place
-    shared-slice-read-place
+    row-at-requires
+    enum-known-row
+    enum-told
+    same-length
+    returns
     add-end
-    mul-end
-    shared-slice-read-end
-    add-end-2
-    mul-put-feature
-    shared-slice-read-put-feature
     sub-put-feature
     part-put-feature-start
     part-put-feature-end
     put-feature-requires
-    add-row
+    add-from
     loop-less
-    loop-again
-    same-length
-    returns-2)
+    loop-again)

@@ -1,40 +1,62 @@
--- `rows_size` meets its contract. The loop's invariant: what is left of the sum is the size of the rows left, and the sum has not passed 4,096.
+-- `rows_size` meets its contract. The loop's invariant: what is left of the sum is the size of the rows left, and the sum has not passed
+-- 4,096.
 -- Assumes nothing.
+use borrow.Author.Needs.{needs}
 use native.Mathlib.Omega.{arith}
-use Prim.Native.Nat.{_+_, _-_, _≤_}
+use mathlib.Core.Path.{_≡_, sym, _∙_}
+use Prim.Native.Nat.{ℕ, _+_, _-_, _≤_}
 use denote.Ref.{now}
-use lib.ListN.{length, getD}
+use mathlib.Core.List.{List}
+use lib.ListN.{length}
+use Rattle.rows.specs.Rows.{width, rowAt}
+use Rattle.rows.specs.Rows.Laws.{found-none, found-row}
 use Rattle.writer.specs.Sizes.Laws.{Summed, summed-start, summed-end, summed-great, summed-past, summed-more, width-small}
 use Rattle.writer.proofs.size.rows_size.Statement.{statement}
 use Rattle.writer.proofs.size.rows_size.Tie as tie
 
 abbrev Inv-loop : tie.InvT-loop
-Inv-loop version rows start n total₀ at₀ total at = Summed version rows start total at
+Inv-loop version rows start total₀ at₀ total at = Summed version rows start total at
 
 abbrev μ-loop : tie.MeasureT-loop
-μ-loop version rows start n total₀ at₀ total at = length rows - at
+μ-loop version rows start total₀ at₀ total at = length rows - at
+
+-- the table that was handed over, and the row that stands here
+abbrev tableAt : tie.At-loop Inv-loop μ-loop → List ℕ
+tableAt on = now (on .before .before .args .rows)
+
+there : (c : tie.After-known-told Inv-loop μ-loop) →
+    let on = c .before .before .before .before in
+    (on .loop .at + width ≤ length (tableAt on)) × (c .before .row .given .0 .0 ≡ rowAt (tableAt on) (on .loop .at))
+there c = found-row _ _ _ (sym (c .before .row .given .1) ∙ c .before .before .before .row-at .ensures)
 
 -- the width of the length
 small : (c : tie.After-width-of Inv-loop μ-loop) → c .width-of .result ≤ 3
-small c = omega (arith, c .width-of .ensures, width-small (c .before .before .before .before .before .before .args .version) (getD (now (c .before .before .before .before .before .before .args .rows)) (c .before .before .before .before .loop .at + 2) 0) (omega arith))
+small c =
+    let row = c .before .before in
+    let version = row .before .before .before .before .before .before .args .version in
+    omega (arith, c .width-of .ensures, width-small version (row .before .row .given .0 .0 .size) (omega arith))
 
 loop-holds : tie.Need-loop-holds Inv-loop μ-loop
 loop-holds c = summed-start _ _ _ (c .before .pre)
 
-add-loop : tie.Need-add-loop Inv-loop μ-loop
-add-loop c = omega (arith, c .loop .inv .inside)
+row-at-requires : tie.Need-row-at-requires Inv-loop μ-loop
+row-at-requires c κs = search needs
 
-add-size : tie.Need-add-size Inv-loop μ-loop
-add-size c = omega arith
+enum-known-row : tie.Need-enum-known-row Inv-loop μ-loop
+enum-known-row c = search needs
 
-mul-size : tie.Need-mul-size Inv-loop μ-loop
-mul-size c = omega arith
-
-shared-slice-read-size : tie.Need-shared-slice-read-size Inv-loop μ-loop
-shared-slice-read-size c = omega arith
+enum-told : tie.Need-enum-told Inv-loop μ-loop
+enum-told c = search needs
 
 returns : tie.Need-returns Inv-loop μ-loop
-returns c = let on = c .before .before .before in summed-great _ _ _ _ _ (on .loop .inv) (omega arith) (omega arith)
+returns c =
+    summed-end _ _ _ _ _ (c .before .before .before .loop .inv)
+    (found-none _ _ (sym (c .enum-told .given .1) ∙ c .before .before .row-at .ensures))
+
+returns-2 : tie.Need-returns-2 Inv-loop μ-loop
+returns-2 c =
+    let row = c .before in
+    summed-great _ _ _ _ _ (row .before .before .before .before .loop .inv) (there row .0) _ (there row .1) (omega arith)
 
 width-of-requires : tie.Need-width-of-requires Inv-loop μ-loop
 width-of-requires c κs = omega arith
@@ -46,22 +68,25 @@ add-total-2 : tie.Need-add-total-2 Inv-loop μ-loop
 add-total-2 c = let w = small c in omega arith
 
 add-total-3 : tie.Need-add-total-3 Inv-loop μ-loop
-add-total-3 c = let w = small c in omega (arith, c .before .before .before .before .loop .inv .small)
-
-returns-2 : tie.Need-returns-2 Inv-loop μ-loop
-returns-2 c = let on = c .before .before .before .before .before in summed-past _ _ _ _ _ (on .loop .inv) (omega arith) _ (c .before .width-of .ensures) (omega arith)
-
-add-at : tie.Need-add-at Inv-loop μ-loop
-add-at c = omega arith
-
-loop-less : tie.Need-loop-less Inv-loop μ-loop
-loop-less c = omega arith
-
-loop-again : tie.Need-loop-again Inv-loop μ-loop
-loop-again c = let on = c .before .before .before .before .before in summed-more _ _ _ _ _ (on .loop .inv) (omega arith) _ (c .before .width-of .ensures) (omega arith)
+add-total-3 c = let w = small c in omega (arith, c .before .before .before .before .before .before .loop .inv .small)
 
 returns-3 : tie.Need-returns-3 Inv-loop μ-loop
-returns-3 c = summed-end _ _ _ _ _ (c .before .loop .inv) (omega arith)
+returns-3 c =
+    let row = c .before .before .before in
+    summed-past _ _ _ _ _ (row .before .before .before .before .loop .inv) (there row .0) _ (there row .1) _
+    (c .before .width-of .ensures) (omega arith)
+
+add-at : tie.Need-add-at Inv-loop μ-loop
+add-at c = omega (arith, there (c .before .before .before) .0)
+
+loop-less : tie.Need-loop-less Inv-loop μ-loop
+loop-less c = omega (arith, there (c .before .before .before) .0)
+
+loop-again : tie.Need-loop-again Inv-loop μ-loop
+loop-again c =
+    let row = c .before .before .before in
+    summed-more _ _ _ _ _ (row .before .before .before .before .loop .inv) (there row .0) _ (there row .1) _
+    (c .before .width-of .ensures) (omega arith)
 
 pub rows-size-spec : {M : Type 1} → statement M
 rows-size-spec =
@@ -70,17 +95,16 @@ rows-size-spec =
     Inv-loop
     μ-loop
     loop-holds
-    add-loop
-    add-size
-    mul-size
-    shared-slice-read-size
+    row-at-requires
+    enum-known-row
+    enum-told
     returns
+    returns-2
     width-of-requires
     add-total
     add-total-2
     add-total-3
-    returns-2
+    returns-3
     add-at
     loop-less
-    loop-again
-    returns-3)
+    loop-again)

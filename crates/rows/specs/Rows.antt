@@ -1,0 +1,58 @@
+-- A row and its numbers in a table (document 01): how many numbers a row has, and which stands where, is said here and nowhere else.
+-- Assumes nothing.
+pub mod Laws
+use mathlib.Core.Path.{_≡_}
+use mathlib.Core.Bool.{Bool}
+use Prim.Native.Nat.{ℕ, zero, suc, _+_, _/_, _%_}
+use mathlib.Core.List.{List, [], _∷_, _++_}
+use lib.Dec.{eqb, ltb}
+use lib.ListN.{length, getD, drop}
+use Rattle.format.specs.Choice.{pick}
+use Rattle.format.specs.Buffer.{over}
+use Rattle.rows.specs.declared.Row.{Row}
+use Rattle.rows.specs.declared.Found.{Found}
+use Rattle.rows.specs.declared.Found.the-variants as found
+
+-- how many numbers a row has
+abbrev pub width : ℕ
+width = 3
+
+-- they stand in this order: tag, value place, value length
+unfoldable pub numbers : Row → List ℕ
+numbers r = r .tag ∷ r .place ∷ r .size ∷ []
+
+-- the row of a tag and its value's place and length
+abbrev pub valued : ℕ → ℕ → ℕ → Row
+valued tag place size = record { tag = tag; place = place; size = size }
+
+-- the row whose first number stands at a place
+unfoldable pub rowAt : List ℕ → ℕ → Row
+rowAt t at = record { tag = getD t at 0; place = getD t (at + 1) 0; size = getD t (at + 2) 0 }
+
+-- where the table has all its numbers
+unfoldable pub foundAt : List ℕ → ℕ → Found
+foundAt t at = pick (ltb (length t) (at + width)) found.NoRow (found.Is (rowAt t at))
+
+-- a table after a row was put down, its first number at a place: all of it, or nothing where it does not fit
+unfoldable pub rowPut : Row → List ℕ → ℕ → List ℕ
+rowPut r t at = pick (ltb (length t) (at + width)) t (over t at (numbers r))
+
+-- the table of rows: the numbers of each, row after row
+unfoldable pub table : List Row → List ℕ
+table [] = []
+table (r ∷ rows) = numbers r ++ table rows
+
+-- the rows of a table, so many, and all; what is over is no row
+unfoldable pub firstRows : ℕ → List ℕ → List Row
+firstRows zero t = []
+firstRows (suc count) t = rowAt t 0 ∷ firstRows count (drop width t)
+
+unfoldable pub rowsOf : List ℕ → List Row
+rowsOf t = firstRows (length t / width) t
+
+-- no number is over
+abbrev pub Whole : List ℕ → Type 0
+Whole t = length t % width ≡ 0
+
+abbrev pub isWhole : List ℕ → Bool
+isWhole t = eqb (length t % width) 0
