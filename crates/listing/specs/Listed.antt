@@ -3,38 +3,13 @@
 pub mod Laws
 use mathlib.Core.Path.{_≡_}
 use Prim.Native.Nat.{ℕ}
-use Prim.Native.String.{String}
 use mathlib.Core.List.{List, [], _∷_}
-use lib.Dec.{ltb}
 use lib.ListN.{take}
-use Rattle.format.specs.Choice.{pick}
-use Rattle.dates.specs.declared.Date.{Date}
 use Rattle.versions.specs.Versions.{versionNumber}
 use Rattle.rows.specs.declared.Row.{Row}
 use Rattle.verdict.specs.Judge.{Verdict, accepted, refused, judge}
 use Rattle.lines.specs.Line.{decimalOf, ascii, _then_}
-
--- a line: a name, what it says, a newline
-abbrev pub lineOf : List ℕ → List ℕ → List ℕ
-lineOf name words = name then words then ascii "\n"
-
-abbrev pub line : String → List ℕ → List ℕ
-line name words = lineOf (ascii name) words
-
--- a zero in front of a number below a limit
-abbrev pub zeroBelow : ℕ → ℕ → List ℕ
-zeroBelow limit n = pick (ltb n limit) (ascii "0") []
-
--- a number with at least two digits, and with at least four
-abbrev pub two : ℕ → List ℕ
-two n = zeroBelow 10 n then decimalOf n
-
-abbrev pub four : ℕ → List ℕ
-four n = zeroBelow 1000 n then zeroBelow 100 n then two n
-
--- YYYY-MM-DD
-abbrev pub day : Date → List ℕ
-day d = four (d .year) then ascii "-" then two (d .month) then ascii "-" then two (d .day)
+use Rattle.list_lines.specs.ListLine.{line, day}
 
 -- where a part of the seal stands
 abbrev pub part : ℕ → ℕ → List ℕ

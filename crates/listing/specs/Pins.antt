@@ -6,7 +6,7 @@ use Rattle.rows.specs.Rows.{valued}
 use Rattle.verdict.specs.Judge.{accepted, refused}
 use Rattle.verdict.specs.Judge.Pins.{report-a}
 use Rattle.lines.specs.Line.{decimalOf, digits, ascii, _then_}
-use Rattle.listing.specs.Listed.{listed, featureLines, day}
+use Rattle.listing.specs.Listed.{listed, featureLines}
 
 pub seal-a : listed (accepted report-a) ≡
     ascii "accepted\n"
@@ -27,15 +27,6 @@ seal-a = refl
 pub second-tag : listed (refused 9 24) ≡ ascii "refused 9 at 24\n"
 unfolding listed decimalOf digits
 second-tag = refl
-
--- years have four digits, months and days two
-pub first-day : day (record { month = 1; day = 1; year = 1 }) ≡ ascii "0001-01-01"
-unfolding decimalOf digits
-first-day = refl
-
-pub last-day : day (record { month = 12; day = 31; year = 9999 }) ≡ ascii "9999-12-31"
-unfolding decimalOf digits
-last-day = refl
 
 -- two rows in order
 pub two-rows : featureLines (valued 254 20 0 ∷ valued 0 24 128 ∷ []) ≡

@@ -1,17 +1,11 @@
 -- How long a listing can be: 8,562 bytes are room for every one. 255 features of at most 32 bytes, and 402 for the other lines.
 -- Assumes nothing.
-use Prim.Native.Nat.{ℕ, zero, suc, _+_, _*_, _/_, _^_, _≤_, _<_}
+use Prim.Native.Nat.{ℕ, suc, _+_, _*_, _^_, _≤_, _<_}
 use native.Mathlib.Omega.{arith}
-use native.Mathlib.Nat.{pow-suc}
-use native.Mathlib.Decide.{decLe}
-use borrow.Author.Tests.{lt-ltb, le-ltb}
 use mathlib.Core.Path.{_≡_, refl, ap, sym, subst}
 use mathlib.Core.List.{List, [], _∷_, _++_}
 use lib.ListN.{length, length-append}
 use Rattle.format.specs.Bytes.{Bytes}
-use Rattle.dates.specs.declared.Date.{Date}
-use Rattle.dates.specs.Days.{Day}
-use Rattle.dates.specs.Days.Laws.{day-bounds}
 use Rattle.der.specs.Length.{form}
 use Rattle.grammar.specs.Content.{Version, three, four, Feature, Content}
 use Rattle.grammar.specs.Publish.{lengthOf, headerZone, messageZone, signatureZone}
@@ -24,59 +18,10 @@ use Rattle.verdict.specs.Judge.Complete.{reportOf, size-small}
 use Rattle.verdict.specs.Judge.Features.{rowsOf, feature-parts}
 use Rattle.verdict.specs.Judge.Numbers.{FromList, from-list}
 use Rattle.verdict.specs.Judge.Seals.{accepted-only}
-use Rattle.lines.specs.Line.{digits, decimalOf, ascii, _then_}
-use Rattle.listing.specs.Listed.{line, two, four as fourDigits, day, part, feature, featureLines, listed}
-
--- a number below 10 ^ k has at most k digits
-digits-turn : (k j n : ℕ) → n < 10 ^ suc (suc k) → length (digits j (n / 10)) ≤ suc k → Dec (10 ≤ n) → length (digits (suc j) n) ≤ suc (suc k)
-unfolding digits
-digits-turn k j n h ih (yes p) = simp (le-ltb n 10 p, length-append) (omega arith)
-digits-turn k j n h ih (no p) = simp (lt-ltb n 10 (omega arith)) (omega arith)
-
-digits-size : (k j n : ℕ) → n < 10 ^ suc k → length (digits j n) ≤ suc k
-unfolding digits
-digits-size k zero n h = omega arith
-digits-size zero (suc j) n h = let g : n < 10 = h in simp (lt-ltb n 10 g) (omega arith)
-digits-size (suc k) (suc j) n h =
-    let e : 10 ^ suc (suc k) ≡ 10 ^ suc k * 10 = pow-suc 10 (suc k) in
-    digits-turn k j n h (digits-size k j (n / 10) (omega arith)) (decLe 10 n)
-
-decimal-size : (k n : ℕ) → n < 10 ^ suc k → length (decimalOf n) ≤ suc k
-unfolding decimalOf
-decimal-size k n h = digits-size k (suc n) n h
-
--- two digits, and four
-two-cases : (n : ℕ) → n < 100 → Dec (10 ≤ n) → length (two n) ≤ 2
-two-cases n h (yes p) = simp (le-ltb n 10 p) (decimal-size 1 n h)
-two-cases n h (no p) = let g : n < 10 = omega arith in simp (lt-ltb n 10 g) (omega (arith, decimal-size 0 n g))
-
-two-size : (n : ℕ) → n < 100 → length (two n) ≤ 2
-two-size n h = two-cases n h (decLe 10 n)
-
-four-cases : (n : ℕ) → n < 10000 → Dec (1000 ≤ n) → Dec (100 ≤ n) → Dec (10 ≤ n) → length (fourDigits n) ≤ 4
-four-cases n h (yes p) q r = simp (le-ltb n 1000 p, le-ltb n 100 (omega arith), le-ltb n 10 (omega arith)) (decimal-size 3 n h)
-four-cases n h (no p) (yes q) r =
-    let g : n < 1000 = omega arith in
-    simp (lt-ltb n 1000 g, le-ltb n 100 q, le-ltb n 10 (omega arith)) (omega (arith, decimal-size 2 n g))
-four-cases n h (no p) (no q) (yes r) =
-    let g : n < 100 = omega arith in
-    simp (lt-ltb n 1000 (omega arith), lt-ltb n 100 g, le-ltb n 10 r) (omega (arith, decimal-size 1 n g))
-four-cases n h (no p) (no q) (no r) =
-    let g : n < 10 = omega arith in
-    simp (lt-ltb n 1000 (omega arith), lt-ltb n 100 (omega arith), lt-ltb n 10 g) (omega (arith, decimal-size 0 n g))
-
-four-size : (n : ℕ) → n < 10000 → length (fourDigits n) ≤ 4
-four-size n h = four-cases n h (decLe 1000 n) (decLe 100 n) (decLe 10 n)
-
--- YYYY-MM-DD
-joined : (y m d : List ℕ) → length y ≤ 4 → length m ≤ 2 → length d ≤ 2 → length (y ++ (ascii "-" ++ (m ++ (ascii "-" ++ d)))) ≤ 10
-joined y m d p q r = simp length-append (omega arith)
-
-day-size : (d : Date) → Day d → length (day d) ≤ 10
-day-size d h =
-    let b = day-bounds d h in
-    joined (fourDigits (d .year)) (two (d .month)) (two (d .day))
-    (four-size (d .year) (omega arith)) (two-size (d .month) (omega arith)) (two-size (d .day) (omega arith))
+use Rattle.lines.specs.Line.{decimalOf, ascii, _then_}
+use Rattle.list_lines.specs.ListLine.{line, day}
+use Rattle.list_lines.specs.Sizes.{decimal-size, day-size}
+use Rattle.listing.specs.Listed.{part, feature, featureLines, listed}
 
 -- where a part stands, by the digits of its length, and the line of a feature
 part-size : (k place size : ℕ) → place < 10000 → size < 10 ^ suc k → length (part place size) ≤ 16 + suc k

@@ -6,15 +6,14 @@ ghost use Rattle.format.specs.Answers.{done, filled};
 ghost use Rattle.verdict.specs.Judge.{judge};
 ghost use Rattle.lines.specs.Line.{Put};
 ghost use Rattle.listing.specs.Listed.{listed, Enough};
-ghost use Rattle.listing.specs.Listing.{accepted, refused, listing};
+ghost use Rattle.listing.specs.Listing.{accepted, listing};
 
-mod header;
 mod parts;
-mod words;
 
-use lines::put;
-use lines::put_number;
 use lines::put_text;
+use list_lines::put_dates;
+use list_lines::put_names;
+use list_lines::put_refused;
 use reader::Reading;
 
 // How much of its input a program must read: one byte more than the longest seal, so that one that is too long is known.
@@ -31,23 +30,20 @@ fn put_accepted(out: &mut [u8], at: usize, reading: Reading, table: &[usize], te
     ensures { λ r. ⌜ Put (now (out .entry)) at (accepted reading (now (table .entry)) (now (text .entry))) (now (out .exit)) r ⌝ }
 {
     let header = reading.header;
+    let country = header.country;
     let signature = reading.signature;
     let mut o = put_text(out, at, b"accepted\n");
-    o = header::put_names(out, o, header, text);
-    o = header::put_dates(out, o, header);
+    o = put_names(out, o, header.version, country, text, header.length);
+    o = put_dates(
+        out,
+        o,
+        header.issued,
+        header.signed,
+        header.definition,
+        header.category,
+    );
     o = parts::put_features(out, o, reading.count, table);
     parts::put_signature(out, o, signature.place, signature.length)
-}
-
-// The line of a refusal.
-fn put_refused(out: &mut [u8], at: usize, number: usize, place: usize) -> usize
-    ensures { λ r. ⌜ Put (now (out .entry)) at (refused number place) (now (out .exit)) r ⌝ }
-{
-    let mut o = put_text(out, at, b"refused ");
-    o = put_number(out, o, number);
-    o = put_text(out, o, b" at ");
-    o = put_number(out, o, place);
-    put(out, o, b'\n')
 }
 
 // Puts the listing of a reading at the start of `out`, as far as there is room, and gives the count. `reader::read` filled the other two.

@@ -1,6 +1,7 @@
 // The lines of a listing that say where a part of the seal stands: the features, and the signature.
 ghost use Rattle.lines.specs.Line.{Put};
-ghost use Rattle.listing.specs.Listed.{line, part, feature};
+ghost use Rattle.list_lines.specs.ListLine.{line};
+ghost use Rattle.listing.specs.Listed.{part, feature};
 ghost use Rattle.listing.specs.Listing.{features};
 use lines::put;
 use lines::put_number;

@@ -17,6 +17,7 @@ use Rattle.lines.specs.Line.Laws.{counts-filled, put-whole}
 use Rattle.rows.specs.declared.Row.{Row}
 use Rattle.rows.specs.Rows.{width, table}
 use Rattle.rows.specs.Rows.Laws.{rows-taken}
+use Rattle.list_lines.specs.ListLine.{nameLines, dateLines, refusal}
 use Rattle.verdict.specs.Judge.{Verdict, accepted, refused, judge}
 use Rattle.verdict.specs.Judge.Numbers.{FromList, from-list}
 use Rattle.reader.specs.Judged.{judge-long}
@@ -25,7 +26,7 @@ use Rattle.reader.specs.Calls.Reads.{accepted-report, both-fit}
 use Rattle.reader.specs.declared.Reading.{Reading}
 use Rattle.listing.specs.Room.{Word, room}
 use Rattle.listing.specs.Listed.{featureLines, listed, Enough}
-use Rattle.listing.specs.Listing.{features, nameLines, dateLines, listing}
+use Rattle.listing.specs.Listing.{features, listing}
 use Rattle.listing.specs.Listing as put
 
 -- the rows of the table are those of the report
@@ -60,7 +61,7 @@ listing-is (accepted r) t x l four =
     simp (append-assoc, signer, reference, rows-are (r .rows) (drop (length (table (r .rows))) t))
 listing-is (refused number place) t x l four =
     let n : number ≡ 0 → ⊥ = λ e. omega (arith, l .0, e) in
-    ap (λ b. pick b (put.accepted (answerOf (refused number place)) t x) (put.refused number place)) (ne-eqb number 0 n)
+    ap (λ b. pick b (put.accepted (answerOf (refused number place)) t x) (refusal number place)) (ne-eqb number 0 n)
 
 -- 255 rows of table and 259 bytes of text are room enough for every seal, so that 12 is never answered
 module _ (numbers room : ℕ) (rows : 255 * width ≤ numbers) (names : 259 ≤ room) where
