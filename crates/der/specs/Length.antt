@@ -3,12 +3,14 @@
 pub mod Laws
 pub mod Exact
 pub mod Written
-use Prim.Native.Nat.{ℕ, _+_, _-_, _^_, _<_}
+use Prim.Native.Nat.{ℕ, _+_, _-_, _/_, _%_, _^_, _<_}
 use mathlib.Core.List.{List, [], _∷_}
 use lib.Dec.{ltb, eqb}
 use lib.ListN.{length}
 use Rattle.format.specs.Choice.{pick}
 use Rattle.format.specs.Numbers.{be, val}
+use Rattle.der.specs.declared.Form.{Form}
+use Rattle.der.specs.declared.Form.the-variants.{One, Two, Three, Longer}
 use Rattle.der.specs.declared.Length.{Length}
 use Rattle.der.specs.declared.Length.the-variants.{Is, Cut, Malformed}
 
@@ -25,9 +27,22 @@ form n =
     (pick (ltb n 0x1000000) (0x83 ∷ be 3 n)
     (0x84 ∷ be 4 n))))
 
--- what is written for a length: its form, and nothing for a number that is no length
-unfoldable pub written : ℕ → List ℕ
-written n = pick (ltb n 0x100000000) (form n) []
+-- the bytes of a length as it is written, and nothing for a longer one
+abbrev pub bytesOf : Form → List ℕ
+bytesOf (One a) = a ∷ []
+bytesOf (Two a b) = a ∷ b ∷ []
+bytesOf (Three a b c) = a ∷ b ∷ c ∷ []
+bytesOf Longer = []
+
+-- a length below 65,536 as it is written: these bytes are its form (`written-form` in Length/Written.antt)
+unfoldable pub lengthForm : ℕ → Form
+lengthForm n =
+    pick (ltb n 0x80) (One n)
+    (pick (ltb n 0x100) (Two 0x81 n)
+    (pick (ltb n 0x10000) (Three 0x82 (n / 256) (n % 256)) Longer))
+
+abbrev pub written : ℕ → List ℕ
+written n = bytesOf (lengthForm n)
 
 -- the least length that needs k bytes after the first
 abbrev pub least : ℕ → ℕ

@@ -3,7 +3,7 @@ ghost use mathlib.Core.Path.{_≡_};
 ghost use Prim.Native.Nat.{_^_, _<_, _≤_};
 ghost use lib.ListN.{length};
 ghost use Rattle.octets.specs.Copy.{copied, reached};
-ghost use Rattle.der.specs.Length.{readLength, written, least as leastOf};
+ghost use Rattle.der.specs.Length.{readLength, lengthForm, written, least as leastOf};
 ghost use Rattle.der.specs.Element.{bodyIn, elementIn};
 ghost use Rattle.der.specs.Content.{redundant, strict};
 use octets::wide;
@@ -16,6 +16,18 @@ pub enum Length {
     Cut,
     // no first byte of a length, or not the shortest form
     Malformed,
+}
+
+// A DER length as it is written: its bytes.
+pub enum Form {
+    // below 128
+    One(u8),
+    // 81 and a byte
+    Two(u8, u8),
+    // 82 and two bytes
+    Three(u8, u8, u8),
+    // 65,536 and more, which nothing here writes
+    Longer,
 }
 
 // An element at the head of a byte string.
@@ -69,7 +81,23 @@ pub fn read_length(s: &[u8]) -> Length
     Length::Is(value, end)
 }
 
-// How many bytes the DER length of this size takes: none where it has no form.
+// The DER length of this size, byte by byte.
+pub fn length_form(size: usize) -> Form
+    ensures { λ r. ⌜ r ≡ lengthForm size ⌝ }
+{
+    if size < 0x80 {
+        return Form::One(size as u8);
+    }
+    if size < 0x100 {
+        return Form::Two(0x81, size as u8);
+    }
+    if size < 0x10000 {
+        return Form::Three(0x82, (size / 256) as u8, (size % 256) as u8);
+    }
+    Form::Longer
+}
+
+// How many bytes that is.
 pub fn length_width(size: usize) -> usize
     ensures { λ r. ⌜ r ≡ length (written size) ⌝ }
 {
@@ -82,77 +110,39 @@ pub fn length_width(size: usize) -> usize
     if size < 0x10000 {
         return 3;
     }
-    if size < 0x1000000 {
-        return 4;
-    }
-    if size < 0x100000000 {
-        return 5;
-    }
     0
 }
 
-// Puts down the DER length of this size from a place on and answers the place reached; where it has no form or does not fit, nothing is written.
+// Puts it down from a place on and answers the place reached; where it does not fit, or is longer, nothing is written and the place stays.
 pub fn put_length(size: usize, out: &mut [u8], at: usize) -> usize
     ensures place { λ r. ⌜ r ≡ reached (written size) (length (now (out .entry))) at ⌝ }
     ensures buffer { λ r. ⌜ now (out .exit) ≡ copied (written size) (now (out .entry)) at ⌝ }
 {
     let room = out.len();
-    if room <= at {
+    if room < at {
         return at;
     }
-    if size < 0x80 {
-        out[at] = size as u8;
-        return at + 1;
-    }
-    if size < 0x100 {
-        if room - at < 2 {
-            return at;
-        }
-        out[at] = 0x81;
-        out[at + 1] = size as u8;
-        return at + 2;
-    }
-    if size < 0x10000 {
-        if room - at < 3 {
-            return at;
-        }
-        out[at] = 0x82;
-        out[at + 1] = (size / 256) as u8;
-        out[at + 2] = (size % 256) as u8;
-        return at + 3;
-    }
-    put_great(size, out, at)
-}
-
-// The same of the sizes that need three or four bytes after the first.
-fn put_great(size: usize, out: &mut [u8], at: usize) -> usize
-    requires { ⌜ (0x10000 ≤ size) × (at < length (now out)) ⌝ }
-    ensures place { λ r. ⌜ r ≡ reached (written size) (length (now (out .entry))) at ⌝ }
-    ensures buffer { λ r. ⌜ now (out .exit) ≡ copied (written size) (now (out .entry)) at ⌝ }
-{
-    let left = out.len() - at;
-    if size < 0x1000000 {
-        if left < 4 {
-            return at;
-        }
-        out[at] = 0x83;
-        out[at + 1] = (size / 65536) as u8;
-        out[at + 2] = (size / 256 % 256) as u8;
-        out[at + 3] = (size % 256) as u8;
-        return at + 4;
-    }
-    if 0xFFFFFFFF < size {
+    if room - at < length_width(size) {
         return at;
     }
-    if left < 5 {
-        return at;
+    match length_form(size) {
+        Form::One(a) => {
+            out[at] = a;
+            at + 1
+        }
+        Form::Two(a, b) => {
+            out[at] = a;
+            out[at + 1] = b;
+            at + 2
+        }
+        Form::Three(a, b, c) => {
+            out[at] = a;
+            out[at + 1] = b;
+            out[at + 2] = c;
+            at + 3
+        }
+        Form::Longer => at,
     }
-    out[at] = 0x84;
-    out[at + 1] = (size / 16777216) as u8;
-    out[at + 2] = (size / 65536 % 256) as u8;
-    out[at + 3] = (size / 256 % 256) as u8;
-    out[at + 4] = (size % 256) as u8;
-    at + 5
 }
 
 // Where a body starts and ends whose length was read, if so many bytes after the tag hold it whole.

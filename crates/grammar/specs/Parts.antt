@@ -169,7 +169,8 @@ cut-four a b t u la lb e =
     sym (append-assoc (c40 (six a)) (c40 (a .1)) t) ∙ ap (λ z. z ++ t) (sym (four-form a la)) ∙ e ∙ ap (λ z. z ++ u) (four-form b lb) ∙ append-assoc (c40 (six b)) (c40 (b .1)) u in
     let c = cut-text 6 (six a) (six b) (c40 (a .1) ++ t) (c40 (b .1) ++ u) (six-text a la) (six-text b lb) f in
     let d = fronts 4 (a .0) (hexDigits (length (a .1))) (b .0) (hexDigits (length (b .1))) (la .signer .size) (lb .signer .size) (c .0) in
-    let same : length (a .1) ≡ length (b .1) = sym (given-back (length (a .1)) (la .size .1)) ∙ ap given (d .1) ∙ given-back (length (b .1)) (lb .size .1) in
+    let same : length (a .1) ≡ length (b .1) =
+    sym (given-back (length (a .1)) (la .size .1)) ∙ ap given (d .1) ∙ given-back (length (b .1)) (lb .size .1) in
     let r = cut-text (length (a .1)) (a .1) (b .1) t u (refl, reference-text (a .1) (la .reference)) (sym same, reference-text (b .1) (lb .reference)) (c .1) in
     (λ i. (d .0 i, r .0 i), r .1)
 

@@ -63,9 +63,15 @@ put-date d n out at day e room =
     ∙ ap (λ x. over out at (x ∷ (n / 256 % 256) ∷ (n % 256) ∷ [])) high
     ∙ ap (λ m. over out at ((m / 256 / 256 % 256) ∷ (m / 256 % 256) ∷ (m % 256) ∷ [])) e
 
--- one store of a form
+-- one, two or three stores of a form
 pub put-one : (out : List ℕ) (at x : ℕ) (bytes : List ℕ) → bytes ≡ x ∷ [] → Room out at bytes → (at + 1 ≡ at + length bytes) × (set out at x ≡ over out at bytes)
 put-one out at x bytes e room = let n = ap length e in (omega arith, set-over out at x (omega arith) ∙ ap (over out at) (sym e))
+
+pub put-two : (out : List ℕ) (at x y : ℕ) (bytes : List ℕ) → bytes ≡ x ∷ y ∷ [] → Room out at bytes → (at + 2 ≡ at + length bytes) × (set (set out at x) (at + 1) y ≡ over out at bytes)
+put-two out at x y bytes e room = let n = ap length e in (omega arith, over-two out at x y (omega arith) ∙ ap (over out at) (sym e))
+
+pub put-three : (out : List ℕ) (at x y z : ℕ) (bytes : List ℕ) → bytes ≡ x ∷ y ∷ z ∷ [] → Room out at bytes → (at + 3 ≡ at + length bytes) × (set (set (set out at x) (at + 1) y) (at + 2) z ≡ over out at bytes)
+put-three out at x y z bytes e room = let n = ap length e in (omega arith, over-three out at x y z (omega arith) ∙ ap (over out at) (sym e))
 
 -- a feature: its tag, its length, its value
 feature-long : (v : Version) (tag : ℕ) (value : List ℕ) → length (feature v (record { tag = tag; value = value })) ≡ 1 + length (lengthOf v (length value)) + length value

@@ -15,6 +15,7 @@ use crate::names::put_names;
 use crate::names::put_text;
 use dates::Date;
 use dates::Numbered;
+use der::Form;
 use items::Header;
 use rows::Found;
 use rows::WIDTH;
@@ -67,7 +68,7 @@ pub(crate) fn put_rest(header: Header, out: &mut [u8], at: usize) -> usize
     last + 2
 }
 
-// Puts down a length: one plain byte in version 3 and a DER length in version 4.
+// Puts down a length: one plain byte in version 3 and a DER length in version 4; there is room for it, so none is tested for.
 pub(crate) fn put_length(version: Version, size: usize, out: &mut [u8], at: usize) -> usize
     requires { ⌜ Measured version size × Room (now out) at (lengthOf version size) ⌝ }
     ensures place { λ r. ⌜ r ≡ at + length (lengthOf version size) ⌝ }
@@ -77,7 +78,25 @@ pub(crate) fn put_length(version: Version, size: usize, out: &mut [u8], at: usiz
         out[at] = size as u8;
         return at + 1;
     }
-    der::put_length(size, out, at)
+    match der::length_form(size) {
+        Form::One(a) => {
+            out[at] = a;
+            at + 1
+        }
+        Form::Two(a, b) => {
+            out[at] = a;
+            out[at + 1] = b;
+            at + 2
+        }
+        Form::Three(a, b, c) => {
+            out[at] = a;
+            out[at + 1] = b;
+            out[at + 2] = c;
+            at + 3
+        }
+        // no seal has one
+        Form::Longer => at,
+    }
 }
 
 // Puts down the bytes of a value, each touched once; there is room for them, so none is tested for.

@@ -35,9 +35,13 @@ module _ (s old : List ℕ) (at i : ℕ) (here : i < length s) (mid : List ℕ) 
       let both : Put mid m (32 ∷ decimalOf (getD s i 0)) new r = put-more mid m (32 ∷ []) mid′ m′ (decimalOf (getD s i 0)) new r q g t in
       rw (add-one, take-suc s i 0, words-more) (put-more old at (wordsOf (take i s)) mid m _ new r p long both)
 
-  pub hex-turn : (high low : ℕ) → high ≡ hexDigit (getD s i 0 / 16) → low ≡ hexDigit (getD s i 0 % 16) → (mid′ : List ℕ) (m′ : ℕ) → length mid′ ≡ length mid → (new : List ℕ) (r : ℕ) → Put old at (hexOf (take i s)) mid m → Put mid m (high ∷ []) mid′ m′ → Put mid′ m′ (low ∷ []) new r → Put old at (hexOf (take (i + 1) s)) new r
+  pub hex-turn : (high low : ℕ) → high ≡ hexDigit (getD s i 0 / 16) → low ≡ hexDigit (getD s i 0 % 16) →
+      (mid′ : List ℕ) (m′ : ℕ) → length mid′ ≡ length mid → (new : List ℕ) (r : ℕ) → Put old at (hexOf (take i s)) mid m →
+      Put mid m (high ∷ []) mid′ m′ → Put mid′ m′ (low ∷ []) new r → Put old at (hexOf (take (i + 1) s)) new r
   hex-turn high low e f mid′ m′ g new r p q t =
-      let both : Put mid m (hexDigit (getD s i 0 / 16) ∷ hexDigit (getD s i 0 % 16) ∷ []) new r = put-more mid m (hexDigit (getD s i 0 / 16) ∷ []) mid′ m′ (hexDigit (getD s i 0 % 16) ∷ []) new r (rw e at q) g (rw f at t) in
+      let one = hexDigit (getD s i 0 / 16) in
+      let two = hexDigit (getD s i 0 % 16) in
+      let both : Put mid m (one ∷ two ∷ []) new r = put-more mid m (one ∷ []) mid′ m′ (two ∷ []) new r (rw e at q) g (rw f at t) in
       rw (add-one, take-suc s i 0, hex-more) (put-more old at (hexOf (take i s)) mid m _ new r p long both)
 
 -- the plain sum of all bytes, which is what a place one further on adds

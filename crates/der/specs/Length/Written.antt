@@ -1,123 +1,81 @@
 -- What is written for a length: its form, byte by byte, and a buffer in which those bytes stand or do not fit.
 -- Assumes nothing.
-use mathlib.Core.Path.{_≡_, refl, ap, sym, _∙_}
+use mathlib.Core.Path.{_≡_, ap, sym, _∙_}
 use Prim.Native.Nat.{ℕ, _+_, _/_, _%_, _<_, _≤_}
 use native.Mathlib.Omega.{arith}
-use native.Mathlib.Nat.{add-zero}
 use borrow.Author.Tests.{lt-ltb, le-ltb, ltb-true, ltb-false}
-use mathlib.Core.List.{List, [], _∷_, _++_}
+use mathlib.Core.List.{List, [], _∷_}
 use lib.Dec.{ltb}
-use lib.ListN.{length, set}
+use lib.ListN.{length}
 use Rattle.format.specs.Buffer.{over}
-use Rattle.format.specs.Buffer.Laws.{over-none, over-three, over-set}
 use Rattle.format.specs.Choice.Laws.{by-test}
 use Rattle.format.specs.Numbers.{be}
 use Rattle.format.specs.Numbers.Laws.{be-two}
 use Rattle.octets.specs.Copy.{copied, reached}
 use Rattle.octets.specs.Copy.Laws.{copied-not, copied-all, reached-not, reached-all}
-use Rattle.der.specs.Length.{Sized, form, written}
-use Rattle.der.specs.Length.Exact.{form-short, form-long, form-some}
+use Rattle.der.specs.Length.{form, bytesOf, lengthForm, written}
+use Rattle.der.specs.Length.Exact.{form-short, form-long}
+use Rattle.der.specs.declared.Form.the-variants as is
 
--- a length is written in its form
-pub written-form : (n : ℕ) → Sized n → written n ≡ form n
-unfolding written
-written-form n h = simp (lt-ltb n 0x100000000 h)
-
-be-three : (n : ℕ) → n < 0x1000000 → be 3 n ≡ (n / 65536) ∷ (n / 256 % 256) ∷ (n % 256) ∷ []
-unfolding be
-be-three n h =
-    let high : n / 256 / 256 % 256 ≡ n / 65536 = omega arith in
-    ap (λ b. b ∷ (n / 256 % 256) ∷ (n % 256) ∷ []) high
-
-be-four : (n : ℕ) → n < 0x100000000 → be 4 n ≡ (n / 16777216) ∷ (n / 65536 % 256) ∷ (n / 256 % 256) ∷ (n % 256) ∷ []
-unfolding be
-be-four n h =
-    let high : n / 256 / 256 / 256 % 256 ≡ n / 16777216 = omega arith in
-    let next : n / 256 / 256 % 256 ≡ n / 65536 % 256 = omega arith in
-    ap (λ b. b ∷ (n / 256 / 256 % 256) ∷ (n / 256 % 256) ∷ (n % 256) ∷ []) high
-    ∙ ap (λ b. (n / 16777216) ∷ b ∷ (n / 256 % 256) ∷ (n % 256) ∷ []) next
-
--- byte by byte, by its width
+-- the length as it is written, by the tests
 module _ (n : ℕ) where
-  pub written-short : n < 0x80 → written n ≡ n ∷ []
-  written-short h = written-form n (omega arith) ∙ form-short n h
+  pub form-one : n < 0x80 → is.One n ≡ lengthForm n
+  unfolding lengthForm
+  form-one h = simp (lt-ltb n 0x80 h)
 
-  pub written-one : 0x80 ≤ n → n < 0x100 → written n ≡ 0x81 ∷ n ∷ []
+  pub form-two : 0x80 ≤ n → n < 0x100 → is.Two 0x81 n ≡ lengthForm n
+  unfolding lengthForm
+  form-two h l = simp (le-ltb n 0x80 h, lt-ltb n 0x100 l)
+
+  pub form-three : 0x100 ≤ n → n < 0x10000 → is.Three 0x82 (n / 256) (n % 256) ≡ lengthForm n
+  unfolding lengthForm
+  form-three h l = simp (le-ltb n 0x80 (omega arith), le-ltb n 0x100 h, lt-ltb n 0x10000 l)
+
+  pub form-longer : 0x10000 ≤ n → is.Longer ≡ lengthForm n
+  unfolding lengthForm
+  form-longer h = simp (le-ltb n 0x80 (omega arith), le-ltb n 0x100 (omega arith), le-ltb n 0x10000 h)
+
+  -- what is written is the form
+  pub written-form : n < 0x10000 → written n ≡ form n
   unfolding be
-  written-one h l =
-      let low : n % 256 ≡ n = omega arith in
-      written-form n (omega arith) ∙ form-long 1 (omega arith) (omega arith) n h l ∙ ap (λ x. 0x81 ∷ x ∷ []) low
+  written-form small =
+      by-test (ltb n 0x80)
+      (λ a. let h = ltb-true n 0x80 a in ap bytesOf (sym (form-one h)) ∙ sym (form-short n h))
+      (λ a.
+      by-test (ltb n 0x100)
+      (λ b.
+      let h = ltb-false n 0x80 a in
+      let l = ltb-true n 0x100 b in
+      let low : n ≡ n % 256 = omega arith in
+      ap bytesOf (sym (form-two h l)) ∙ ap (λ x. 0x81 ∷ x ∷ []) low ∙ sym (form-long 1 (omega arith) (omega arith) n h l))
+      (λ b.
+      let h = ltb-false n 0x100 b in
+      ap bytesOf (sym (form-three h small))
+      ∙ ap (λ s. 0x82 ∷ s) (sym (be-two n small)) ∙ sym (form-long 2 (omega arith) (omega arith) n h small)))
 
-  pub written-two : 0x100 ≤ n → n < 0x10000 → written n ≡ 0x82 ∷ (n / 256) ∷ (n % 256) ∷ []
-  written-two h l =
-      written-form n (omega arith) ∙ form-long 2 (omega arith) (omega arith) n h l ∙ ap (λ s. 0x82 ∷ s) (be-two n l)
-
-  pub written-three : 0x10000 ≤ n → n < 0x1000000 → written n ≡ 0x83 ∷ (n / 65536) ∷ (n / 256 % 256) ∷ (n % 256) ∷ []
-  written-three h l =
-      written-form n (omega arith) ∙ form-long 3 (omega arith) (omega arith) n h l ∙ ap (λ s. 0x83 ∷ s) (be-three n l)
-
-  pub written-four : 0x1000000 ≤ n → n < 0x100000000 →
-      written n ≡ 0x84 ∷ (n / 16777216) ∷ (n / 65536 % 256) ∷ (n / 256 % 256) ∷ (n % 256) ∷ []
-  written-four h l =
-      written-form n l ∙ form-long 4 (omega arith) (omega arith) n h l ∙ ap (λ s. 0x84 ∷ s) (be-four n l)
-
-  pub written-none : 0x100000000 ≤ n → written n ≡ []
-  unfolding written
-  written-none h = simp (le-ltb n 0x100000000 h)
-
--- a length below 65,536 takes three bytes at most
-pub written-few : (n : ℕ) → n < 0x10000 → length (written n) ≤ 3
-written-few n h =
-    by-test (ltb n 0x80)
-    (λ a. omega (arith, ap length (written-short n (ltb-true n 0x80 a))))
-    (λ a.
-    by-test (ltb n 0x100)
-    (λ b. omega (arith, ap length (written-one n (ltb-false n 0x80 a) (ltb-true n 0x100 b))))
-    (λ b. omega (arith, ap length (written-two n (ltb-false n 0x100 b) h))))
+  -- in one byte to three
+  pub written-some : n < 0x10000 → (1 ≤ length (written n)) × (length (written n) ≤ 3)
+  written-some small =
+      by-test (ltb n 0x80)
+      (λ a. let e = ap (λ f. length (bytesOf f)) (form-one (ltb-true n 0x80 a)) in (omega arith, omega arith))
+      (λ a.
+      by-test (ltb n 0x100)
+      (λ b. let e = ap (λ f. length (bytesOf f)) (form-two (ltb-false n 0x80 a) (ltb-true n 0x100 b)) in (omega arith, omega arith))
+      (λ b. let e = ap (λ f. length (bytesOf f)) (form-three (ltb-false n 0x100 b) small) in (omega arith, omega arith)))
 
 -- the place and the buffer after it: all of it where it fits, else nothing
-module _ (n : ℕ) (out : List ℕ) (at : ℕ) (bytes : List ℕ) (e : written n ≡ bytes) where
-  pub put-not : length out < at + length bytes →
-      (at ≡ reached (written n) (length out) at) × (out ≡ copied (written n) out at)
-  put-not h = (
-    reached-not (written n) out at (omega (arith, ap length e)),
-    copied-not (written n) out at (omega (arith, ap length e)),
-  )
-
-  pub put-room : at + length bytes ≤ length out →
-      (reached (written n) (length out) at ≡ at + length bytes) × (copied (written n) out at ≡ over out at bytes)
-  put-room h = (
-    sym (reached-all (written n) out at (omega (arith, ap length e))) ∙ ap (λ b. at + length b) e,
-    sym (copied-all (written n) out at (omega (arith, ap length e))) ∙ ap (over out at) e,
-  )
-
-  pub put-all : at + length bytes ≤ length out → (after : List ℕ) → after ≡ over out at bytes →
-      (at + length bytes ≡ reached (written n) (length out) at) × (after ≡ copied (written n) out at)
-  put-all h after f = (sym (put-room h .0), f ∙ sym (put-room h .1))
-
--- nothing is written where there is nothing to write, or no byte of room
 module _ (n : ℕ) (out : List ℕ) (at : ℕ) where
-  pub put-empty : 0x100000000 ≤ n → (at ≡ reached (written n) (length out) at) × (out ≡ copied (written n) out at)
-  put-empty h =
-      by-test (ltb (length out) at)
-      (λ e. put-not n out at [] (written-none n h) (omega (arith, ltb-true (length out) at e)))
-      (λ e.
-      let all = put-all n out at [] (written-none n h) (omega (arith, ltb-false (length out) at e)) out (sym (over-none out at)) in
-      (sym (add-zero at) ∙ all .0, all .1))
+  pub put-not : length out < at + length (written n) →
+      (at ≡ reached (written n) (length out) at) × (out ≡ copied (written n) out at)
+  put-not h = (reached-not (written n) out at h, copied-not (written n) out at h)
 
-  pub put-past : length out ≤ at → (at ≡ reached (written n) (length out) at) × (out ≡ copied (written n) out at)
-  put-past h =
-      by-test (ltb n 0x100000000)
-      (λ e. put-not n out at (form n) (written-form n (ltb-true n 0x100000000 e)) (omega (arith, form-some n)))
-      (λ e. put-empty (ltb-false n 0x100000000 e))
+  module _ (bytes : List ℕ) (e : written n ≡ bytes) (room : at + length (written n) ≤ length out) where
+    pub put-room : (reached (written n) (length out) at ≡ at + length bytes) × (copied (written n) out at ≡ over out at bytes)
+    put-room = (
+      sym (reached-all (written n) out at room) ∙ ap (λ b. at + length b) e,
+      sym (copied-all (written n) out at room) ∙ ap (over out at) e,
+    )
 
--- four stores in a row, and five
-pub over-four : (out : List ℕ) (at a b c d : ℕ) → at + 4 ≤ length out →
-    set (set (set (set out at a) (at + 1) b) (at + 2) c) (at + 3) d ≡ over out at (a ∷ b ∷ c ∷ d ∷ [])
-over-four out at a b c d h =
-    ap (λ o. set o (at + 3) d) (over-three out at a b c (omega arith)) ∙ over-set out at (a ∷ b ∷ c ∷ []) d (omega arith)
-
-pub over-five : (out : List ℕ) (at a b c d e : ℕ) → at + 5 ≤ length out →
-    set (set (set (set (set out at a) (at + 1) b) (at + 2) c) (at + 3) d) (at + 4) e ≡ over out at (a ∷ b ∷ c ∷ d ∷ e ∷ [])
-over-five out at a b c d e h =
-    ap (λ o. set o (at + 4) e) (over-four out at a b c d (omega arith)) ∙ over-set out at (a ∷ b ∷ c ∷ d ∷ []) e (omega arith)
+    pub put-all : (after : List ℕ) → after ≡ over out at bytes →
+        (at + length bytes ≡ reached (written n) (length out) at) × (after ≡ copied (written n) out at)
+    put-all after f = (sym (put-room .0), f ∙ sym (put-room .1))

@@ -9,7 +9,8 @@ use denote.Ref.{now}
 use lib.ListN.{length}
 use Rattle.lines.specs.Line.{Put}
 use Rattle.lines.specs.Line.Laws.{put-none, put-more}
-use Rattle.scan.specs.Scan.Laws.{PairsTo, pairs-none, pairs-past, pairs-no-high, pairs-no-low, pairs-more, pairs-turn, pairs-done, digit-small, digit-at}
+use Rattle.scan.specs.Scan.Laws.{PairsTo, pairs-none, pairs-past, pairs-no-high, pairs-no-low, pairs-more, pairs-turn, pairs-done}
+use Rattle.scan.specs.Scan.Laws.{digit-small, digit-at}
 use Rattle.scan.proofs.take_pairs.Statement.{statement}
 use Rattle.scan.proofs.take_pairs.Tie as tie
 
@@ -62,7 +63,8 @@ small c =
     let first = c .before .before .before in
     let high = first .before .before .at .result in
     let low = c .before .before .at2 .result in
-    (digit-small high _ (first .before .hex-value .ensures) (first .if1 .left), digit-small low _ (c .before .hex-value2 .ensures) (c .if2 .left))
+    let one = digit-small high _ (first .before .hex-value .ensures) (first .if1 .left) in
+    (one, digit-small low _ (c .before .hex-value2 .ensures) (c .if2 .left))
 
 mul-put : tie.Need-mul-put Inv-loop μ-loop
 mul-put c = omega (arith, small (c .before))

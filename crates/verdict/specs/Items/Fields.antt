@@ -94,7 +94,8 @@ six-length (a ∷ []) n e h = absurd (omega arith)
 six-length (a ∷ b ∷ []) n e h = absurd (omega arith)
 six-length (a ∷ b ∷ c ∷ []) n e h = absurd (omega arith)
 six-length (a ∷ b ∷ c ∷ d ∷ []) n e h =
-    ap (λ x. x * 16 + hexValue (hexDigit (n % 16))) (digit-value (n / 16) (omega arith)) ∙ ap (λ x. n / 16 * 16 + x) (digit-value (n % 16) (omega arith)) ∙ omega arith
+    ap (λ x. x * 16 + hexValue (hexDigit (n % 16))) (digit-value (n / 16) (omega arith))
+    ∙ ap (λ x. n / 16 * 16 + x) (digit-value (n % 16) (omega arith)) ∙ omega arith
 six-length (a ∷ b ∷ c ∷ d ∷ x ∷ t) n e h = absurd (omega arith)
 
 six-digits : (s : List ℕ) (n : ℕ) → length s ≡ 4 → n ≤ 255 → both (ltb (hexValue (getD (s ++ hexDigits n) 4 0)) 16) (ltb (hexValue (getD (s ++ hexDigits n) 5 0)) 16) ≡ true

@@ -182,7 +182,9 @@ six-of (a ∷ b ∷ c ∷ d ∷ x ∷ y ∷ []) l e =
       signer = signer-of (a ∷ b ∷ c ∷ d ∷ []) refl (p .0);
       some = omega (arith, ltb-true 0 n (q .1));
       most = omega arith;
-      back = ap (λ u. a ∷ b ∷ c ∷ d ∷ u ∷ hexDigit (n % 16) ∷ []) (ap hexDigit high ∙ value-digit x hx) ∙ ap (λ u. a ∷ b ∷ c ∷ d ∷ x ∷ u ∷ []) (ap hexDigit low ∙ value-digit y hy);
+      back =
+          ap (λ u. a ∷ b ∷ c ∷ d ∷ u ∷ hexDigit (n % 16) ∷ []) (ap hexDigit high ∙ value-digit x hx)
+          ∙ ap (λ u. a ∷ b ∷ c ∷ d ∷ x ∷ u ∷ []) (ap hexDigit low ∙ value-digit y hy);
     }
 
 pub names-four-read : (at : ℕ) (s : List ℕ) (n : Names) (end : ℕ) → Bytes s → names four at s ≡ is n end → LegalNames four (n .signer, n .reference) × Stands (form.names four (n .signer) (n .reference)) at end s

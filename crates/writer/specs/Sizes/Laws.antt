@@ -6,7 +6,7 @@ use native.Mathlib.Omega.{arith}
 use mathlib.Core.List.{List, [], _∷_}
 use lib.ListN.{length, drop}
 use Rattle.der.specs.Length.{written}
-use Rattle.der.specs.Length.Written.{written-few}
+use Rattle.der.specs.Length.Written.{written-some}
 use Rattle.grammar.specs.Publish.{lengthOf}
 use Rattle.rows.specs.declared.Row.{Row}
 use Rattle.rows.specs.Rows.{width, rowAt, rowsOf}
@@ -62,7 +62,7 @@ module _ (v : Version) (t : List ℕ) (start total at : ℕ) (s : Summed v t sta
 -- the width of a length is small
 pub width-small : (v : Version) (n : ℕ) → n ≤ 4096 → length (lengthOf v n) ≤ 3
 width-small three n h = omega arith
-width-small four n h = omega (arith, width-four four n refl h, written-few n (omega arith))
+width-small four n h = omega (arith, width-four four n refl h, written-some n (omega arith) .1)
 
 -- signer and reference, by version
 module _ (v : Version) (text : ℕ) where

@@ -27,7 +27,8 @@ digits : (c : tie.After-hex-digit Inv-loop μ-loop) → c .hex-digit .result ≡
 digits c =
     let w = c .before .before in
     let on = w .before .before .before in
-    let e : w .wide .result / 16 % 16 ≡ byte on / 16 = omega (arith, w .wide .ensures, w .before .shared-slice-known2 .given (on .loop .i)) in
+    let small = w .before .shared-slice-known2 .given (on .loop .i) in
+    let e : w .wide .result / 16 % 16 ≡ byte on / 16 = omega (arith, w .wide .ensures, small) in
     c .hex-digit .ensures ∙ ap (λ n. hexDigit n) e
 
 last : (c : tie.After-hex-digit2 Inv-loop μ-loop) →
@@ -73,8 +74,8 @@ loop-again c =
     let d = digits (high .before) in (
       omega arith,
       low .put2 .kept .0 ∙ high .put .kept .0 ∙ on .loop .inv .1,
-      hex-turn bytes _ _ (on .loop .i) (omega arith) _ _ (on .loop .inv .1) _ _ d (last (low .before)) _ _ (high .put .kept .0) _ _ (on .loop .inv .2)
-          (high .put .ensures) (low .put2 .ensures),
+      hex-turn bytes _ _ (on .loop .i) (omega arith) _ _ (on .loop .inv .1) _ _ d (last (low .before)) _ _ (high .put .kept .0) _ _
+          (on .loop .inv .2) (high .put .ensures) (low .put2 .ensures),
     )
 
 same-length : tie.Need-same-length Inv-loop μ-loop

@@ -38,8 +38,10 @@ six c =
     let told = c .before .before .before .before .before .before in
     let t = text told in
     let one : (length t - 4) / 16 % 16 ≡ length (drop 4 t) / 16 = omega (arith, short told, length-drop 4 t) in
-    let high : c .before .hex-digit .result ≡ hexDigit (length (drop 4 t) / 16) = c .before .hex-digit .ensures ∙ ap (λ k. hexDigit k) one in
-    let low : c .hex-digit2 .result ≡ hexDigit (length (drop 4 t) % 16) = c .hex-digit2 .ensures ∙ ap (λ k. hexDigit (k % 16)) (sym (length-drop 4 t)) in
+    let two : length t - 4 ≡ length (drop 4 t) = sym (length-drop 4 t) in
+    let n = length (drop 4 t) in
+    let high : c .before .hex-digit .result ≡ hexDigit (n / 16) = c .before .hex-digit .ensures ∙ ap (λ k. hexDigit k) one in
+    let low : c .hex-digit2 .result ≡ hexDigit (n % 16) = c .hex-digit2 .ensures ∙ ap (λ k. hexDigit (k % 16)) two in
     λ i. getD t 0 0 ∷ getD t 1 0 ∷ getD t 2 0 ∷ getD t 3 0 ∷ high i ∷ low i ∷ []
 
 -- the part that is lent is the reference
