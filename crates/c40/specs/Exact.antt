@@ -66,7 +66,8 @@ joined [] p u whole e =
 joined (z ∷ s) p u whole e = three-ahead p u (whole refl) ∙ ap (λ q. publish p ++ q) e
 
 -- one pair, where the rest is settled
-turn : (x y : ℕ) (s : List ℕ) → Byte x → Byte y → (at : ℕ) (t : List ℕ) → follow at (pairOf (none s) x y) (decode (at + 2) s) ≡ text t → ((u : List ℕ) → decode (at + 2) s ≡ text u → Text u × (publish u ≡ s)) → Text t × (publish t ≡ x ∷ y ∷ s)
+turn : (x y : ℕ) (s : List ℕ) → Byte x → Byte y → (at : ℕ) (t : List ℕ) → follow at (pairOf (none s) x y) (decode (at + 2) s) ≡ text t
+    → ((u : List ℕ) → decode (at + 2) s ≡ text u → Text u × (publish u ≡ s)) → Text t × (publish t ≡ x ∷ y ∷ s)
 turn x y s hx hy at t e rest = by-pair pair some nothing
   where
     pair : Pair

@@ -8,6 +8,7 @@ use casefile::put_call;
 use casefile::put_number;
 use casefile::put_text;
 use dates::Date;
+use der::Fault;
 use der::Length;
 use face::FrDated;
 use face::FrInteger;
@@ -34,8 +35,19 @@ fn put_length(length: Length, out: &mut [u8], to: usize) -> usize
 {
     match length {
         Length::Is(size, width) => put_size(size, width, out, to),
-        Length::Cut => put_text(out, to, b"cut\n"),
-        Length::Malformed => put_text(out, to, b"malformed\n"),
+        Length::Not(fault) => put_fault(fault, out, to),
+    }
+}
+
+// Puts down why there is no length.
+fn put_fault(fault: Fault, out: &mut [u8], to: usize) -> usize
+    ensures { λ r. ⌜ Within (now (out .entry)) to r ⌝ }
+{
+    match fault {
+        Fault::NoByte => put_text(out, to, b"cut\n"),
+        Fault::FirstByte => put_text(out, to, b"malformed\n"),
+        Fault::Cut => put_text(out, to, b"cut\n"),
+        Fault::NotShortest => put_text(out, to, b"malformed\n"),
     }
 }
 

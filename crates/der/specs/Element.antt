@@ -10,7 +10,7 @@ use Rattle.format.specs.Choice.{pick}
 use Rattle.format.specs.Cut.{counted}
 use Rattle.der.specs.Length.{form, readLength}
 use Rattle.der.specs.declared.Length.{Length}
-use Rattle.der.specs.declared.Length.the-variants.{Is, Cut, Malformed}
+use Rattle.der.specs.declared.Length.the-variants.{Is, Not}
 use Rattle.der.specs.declared.Element.{Element}
 use Rattle.der.specs.declared.Element.the-variants.{Body, Nothing}
 
@@ -21,8 +21,7 @@ element tag body = tag ∷ counted form body
 -- where the body starts and ends, if so many bytes after the tag hold it whole
 abbrev pub bodyIn : ℕ → Length → Element
 bodyIn room (Is m w) = pick (ltb room (w + m)) Nothing (Body (w + 1) (w + 1 + m))
-bodyIn room Cut = Nothing
-bodyIn room Malformed = Nothing
+bodyIn room (Not fault) = Nothing
 
 unfoldable pub elementIn : ℕ → List ℕ → Element
 elementIn tag [] = Nothing

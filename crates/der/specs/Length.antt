@@ -11,8 +11,9 @@ use Rattle.format.specs.Choice.{pick}
 use Rattle.format.specs.Numbers.{be, val}
 use Rattle.der.specs.declared.Form.{Form}
 use Rattle.der.specs.declared.Form.the-variants.{One, Two, Three, Longer}
+use Rattle.der.specs.declared.Fault.the-variants.{NoByte, FirstByte, Cut, NotShortest}
 use Rattle.der.specs.declared.Length.{Length}
-use Rattle.der.specs.declared.Length.the-variants.{Is, Cut, Malformed}
+use Rattle.der.specs.declared.Length.the-variants.{Is, Not}
 
 -- what a length may be
 abbrev pub Sized : ℕ → Type 0
@@ -50,11 +51,11 @@ least k = pick (eqb k 1) 0x80 (256 ^ (k - 1))
 
 -- k bytes after the first: they must be there, and then be the shortest
 unfoldable pub longForm : ℕ → List ℕ → Length
-longForm k t = pick (ltb (length t) k) Cut (pick (ltb (val t k) (least k)) Malformed (Is (val t k) (k + 1)))
+longForm k t = pick (ltb (length t) k) (Not Cut) (pick (ltb (val t k) (least k)) (Not NotShortest) (Is (val t k) (k + 1)))
 
--- The first byte is judged before its rest is looked for; 80 and 85 to FF are malformed. What is read is the length and the form's width.
+-- The first byte is judged before its rest is looked for; 80 and 85 to FF begin no length. What is read is the length and the form's width.
 unfoldable pub readLength : List ℕ → Length
-readLength [] = Cut
+readLength [] = Not NoByte
 readLength (x ∷ t) =
     pick (ltb x 0x80) (Is x 1)
-    (pick (ltb 0x80 x) (pick (ltb x 0x85) (longForm (x - 0x80) t) Malformed) Malformed)
+    (pick (ltb 0x80 x) (pick (ltb x 0x85) (longForm (x - 0x80) t) (Not FirstByte)) (Not FirstByte))

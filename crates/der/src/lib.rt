@@ -8,14 +8,23 @@ ghost use Rattle.der.specs.Element.{bodyIn, elementIn};
 ghost use Rattle.der.specs.Content.{redundant, strict};
 use octets::wide;
 
+// Why there is no DER length at the head of a byte string.
+pub enum Fault {
+    // there is no byte at all
+    NoByte,
+    // the first byte begins no length: 80, or 85 to FF
+    FirstByte,
+    // the bytes end before the form is whole
+    Cut,
+    // not the shortest form
+    NotShortest,
+}
+
 // A DER length at the head of a byte string.
 pub enum Length {
     // the length, and the width of its form
     Is(usize, usize),
-    // the bytes end before the form is whole
-    Cut,
-    // no first byte of a length, or not the shortest form
-    Malformed,
+    Not(Fault),
 }
 
 // A DER length as it is written: its bytes.
@@ -57,26 +66,26 @@ pub fn read_length(s: &[u8]) -> Length
 {
     let n = s.len();
     if n == 0 {
-        return Length::Cut;
+        return Length::Not(Fault::NoByte);
     }
     let x = wide(s[0]);
     if x < 0x80 {
         return Length::Is(x, 1);
     }
     if x == 0x80 {
-        return Length::Malformed;
+        return Length::Not(Fault::FirstByte);
     }
     if 0x85 <= x {
-        return Length::Malformed;
+        return Length::Not(Fault::FirstByte);
     }
     let k = x - 0x80;
     if n - 1 < k {
-        return Length::Cut;
+        return Length::Not(Fault::Cut);
     }
     let end = k + 1;
     let value = octets::number(&s[1..end]);
     if value < least(k) {
-        return Length::Malformed;
+        return Length::Not(Fault::NotShortest);
     }
     Length::Is(value, end)
 }
@@ -170,8 +179,7 @@ pub fn element_of(tag: u8, s: &[u8]) -> Element
     let read = read_length(&s[1..]);
     match read {
         Length::Is(size, width) => body_in(n - 1, size, width),
-        Length::Cut => Element::Nothing,
-        Length::Malformed => Element::Nothing,
+        Length::Not(_) => Element::Nothing,
     }
 }
 

@@ -1,11 +1,15 @@
--- What each case of an item's answer means: the item and the place that the next cursor has, or document 01's number and the place.
+-- What each case of an item's answer means: the item and the place that the next cursor has, or the rule that it breaks and the place.
 -- Assumes nothing.
 pub mod Laws
 use Prim.Native.Nat.{ℕ, _+_}
 use mathlib.Core.List.{List}
 use Rattle.dates.specs.declared.Date.{Date}
 use Rattle.versions.specs.declared.Version.{Version}
-use Rattle.verdict.specs.Items.{Item, is, not}
+use Rattle.causes.specs.declared.Item.{Item as Name}
+use Rattle.causes.specs.declared.Item.the-variants as item
+use Rattle.causes.specs.declared.Rule.the-variants as rule
+use Rattle.causes.specs.declared.Why.{Why}
+use Rattle.verdict.specs.Items.{Read, Item, Way, is, not, next}
 use Rattle.verdict.specs.Items as read
 use Rattle.items.specs.declared.cursor.Refusal.{Refusal}
 use Rattle.items.specs.declared.cursor.Byte.{Byte}
@@ -21,49 +25,55 @@ use Rattle.items.specs.declared.cursor.Edition.the-variants as edition
 use Rattle.items.specs.declared.cursor.Day.{Day}
 use Rattle.items.specs.declared.cursor.Day.the-variants as day
 
--- an item seen through a map
-abbrev pub through : {A B : Type 0} → (A → B) → Item A → Item B
+-- what is read, seen through a map
+abbrev pub through : {R A B : Type 0} → (A → B) → Read R A → Read R B
 through f (is a at) = is (f a) at
-through f (not number place) = not number place
+through f (not why place) = not why place
 
--- why an item was not read
-abbrev pub whyOf : {A : Type 0} → Item A → Refusal
-whyOf (is a at) = record { number = 0; place = 0 }
-whyOf (not number place) = record { number = number; place = place }
+-- a refusal, and none at all: the code has no word for that, and gives the first item and place 0
+abbrev pub because : Why → ℕ → Refusal
+because why place = record { why = why; place = place }
+
+abbrev pub nothing : Refusal
+nothing = because (read.why item.Seal rule.There) 0
+
+-- why items were not read, and why an item was not under its name
+abbrev pub whyOf : {A : Type 0} → Way A → Refusal
+whyOf (is a at) = nothing
+whyOf (not why place) = because why place
+
+abbrev pub refused : {A : Type 0} → Name → Item A → Refusal
+refused item i = whyOf (next item i is)
 
 abbrev pub byteOf : ℕ → Byte → Item ℕ
 byteOf at (byte.Is x next) = is x (next .place)
-byteOf at byte.Cut = not 2 at
+byteOf at byte.Cut = not rule.There at
 
 abbrev pub wholeOf : ℕ → Whole → Item Unit
 wholeOf at (whole.Past next) = is tt (next .place)
-wholeOf at whole.Cut = not 2 at
+wholeOf at whole.Cut = not rule.There at
 
--- an item whose own number is `wrong`, and whose value stands elsewhere
-abbrev pub stepOf : {A : Type 0} → ℕ → ℕ → A → Step → Item A
-stepOf wrong at value (step.Past next) = is value (next .place)
-stepOf wrong at value step.Cut = not 2 at
-stepOf wrong at value step.Wrong = not wrong at
+-- an item whose value stands elsewhere
+abbrev pub stepOf : {A : Type 0} → A → Step → Item A
+stepOf value (step.Past next) = is value (next .place)
+stepOf value (step.Not rule place) = not rule place
 
-abbrev pub numberOf : ℕ → ℕ → Number → Item ℕ
-numberOf wrong at (number.Is n next) = is n (next .place)
-numberOf wrong at number.Cut = not 2 at
-numberOf wrong at number.Wrong = not wrong at
+abbrev pub numberOf : Number → Item ℕ
+numberOf (number.Is n next) = is n (next .place)
+numberOf (number.Not rule place) = not rule place
 
-abbrev pub editionOf : ℕ → Edition → Item Version
-editionOf at (edition.Is v next) = is v (next .place)
-editionOf at edition.Cut = not 2 at
-editionOf at edition.NoSuchVersion = not 4 at
+abbrev pub editionOf : Edition → Item Version
+editionOf (edition.Is v next) = is v (next .place)
+editionOf (edition.Not rule place) = not rule place
 
-abbrev pub dayOf : ℕ → Day → Item Date
-dayOf at (day.Is d next) = is d (next .place)
-dayOf at day.Cut = not 2 at
-dayOf at day.NoSuchDate = not 6 at
+abbrev pub dayOf : Day → Item Date
+dayOf (day.Is d next) = is d (next .place)
+dayOf (day.Not rule place) = not rule place
 
 -- what an item leaves in a lent buffer: its value, or what was there
-abbrev pub valueOr : {A : Type 0} → A → Item A → A
+abbrev pub valueOr : {R A : Type 0} → A → Read R A → A
 valueOr old (is a at) = a
-valueOr old (not number place) = old
+valueOr old (not why place) = old
 
 -- past so many bytes
 abbrev pub past : ℕ → ℕ → List ℕ → Item Unit

@@ -1,9 +1,13 @@
 // The items of a seal, each read at a place: a cursor goes in, and the item comes out with the next cursor (document 01, "Reader").
 ghost use mathlib.Core.Path.{_≡_};
 ghost use Rattle.verdict.specs.Items as read;
-ghost use Rattle.items.specs.Cases.{byteOf, wholeOf, stepOf, numberOf, editionOf, dayOf, whyOf, past};
+ghost use Rattle.items.specs.Cases.{byteOf, wholeOf, stepOf, numberOf, editionOf, dayOf, because, refused, past};
+use causes::Item;
+use causes::Rule;
+use causes::Why;
 use dates::Date;
 use dates::Taken;
+use der::Fault;
 use der::Length;
 use octets::wide;
 use versions::Stated;
@@ -14,129 +18,123 @@ pub struct Cursor {
     pub place: usize,
 }
 
-// Why a reading ends: the number that is answered, and the place.
+// Why a reading ends: the item that is not read, the rule that it breaks, and the place.
 pub struct Refusal {
-    pub number: usize,
+    pub why: Why,
     pub place: usize,
 }
 
 // One byte.
 pub enum Byte {
     Is(usize, Cursor),
-    // 2
+    // there is none
     Cut,
 }
 
 // An item of so many bytes, with nothing asked of them.
 pub enum Whole {
     Past(Cursor),
-    // 2
+    // they are not all there
     Cut,
 }
 
 // An item that says nothing by itself, or whose text is put into a lent buffer.
 pub enum Step {
     Past(Cursor),
-    // 2
-    Cut,
-    // the item's own number
-    Wrong,
+    // the rule that it breaks, and the place that is told
+    Not(Rule, usize),
 }
 
 // An item that is a number.
 pub enum Number {
     Is(usize, Cursor),
-    // 2
-    Cut,
-    // the item's own number
-    Wrong,
+    // the rule that it breaks, and the place that is told
+    Not(Rule, usize),
 }
 
 // The version.
 pub enum Edition {
     Is(Version, Cursor),
-    // 2
-    Cut,
-    // 4
-    NoSuchVersion,
+    // the rule that it breaks, and the place that is told
+    Not(Rule, usize),
 }
 
 // An item that is a date.
 pub enum Day {
     Is(Date, Cursor),
-    // 2
-    Cut,
-    // 6
-    NoSuchDate,
+    // the rule that it breaks, and the place that is told
+    Not(Rule, usize),
+}
+
+impl Refusal {
+    // This item breaks this rule, told at this place.
+    pub fn of(item: Item, rule: Rule, place: usize) -> Refusal
+        ensures { λ r. ⌜ r ≡ because (read.why item rule) place ⌝ }
+    {
+        Refusal {
+            why: Why { item, rule },
+            place,
+        }
+    }
 }
 
 impl Step {
-    // Why this item, at a place, was not read; `wrong` is its own number.
-    pub fn refusal(self, wrong: usize, place: usize) -> Refusal
-        ensures { λ r. ⌜ r ≡ whyOf {A = Unit} (stepOf wrong place tt self) ⌝ }
+    // Why this item was not read, under the item's name.
+    pub fn refusal(self, item: Item) -> Refusal
+        ensures { λ r. ⌜ r ≡ refused {A = Unit} item (stepOf tt self) ⌝ }
     {
         match self {
-            Step::Past(_) => Refusal {
-                number: 0,
-                place: 0,
-            },
-            Step::Cut => Refusal { number: 2, place },
-            Step::Wrong => Refusal {
-                number: wrong,
-                place,
-            },
+            Step::Past(_) => Refusal::of(Item::Seal, Rule::There, 0),
+            Step::Not(rule, place) => Refusal::of(item, rule, place),
         }
     }
 }
 
 impl Number {
-    // Why this item, at a place, was not read; `wrong` is its own number.
-    pub fn refusal(self, wrong: usize, place: usize) -> Refusal
-        ensures { λ r. ⌜ r ≡ whyOf (numberOf wrong place self) ⌝ }
+    // Why this item was not read, under the item's name.
+    pub fn refusal(self, item: Item) -> Refusal
+        ensures { λ r. ⌜ r ≡ refused item (numberOf self) ⌝ }
     {
         match self {
-            Number::Is(_, _) => Refusal {
-                number: 0,
-                place: 0,
-            },
-            Number::Cut => Refusal { number: 2, place },
-            Number::Wrong => Refusal {
-                number: wrong,
-                place,
-            },
+            Number::Is(_, _) => Refusal::of(Item::Seal, Rule::There, 0),
+            Number::Not(rule, place) => Refusal::of(item, rule, place),
         }
     }
 }
 
 impl Edition {
-    // Why the version, at a place, was not read.
-    pub fn refusal(self, place: usize) -> Refusal
-        ensures { λ r. ⌜ r ≡ whyOf (editionOf place self) ⌝ }
+    // Why the version was not read, under the item's name.
+    pub fn refusal(self, item: Item) -> Refusal
+        ensures { λ r. ⌜ r ≡ refused item (editionOf self) ⌝ }
     {
         match self {
-            Edition::Is(_, _) => Refusal {
-                number: 0,
-                place: 0,
-            },
-            Edition::Cut => Refusal { number: 2, place },
-            Edition::NoSuchVersion => Refusal { number: 4, place },
+            Edition::Is(_, _) => Refusal::of(Item::Seal, Rule::There, 0),
+            Edition::Not(rule, place) => Refusal::of(item, rule, place),
         }
     }
 }
 
 impl Day {
-    // Why this date, at a place, was not read.
-    pub fn refusal(self, place: usize) -> Refusal
-        ensures { λ r. ⌜ r ≡ whyOf (dayOf place self) ⌝ }
+    // Why this date was not read, under the item's name.
+    pub fn refusal(self, item: Item) -> Refusal
+        ensures { λ r. ⌜ r ≡ refused item (dayOf self) ⌝ }
     {
         match self {
-            Day::Is(_, _) => Refusal {
-                number: 0,
-                place: 0,
-            },
-            Day::Cut => Refusal { number: 2, place },
-            Day::NoSuchDate => Refusal { number: 6, place },
+            Day::Is(_, _) => Refusal::of(Item::Seal, Rule::There, 0),
+            Day::Not(rule, place) => Refusal::of(item, rule, place),
         }
+    }
+}
+
+// The rule that a DER length breaks.
+fn length_rule(fault: Fault) -> Rule
+    ensures { λ r. ⌜ r ≡ read.lengthRule fault ⌝ }
+{
+    match fault {
+        Fault::NoByte => Rule::There,
+        Fault::FirstByte => Rule::BeginsLength,
+        Fault::Cut => Rule::RestThere,
+        Fault::NotShortest => Rule::Shortest,
     }
 }
 
@@ -169,84 +167,83 @@ impl Cursor {
 
     // Byte DC.
     pub fn mark(self, seal: &[u8]) -> Step
-        ensures { λ r. ⌜ stepOf 3 (self .place) tt r ≡ read.mark (self .place) (now (seal .entry)) ⌝ }
+        ensures { λ r. ⌜ stepOf tt r ≡ read.mark (self .place) (now (seal .entry)) ⌝ }
     {
         let Byte::Is(x, next) = self.byte(seal) else {
-            return Step::Cut;
+            return Step::Not(Rule::There, self.place);
         };
         if x == 0xDC {
             return Step::Past(next);
         }
-        Step::Wrong
+        Step::Not(Rule::IsMark, self.place)
     }
 
     // 02 is version 3, 03 is version 4.
     pub fn version(self, seal: &[u8]) -> Edition
-        ensures { λ r. ⌜ editionOf (self .place) r ≡ read.version (self .place) (now (seal .entry)) ⌝ }
+        ensures { λ r. ⌜ editionOf r ≡ read.version (self .place) (now (seal .entry)) ⌝ }
     {
         let Byte::Is(x, next) = self.byte(seal) else {
-            return Edition::Cut;
+            return Edition::Not(Rule::There, self.place);
         };
         let Stated::Is(version) = Version::from_byte(x) else {
-            return Edition::NoSuchVersion;
+            return Edition::Not(Rule::IsVersion, self.place);
         };
         Edition::Is(version, next)
     }
 
     // A date in three bytes.
     pub fn date(self, seal: &[u8]) -> Day
-        ensures { λ r. ⌜ dayOf (self .place) r ≡ read.date (self .place) (now (seal .entry)) ⌝ }
+        ensures { λ r. ⌜ dayOf r ≡ read.date (self .place) (now (seal .entry)) ⌝ }
     {
         let at = self.place;
         let Whole::Past(next) = self.skip(seal, 3) else {
-            return Day::Cut;
+            return Day::Not(Rule::There, at);
         };
         let Taken::Day(date) = Date::from_bytes(seal[at], seal[at + 1], seal[at + 2]) else {
-            return Day::NoSuchDate;
+            return Day::Not(Rule::IsDay, at);
         };
         Day::Is(date, next)
     }
 
     // Definition reference or category: 1 to 254.
     pub fn last(self, seal: &[u8]) -> Number
-        ensures { λ r. ⌜ numberOf 7 (self .place) r ≡ read.last (self .place) (now (seal .entry)) ⌝ }
+        ensures { λ r. ⌜ numberOf r ≡ read.last (self .place) (now (seal .entry)) ⌝ }
     {
         let Byte::Is(x, next) = self.byte(seal) else {
-            return Number::Cut;
+            return Number::Not(Rule::There, self.place);
         };
         if x == 0 {
-            return Number::Wrong;
+            return Number::Not(Rule::OneTo254, self.place);
         }
         if 254 < x {
-            return Number::Wrong;
+            return Number::Not(Rule::OneTo254, self.place);
         }
         Number::Is(x, next)
     }
 
     // A DER length.
     pub fn der_length(self, seal: &[u8]) -> Number
-        ensures { λ r. ⌜ numberOf 8 (self .place) r ≡ read.derLength (self .place) (now (seal .entry)) ⌝ }
+        ensures { λ r. ⌜ numberOf r ≡ read.derLength (self .place) (now (seal .entry)) ⌝ }
     {
         let at = self.place;
         if seal.len() < at {
-            return Number::Cut;
+            return Number::Not(Rule::There, at);
         }
         let read = der::read_length(&seal[at..]);
         match read {
             Length::Is(size, width) => Number::Is(size, Cursor { place: at + width }),
-            Length::Cut => Number::Cut,
-            Length::Malformed => Number::Wrong,
+            Length::Not(fault) => Number::Not(length_rule(fault), at),
         }
     }
 
     // A feature's length: one plain byte in version 3, a DER length in version 4.
     pub fn feature_length(self, seal: &[u8], version: Version) -> Number
-        ensures { λ r. ⌜ numberOf 8 (self .place) r ≡ read.featureLength version (self .place) (now (seal .entry)) ⌝ }
+        ensures { λ r. ⌜ numberOf r ≡ read.featureLength version (self .place) (now (seal .entry)) ⌝ }
     {
         match version {
             Version::Three => {
                 let Byte::Is(x, next) = self.byte(seal) else {
-                    return Number::Cut;
+                    return Number::Not(Rule::There, self.place);
                 };
                 Number::Is(x, next)
             }

@@ -4,14 +4,14 @@ use mathlib.Core.Path.{_≡_, refl}
 use Prim.Native.Nat.{ℕ}
 use mathlib.Core.List.{List}
 use Rattle.format.specs.OneToOne.{by-way-back}
-use Rattle.verdict.specs.Items.{Item, is, not}
+use Rattle.verdict.specs.Items.{Way, is, not}
 use Rattle.names.specs.Cases.{Measured, namesOf}
 use Rattle.names.specs.declared.Names.{Names}
 use Rattle.names.specs.declared.Names.the-variants as names
 
-namesBack : Item Measured → Names
+namesBack : Way Measured → Names
 namesBack (is m at) = names.Are (m .length) (record { place = at })
-namesBack (not number place) = names.Not (record { number = number; place = place })
+namesBack (not why place) = names.Not (record { why = why; place = place })
 
 names-back : (text : List ℕ) (a : Names) → namesBack (namesOf text a) ≡ a
 unfolding namesBack

@@ -13,7 +13,7 @@ use Rattle.dates.specs.Calls.{no-date}
 use Rattle.der.specs.Length.{readLength, longForm}
 use Rattle.grammar.specs.Examples.{header-a, seal-a}
 use Rattle.rows.specs.Rows.{width, numbers, table}
-use Rattle.verdict.specs.Judge.{accepted, refused, header, tag, row, features, signature, reading, judge}
+use Rattle.verdict.specs.Judge.{accepted, refused, header, tag, row, features, signature, reading, judging, judge}
 use Rattle.verdict.specs.Judge.Pins.{report-a}
 use Rattle.versions.specs.Versions.{versionOf}
 use Rattle.reader.specs.Answer.{contentAs, contentIn}
@@ -38,19 +38,19 @@ version-7 s table text r e = ap (λ n. Option·map (contentAs s r table text) (v
 
 -- 12, and the room that is just enough
 table-short : asked seal-a (width - 1) 9 ≡ refused 12 0
-unfolding judge reading header tag row features signature decode pairOf single values theChart valueOf isDay readLength longForm val
+unfolding judge judging reading header tag row features signature decode pairOf single values theChart valueOf isDay readLength longForm val
 table-short = refl
 
 text-short : asked seal-a width 8 ≡ refused 12 0
-unfolding judge reading header tag row features signature decode pairOf single values theChart valueOf isDay readLength longForm val
+unfolding judge judging reading header tag row features signature decode pairOf single values theChart valueOf isDay readLength longForm val
 text-short = refl
 
 enough : asked seal-a width 9 ≡ accepted report-a
-unfolding judge reading header tag row features signature decode pairOf single values theChart valueOf isDay readLength longForm val
+unfolding judge judging reading header tag row features signature decode pairOf single values theChart valueOf isDay readLength longForm val
 enough = refl
 
 verdict-first : asked [] 0 0 ≡ refused 2 0
-unfolding judge reading header
+unfolding judge judging reading header
 verdict-first = refl
 
 -- what is written: the row, signer and reference; a refusal writes nothing, and memory past what is written stays

@@ -12,7 +12,7 @@ use Rattle.c40.specs.Decode.{decode}
 use Rattle.dates.specs.Days.{isDay}
 use Rattle.der.specs.Length.{readLength, longForm}
 use Rattle.grammar.specs.Examples.{seal-a}
-use Rattle.verdict.specs.Judge.{refused, header, tag, row, features, signature, reading as readingOf, judge}
+use Rattle.verdict.specs.Judge.{refused, header, tag, row, features, signature, reading as readingOf, judging, judge}
 use Rattle.reader.specs.Calls.{reading}
 
 -- a seal, how many numbers and how much room are lent for its answer, and the number and place of the refusal
@@ -52,7 +52,7 @@ witnesses =
     ∷ []
 
 pub each-is-given : All Given witnesses
-unfolding judge readingOf header tag row features signature decode pairOf single values theChart valueOf isDay readLength longForm val
+unfolding judge judging readingOf header tag row features signature decode pairOf single values theChart valueOf isDay readLength longForm val
 each-is-given = (refl, (refl, (refl, (refl, (refl, (refl, (refl, (refl, (refl, (refl, (refl, (refl, (refl, tt)))))))))))))
 
 -- they are 1 to 12, none left out

@@ -2,11 +2,14 @@
 ghost use mathlib.Core.Path.{_≡_};
 ghost use Prim.Native.Nat.{_≤_};
 ghost use lib.ListN.{length};
+ghost use Rattle.causes.specs.Causes.{ruleNumber};
 ghost use Rattle.verdict.specs.Judge.{judge as verdict, refused as refusedBy};
 ghost use Rattle.reader.specs.Calls.{answerOf, judged, judgementOf, reading, rowsIn, textIn, then, Named};
 
 mod table;
 
+use causes::Item;
+use causes::Rule;
 use dates::Date;
 use items::Cursor;
 pub use items::Header;
@@ -49,8 +52,8 @@ struct Judgement {
 }
 
 // A refusal: nothing but its number and place.
-fn refused(why: Refusal) -> Reading
-    ensures { λ r. ⌜ r ≡ answerOf (refusedBy (why .number) (why .place)) ⌝ }
+fn refused(number: usize, place: usize) -> Reading
+    ensures { λ r. ⌜ r ≡ answerOf (refusedBy number place) ⌝ }
 {
     let none = Date {
         month: 0,
@@ -67,8 +70,8 @@ fn refused(why: Refusal) -> Reading
         category: 0,
     };
     Reading {
-        number: why.number,
-        place: why.place,
+        number,
+        place,
         header,
         ends: Ends {
             header: 0,
@@ -83,20 +86,34 @@ fn refused(why: Refusal) -> Reading
     }
 }
 
-// A seal that is not good has no version.
+// A seal that is not good: the number of the rule that is broken, at its place, and no version.
 fn not_good(why: Refusal) -> Judgement
-    ensures { λ r. ⌜ r ≡ judgementOf (refusedBy (why .number) (why .place)) ⌝ }
+    ensures { λ r. ⌜ r ≡ judgementOf (refusedBy (ruleNumber (why .why .rule)) (why .place)) ⌝ }
 {
+    let broken = why.why;
+    let rule = broken.rule;
+    let number = rule.number();
     Judgement {
-        reading: refused(why),
+        reading: refused(number, why.place),
         version: Stated::NoSuchVersion,
     }
 }
 
 // A seal that is good, and what it says.
-fn good(version: Version, header: Header, ends: Ends, signature: Part, count: usize) -> Judgement
-    ensures { λ r. ⌜ r ≡ judged version header ends signature count ⌝ }
+fn good(
+    version: Version,
+    header: Header,
+    ends: Ends,
+    start: Cursor,
+    size: usize,
+    count: usize,
+) -> Judgement
+    ensures { λ r. ⌜ r ≡ judged version header ends (record { place = start .place; length = size }) count ⌝ }
 {
+    let signature = Part {
+        place: start.place,
+        length: size,
+    };
     let reading = Reading {
         number: 0,
         place: 0,
@@ -131,8 +148,7 @@ fn judge_items(seal: &[u8], names: &mut [u8; 259]) -> Judgement
         return not_good(features.why());
     };
     let next = mark.place + 1;
-    let after = Cursor { place: next };
-    let signature = zones::read_signature(after, seal);
+    let signature = zones::read_signature(Cursor { place: next }, seal);
     let Signature::Is(size, start) = signature else {
         return not_good(signature.why());
     };
@@ -150,11 +166,7 @@ fn judge_items(seal: &[u8], names: &mut [u8; 259]) -> Judgement
         message: mark.place,
         seal: seal.len(),
     };
-    let part = Part {
-        place: start.place,
-        length: size,
-    };
-    good(version, header, ends, part, count)
+    good(version, header, ends, start, size, count)
 }
 
 // The verdict; on 0 signer and reference stand at the start of `names`.
@@ -163,10 +175,7 @@ fn judge_names(seal: &[u8], names: &mut [u8; 259]) -> Judgement
     ensures text { λ r. ⌜ Named (verdict (now (seal .entry))) (now (names .exit)) ⌝ }
 {
     if 4096 < seal.len() {
-        return not_good(Refusal {
-            number: 1,
-            place: 4096,
-        });
+        return not_good(Refusal::of(Item::Seal, Rule::NotTooLong, 4096));
     }
     judge_items(seal, names)
 }
@@ -197,16 +206,10 @@ pub fn read(seal: &[u8], table: &mut [usize], text: &mut [u8]) -> Reading
     let size = 4 + header.length;
     let count = reading.count;
     if table.len() < rows::WIDTH * count {
-        return refused(Refusal {
-            number: 12,
-            place: 0,
-        });
+        return refused(12, 0);
     }
     if text.len() < size {
-        return refused(Refusal {
-            number: 12,
-            place: 0,
-        });
+        return refused(12, 0);
     }
     let ends = reading.ends;
     let start = Cursor { place: ends.header };

@@ -1,3 +1,3 @@
--- What the proofs of several functions use, and those of `reader` too.
+-- What several proofs of this crate share.
 -- Assumes nothing.
 pub mod Says

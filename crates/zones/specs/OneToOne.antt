@@ -5,7 +5,7 @@ use mathlib.Core.Path.{_≡_, refl}
 use Prim.Native.Nat.{ℕ}
 use mathlib.Core.List.{List}
 use Rattle.format.specs.OneToOne.{OneToOne, by-way-back, one-back}
-use Rattle.verdict.specs.Items.{Item, is, not}
+use Rattle.verdict.specs.Items.{Way, is, not}
 use Rattle.zones.specs.Steps.{Fields, Dated, frontOf, restOf, featuresOf, signatureOf}
 use Rattle.zones.specs.declared.fields.Front.{Front}
 use Rattle.zones.specs.declared.fields.Front.the-variants as front
@@ -16,9 +16,9 @@ use Rattle.zones.specs.declared.features.Features.the-variants as featur
 use Rattle.zones.specs.declared.signature.Signature.{Signature}
 use Rattle.zones.specs.declared.signature.Signature.the-variants as signature
 
-frontBack : Item Fields → Front
+frontBack : Way Fields → Front
 frontBack (is f at) = front.Is (f .version) (f .names .length) (record { place = at })
-frontBack (not number place) = front.Not (record { number = number; place = place })
+frontBack (not why place) = front.Not (record { why = why; place = place })
 
 front-back : (code text : List ℕ) (a : Front) → frontBack (frontOf code text a) ≡ a
 unfolding frontBack
@@ -29,9 +29,9 @@ pub front-one : (code text code′ text′ : List ℕ) (a b : Front) → frontOf
 front-one code text code′ text′ =
     by-way-back (frontOf code text) (frontOf code′ text′) frontBack (front-back code text) (front-back code′ text′)
 
-restBack : Item Dated → Rest
+restBack : Way Dated → Rest
 restBack (is d at) = rest.Is (d .issued) (d .signed) (d .definition) (d .category) (record { place = at })
-restBack (not number place) = rest.Not (record { number = number; place = place })
+restBack (not why place) = rest.Not (record { why = why; place = place })
 
 rest-back : (a : Rest) → restBack (restOf a) ≡ a
 unfolding restBack
@@ -41,9 +41,9 @@ rest-back (rest.Not why) = refl
 pub rest-one : OneToOne restOf
 rest-one = one-back restOf restBack rest-back
 
-featuresBack : Item ℕ → Features
+featuresBack : Way ℕ → Features
 featuresBack (is count at) = features.Are count (record { place = at })
-featuresBack (not number place) = features.Not (record { number = number; place = place })
+featuresBack (not why place) = features.Not (record { why = why; place = place })
 
 features-back : (a : Features) → featuresBack (featuresOf a) ≡ a
 unfolding featuresBack
@@ -53,9 +53,9 @@ features-back (features.Not why) = refl
 pub features-one : OneToOne featuresOf
 features-one = one-back featuresOf featuresBack features-back
 
-signatureBack : Item ℕ → Signature
+signatureBack : Way ℕ → Signature
 signatureBack (is size at) = signature.Is size (record { place = at })
-signatureBack (not number place) = signature.Not (record { number = number; place = place })
+signatureBack (not why place) = signature.Not (record { why = why; place = place })
 
 signature-back : (a : Signature) → signatureBack (signatureOf a) ≡ a
 unfolding signatureBack

@@ -5,6 +5,8 @@ ghost use lib.ListN.{length};
 ghost use Rattle.items.specs.Cases.{whyOf, through};
 ghost use Rattle.verdict.specs.Judge.{features as featuresFrom};
 ghost use Rattle.zones.specs.Steps.{featuresOf};
+use causes::Item;
+use causes::Rule;
 use items::Byte;
 use items::Cursor;
 use items::Number;
@@ -25,10 +27,7 @@ impl Features {
         ensures { λ r. ⌜ r ≡ whyOf (featuresOf self) ⌝ }
     {
         match self {
-            Features::Are(_, _) => Refusal {
-                number: 0,
-                place: 0,
-            },
+            Features::Are(_, _) => Refusal::of(Item::Seal, Rule::There, 0),
             Features::Not(why) => why,
         }
     }
@@ -44,10 +43,7 @@ pub fn read_features(start: Cursor, seal: &[u8], version: Version) -> Features
     let repeat = 'rows: loop {
         let here = Cursor { place: at };
         let Byte::Is(tag, next) = here.byte(seal) else {
-            return Features::Not(Refusal {
-                number: 2,
-                place: at,
-            });
+            return Features::Not(Refusal::of(Item::Tag, Rule::There, at));
         };
         if tag == 0xFF {
             return Features::Are(count, here);
@@ -61,20 +57,14 @@ pub fn read_features(start: Cursor, seal: &[u8], version: Version) -> Features
         }
         let length = next.feature_length(seal, version);
         let Number::Is(size, value) = length else {
-            return Features::Not(length.refusal(8, next.place));
+            return Features::Not(length.refusal(Item::Length));
         };
         let Whole::Past(end) = value.skip(seal, size) else {
-            return Features::Not(Refusal {
-                number: 2,
-                place: value.place,
-            });
+            return Features::Not(Refusal::of(Item::Value, Rule::There, value.place));
         };
         tags[count] = tag as u8;
         count += 1;
         at = end.place;
     };
-    Features::Not(Refusal {
-        number: 9,
-        place: repeat,
-    })
+    Features::Not(Refusal::of(Item::Tag, Rule::NotUsedBefore, repeat))
 }

@@ -5,13 +5,14 @@ ghost use mathlib.Core.List.{[]};
 ghost use Rattle.items.specs.Cases.{whyOf, through, valueOr};
 ghost use Rattle.names.specs.Cases.{textOver};
 ghost use Rattle.zones.specs.Steps.{fields as fieldsIn, codeIn, namesIn, dated, frontOf, restOf};
+use causes::Item;
+use causes::Rule;
 use items::Cursor;
 use items::Day;
 use items::Edition;
 use items::Number;
 use items::Refusal;
 use items::Step;
-use names::Field;
 use names::Names;
 use versions::Version;
 
@@ -35,10 +36,7 @@ impl Front {
         ensures { λ r. ⌜ r ≡ whyOf (frontOf [] [] self) ⌝ }
     {
         match self {
-            Front::Is(_, _, _) => Refusal {
-                number: 0,
-                place: 0,
-            },
+            Front::Is(_, _, _) => Refusal::of(Item::Seal, Rule::There, 0),
             Front::Not(why) => why,
         }
     }
@@ -50,36 +48,33 @@ impl Rest {
         ensures { λ r. ⌜ r ≡ whyOf (restOf self) ⌝ }
     {
         match self {
-            Rest::Is(_, _, _, _, _) => Refusal {
-                number: 0,
-                place: 0,
-            },
+            Rest::Is(_, _, _, _, _) => Refusal::of(Item::Seal, Rule::There, 0),
             Rest::Not(why) => why,
         }
     }
 }
 
-// DC, version, country, signer and reference; on a refusal `country` and `names` stay.
-pub fn read_front(seal: &[u8], country: &mut [u8; 3], names: &mut [u8; 259]) -> Front
-    ensures item { λ r. ⌜ frontOf (now (country .exit)) (now (names .exit)) r ≡ fieldsIn (now (seal .entry)) ⌝ }
+// DC, version, country, signer and reference; on a refusal `country` and `text` stay.
+pub fn read_front(seal: &[u8], country: &mut [u8; 3], text: &mut [u8; 259]) -> Front
+    ensures item { λ r. ⌜ frontOf (now (country .exit)) (now (text .exit)) r ≡ fieldsIn (now (seal .entry)) ⌝ }
     ensures code { λ r. ⌜ now (country .exit) ≡ valueOr (now (country .entry)) (through codeIn (fieldsIn (now (seal .entry)))) ⌝ }
-    ensures text { λ r. ⌜ now (names .exit) ≡ textOver (now (names .entry)) (through namesIn (fieldsIn (now (seal .entry)))) ⌝ }
+    ensures names { λ r. ⌜ now (text .exit) ≡ textOver (now (text .entry)) (through namesIn (fieldsIn (now (seal .entry)))) ⌝ }
 {
     let start = Cursor { place: 0 };
     let mark = start.mark(seal);
     let Step::Past(at) = mark else {
-        return Front::Not(mark.refusal(3, start.place));
+        return Front::Not(mark.refusal(Item::Mark));
     };
     let version = at.version(seal);
     let Edition::Is(v, at2) = version else {
-        return Front::Not(version.refusal(at.place));
+        return Front::Not(version.refusal(Item::Version));
     };
     let mut found = [0u8; 3];
-    let code = Field { place: at2.place }.country(seal, &mut found);
+    let code = names::country(at2, seal, &mut found);
     let Step::Past(at3) = code else {
-        return Front::Not(code.refusal(5, at2.place));
+        return Front::Not(code.refusal(Item::Country));
     };
-    let read = Field { place: at3.place }.names(seal, v, names);
+    let read = names::signer_and_reference(at3, seal, v, text);
     let Names::Are(size, next) = read else {
         return Front::Not(read.why());
     };
@@ -93,19 +88,19 @@ pub fn read_rest(at: Cursor, seal: &[u8]) -> Rest
 {
     let issued = at.date(seal);
     let Day::Is(first, at2) = issued else {
-        return Rest::Not(issued.refusal(at.place));
+        return Rest::Not(issued.refusal(Item::Issued));
     };
     let signed = at2.date(seal);
     let Day::Is(second, at3) = signed else {
-        return Rest::Not(signed.refusal(at2.place));
+        return Rest::Not(signed.refusal(Item::Signed));
     };
     let definition = at3.last(seal);
     let Number::Is(d, at4) = definition else {
-        return Rest::Not(definition.refusal(7, at3.place));
+        return Rest::Not(definition.refusal(Item::Definition));
     };
     let category = at4.last(seal);
     let Number::Is(c, next) = category else {
-        return Rest::Not(category.refusal(7, at4.place));
+        return Rest::Not(category.refusal(Item::Category));
     };
     Rest::Is(first, second, d, c, next)
 }

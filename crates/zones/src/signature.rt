@@ -3,6 +3,8 @@ ghost use mathlib.Core.Path.{_≡_};
 ghost use Rattle.items.specs.Cases.{whyOf};
 ghost use Rattle.verdict.specs.Judge.{signature as signatureAt};
 ghost use Rattle.zones.specs.Steps.{signatureOf};
+use causes::Item;
+use causes::Rule;
 use items::Cursor;
 use items::Number;
 use items::Refusal;
@@ -20,40 +22,28 @@ impl Signature {
         ensures { λ r. ⌜ r ≡ whyOf (signatureOf self) ⌝ }
     {
         match self {
-            Signature::Is(_, _) => Refusal {
-                number: 0,
-                place: 0,
-            },
+            Signature::Is(_, _) => Refusal::of(Item::Seal, Rule::There, 0),
             Signature::Not(why) => why,
         }
     }
 }
 
-// 10 comes before a missing byte, and bytes after the signature are 11.
+// Its size is judged before its bytes are looked for, and nothing follows them.
 pub fn read_signature(at: Cursor, seal: &[u8]) -> Signature
     ensures { λ r. ⌜ signatureOf r ≡ signatureAt (at .place) (now (seal .entry)) ⌝ }
 {
     let length = at.der_length(seal);
     let Number::Is(size, start) = length else {
-        return Signature::Not(length.refusal(8, at.place));
+        return Signature::Not(length.refusal(Item::SignatureLength));
     };
     if !items::is_signature(size) {
-        return Signature::Not(Refusal {
-            number: 10,
-            place: at.place,
-        });
+        return Signature::Not(Refusal::of(Item::SignatureLength, Rule::SignatureSize, at.place));
     }
     let Whole::Past(end) = start.skip(seal, size) else {
-        return Signature::Not(Refusal {
-            number: 2,
-            place: start.place,
-        });
+        return Signature::Not(Refusal::of(Item::Signature, Rule::There, start.place));
     };
     if end.place < seal.len() {
-        return Signature::Not(Refusal {
-            number: 11,
-            place: end.place,
-        });
+        return Signature::Not(Refusal::of(Item::End, Rule::NothingAfter, end.place));
     }
     Signature::Is(size, start)
 }

@@ -15,7 +15,8 @@ use Rattle.c40.proofs.read.Statement.{statement}
 use Rattle.c40.proofs.read.Tie as tie
 
 -- the bytes decode as the judge said
-is-wrong : (c : tie.After-known-told) → _≡_ (decode 0 (now (c .before .before .before .before .before .before .before .before .before .args .bytes))) (wrong (c .before .judged .given .0 .0) (c .before .judged .given .0 .1 .0))
+is-wrong : (c : tie.After-known-told)
+    → _≡_ (decode 0 (now (c .before .before .before .before .before .before .before .before .before .args .bytes))) (wrong (c .before .judged .given .0 .0) (c .before .judged .given .0 .1 .0))
 is-wrong c = judged-wrong _ _ _ (sym (c .before .before .before .judge .ensures) ∙ c .before .judged .given .1)
 
 is-text : (c : tie.After-known-told2) → let d = decode 0 (now (c .before .before .before .before .before .before .before .before .before .args .bytes)) in (d ≡ text (textOf d)) × (length (textOf d) ≡ c .before .judged2 .given .0 .0)

@@ -56,7 +56,8 @@ none-by-length (x ∷ s) n k e h = sym (ne-eqb k n (λ f. omega arith))
 
 -- one pair more, at a place; the end
 module _ (s : List ℕ) (i : ℕ) where
-  pub decode-pair : i + 2 ≤ length s → decode i (drop i s) ≡ follow i (pairOf (eqb (i + 2) (length s)) (getD s i 0) (getD s (i + 1) 0)) (decode (i + 2) (drop (i + 2) s))
+  pub decode-pair : i + 2 ≤ length s
+      → decode i (drop i s) ≡ follow i (pairOf (eqb (i + 2) (length s)) (getD s i 0) (getD s (i + 1) 0)) (decode (i + 2) (drop (i + 2) s))
   unfolding decode
   decode-pair h =
       let next : i + 1 + 1 ≡ i + 2 = omega arith in
@@ -94,7 +95,8 @@ module _ (s : List ℕ) (i : ℕ) (before : List ℕ) (sofar : Sofar s i before)
 
     pub sofar-more : 0 < length (charsOf pair) → Sofar s (i + 2) (before ++ charsOf pair)
     sofar-more good =
-        turn ∙ ap (ahead before) (follow-good i pair (decode (i + 2) (drop (i + 2) s)) good) ∙ ahead-ahead before (charsOf pair) (decode (i + 2) (drop (i + 2) s))
+        turn ∙ ap (ahead before) (follow-good i pair (decode (i + 2) (drop (i + 2) s)) good)
+        ∙ ahead-ahead before (charsOf pair) (decode (i + 2) (drop (i + 2) s))
 
     pub sofar-wrong : (fault : Fault) → pair ≡ Wrong fault → decode 0 s ≡ wrong fault i
     sofar-wrong fault bad = turn ∙ ap (λ p. ahead before (follow i p (decode (i + 2) (drop (i + 2) s)))) bad
@@ -117,7 +119,8 @@ module _ (s : List ℕ) (i : ℕ) (before : List ℕ) (sofar : Sofar s i before)
     sofar-inner h =
         let p = pairOf false (getD s i 0) (getD s (i + 1) 0) in
         let inner : eqb (i + 2) (length s) ≡ false = ne-eqb (i + 2) (length s) (λ e. omega arith) in
-        let is : p ≡ pairOf (eqb (i + 2) (length s)) (getD s i 0) (getD s (i + 1) 0) = ap (λ l. pairOf l (getD s i 0) (getD s (i + 1) 0)) (sym inner) in
+        let is : p ≡ pairOf (eqb (i + 2) (length s)) (getD s i 0) (getD s (i + 1) 0) =
+        ap (λ l. pairOf l (getD s i 0) (getD s (i + 1) 0)) (sym inner) in
         let good = sofar-good (omega arith) p is t whole in
         let three : length (charsOf p) ≡ 3 = ap (λ q. length (charsOf q)) (pair-full false (getD s i 0) (getD s (i + 1) 0) refl (chars-some p (good .0)) .2) in
         record { three = three; room = omega arith; next = sofar-more (omega arith) p is (good .0) }
@@ -126,8 +129,10 @@ module _ (s : List ℕ) (i : ℕ) (before : List ℕ) (sofar : Sofar s i before)
     sofar-last h =
         let p = pairOf true (getD s i 0) (getD s (i + 1) 0) in
         let last : eqb (i + 2) (length s) ≡ true = eq-eqb (i + 2) (length s) h in
-        let is : p ≡ pairOf (eqb (i + 2) (length s)) (getD s i 0) (getD s (i + 1) 0) = ap (λ l. pairOf l (getD s i 0) (getD s (i + 1) 0)) (sym last) in
+        let is : p ≡ pairOf (eqb (i + 2) (length s)) (getD s i 0) (getD s (i + 1) 0) =
+        ap (λ l. pairOf l (getD s i 0) (getD s (i + 1) 0)) (sym last) in
         let good = sofar-good (omega arith) p is t whole in
         let end : decode 0 s ≡ text (before ++ charsOf p) =
-        sofar-more (omega arith) p is (good .0) ∙ ap (ahead (before ++ charsOf p)) (decode-end s (i + 2) (omega arith)) ∙ ap text (append-nil (before ++ charsOf p)) in
+        sofar-more (omega arith) p is (good .0) ∙ ap (ahead (before ++ charsOf p)) (decode-end s (i + 2) (omega arith))
+        ∙ ap text (append-nil (before ++ charsOf p)) in
         record { room = good .1; whole = cc }

@@ -137,9 +137,11 @@ module _ (last : Bool) (x y : ℕ) where
           three h k a3 b3 c3 (sym (values-three last (first n) (second n) (third n) a3 b3 c3 ∙ e)))))
 
   -- a pair that is not the last and carries something carries three characters
-  pub pair-full : last ≡ false → ((fault : Fault) → pairOf last x y ≡ Wrong fault → ⊥) → (0 < number x y) × (number x y ≤ 64000) × (pairOf last x y ≡ Three (char (first (number x y))) (char (second (number x y))) (char (third (number x y))))
+  pub pair-full : last ≡ false → ((fault : Fault) → pairOf last x y ≡ Wrong fault → ⊥)
+      → (0 < number x y) × (number x y ≤ 64000) × (pairOf last x y ≡ Three (char (first (number x y))) (char (second (number x y))) (char (third (number x y))))
   pair-full l not-wrong =
-      pair-cases (λ fault e. absurd (not-wrong fault e)) (λ h k a b c e. (h, k, e)) (λ h k a b c l′ e. absurd (apart l l′)) (λ f h i l′ e. absurd (apart l l′))
+      pair-cases (λ fault e. absurd (not-wrong fault e)) (λ h k a b c e. (h, k, e)) (λ h k a b c l′ e. absurd (apart l l′))
+      (λ f h i l′ e. absurd (apart l l′))
 
 -- a pair carries at most three characters; one that carries none is wrongly coded
 pub chars-most : (p : Pair) → length (charsOf p) ≤ 3

@@ -60,9 +60,6 @@ body-in-requires c κs =
 enum-told : tie.Need-enum-told
 enum-told c = search needs
 
-enum-told-2 : tie.Need-enum-told-2
-enum-told-2 c = search needs
-
 returns-3 : tie.Need-returns-3
 returns-3 c =
     let on = c .before .before .before .before in
@@ -74,12 +71,6 @@ returns-4 c =
     let on = c .before .before in
     let s = now (on .before .before .before .before .before .before .args .s) in
     ap (bodyIn (length s - 1)) (sym (c .enum-told .given .1) ∙ rest on) ∙ element-read _ s (omega arith) (on .before .before .if2 .left)
-
-returns-5 : tie.Need-returns-5
-returns-5 c =
-    let on = c .before .before in
-    let s = now (on .before .before .before .before .before .before .args .s) in
-    ap (bodyIn (length s - 1)) (sym (c .enum-told2 .given .1) ∙ rest on) ∙ element-read _ s (omega arith) (on .before .before .if2 .left)
 
 pub element-of-spec : {M : Type 1} → statement M
 element-of-spec =
@@ -96,7 +87,5 @@ element-of-spec =
     sub-body-in
     body-in-requires
     enum-told
-    enum-told-2
     returns-3
-    returns-4
-    returns-5)
+    returns-4)

@@ -91,5 +91,4 @@ element-whole tag (x ∷ t) bytes from to e =
         let a : w + 1 ≡ from = cc in
         let b : w + 1 + m ≡ to = cc in
         subst (λ z. Found z (x ∷ t) from to) same (subst₂ (λ y z. Found x (x ∷ t) y z) a b (found x t m w (read-is-form t (λ i. bytes (suc i)) m w f) room)))
-    read same is.Cut f g = absurd (nothing {from = from} {to = to} (ap (bodyIn (length t)) f) g)
-    read same is.Malformed f g = absurd (nothing {from = from} {to = to} (ap (bodyIn (length t)) f) g)
+    read same (is.Not fault) f g = absurd (nothing {from = from} {to = to} (ap (bodyIn (length t)) f) g)

@@ -17,6 +17,8 @@ use Rattle.format.specs.Numbers.{be, val}
 use Rattle.format.specs.Numbers.Laws.{length-be, val-be, be-val, val-append, val-below}
 use Rattle.der.specs.Length.{Sized, form, least, longForm, readLength}
 use Rattle.der.specs.Length.Laws.{long-cut, long-loose, long-is, first-short, first-bad, first-high, first-long}
+use Rattle.der.specs.declared.Fault.{Fault}
+use Rattle.der.specs.declared.Fault.the-variants.{NoByte}
 use Rattle.der.specs.declared.Length.{Length}
 use Rattle.der.specs.declared.Length.the-variants as is
 
@@ -95,11 +97,8 @@ pub record Taken (s : List ℕ) (n width : ℕ) : Type 0 where
   pub front : form n ≡ take width s
   pub size : length (form n) ≡ width
 
-differs : {n w : ℕ} {r : Length} → r ≡ is.Cut → r ≡ is.Is n w → ⊥
+differs : {n w : ℕ} {fault : Fault} {r : Length} → r ≡ is.Not fault → r ≡ is.Is n w → ⊥
 differs e f = let z : _≡_ {A = ℕ} 0 1 = cc in omega arith
-
-differs-too : {n w : ℕ} {r : Length} → r ≡ is.Malformed → r ≡ is.Is n w → ⊥
-differs-too e f = let z : _≡_ {A = ℕ} 0 1 = cc in omega arith
 
 -- the long form, where its bytes are there and are the shortest
 took-long : (x : ℕ) (t : List ℕ) → Bytes t → 0x80 < x → x < 0x85 → x - 0x80 ≤ length t → least (x - 0x80) ≤ val t (x - 0x80) → Taken (x ∷ t) (val t (x - 0x80)) (x - 0x80 + 1)
@@ -122,8 +121,8 @@ took x t bytes n width e =
     (λ h. same (first-short x t (ltb-true x 0x80 h))
     (record { sized = omega (arith, ltb-true x 0x80 h); there = omega arith; front = form-short x (ltb-true x 0x80 h); size = ap length (form-short x (ltb-true x 0x80 h)) }))
     (λ a. by-test (ltb 0x80 x)
-    (λ b. by-test (ltb x 0x85) (λ c. long (ltb-true 0x80 x b) (ltb-true x 0x85 c)) (λ c. absurd (differs-too (first-high x t (ltb-false x 0x85 c)) e)))
-    (λ b. let low = ltb-false x 0x80 a in let high = ltb-false 0x80 x b in absurd (differs-too (first-bad x t (omega arith)) e)))
+    (λ b. by-test (ltb x 0x85) (λ c. long (ltb-true 0x80 x b) (ltb-true x 0x85 c)) (λ c. absurd (differs (first-high x t (ltb-false x 0x85 c)) e)))
+    (λ b. let low = ltb-false x 0x80 a in let high = ltb-false 0x80 x b in absurd (differs (first-bad x t (omega arith)) e)))
   where
     same : {m v : ℕ} → readLength (x ∷ t) ≡ is.Is m v → Taken (x ∷ t) m v → Taken (x ∷ t) n width
     same {m} {v} f taken =
@@ -138,14 +137,14 @@ took x t bytes n width e =
         by-test (ltb (length t) k)
         (λ h. absurd (differs (is-long ∙ long-cut k t (ltb-true (length t) k h)) e))
         (λ h. by-test (ltb (val t k) (least k))
-        (λ l. absurd (differs-too (is-long ∙ long-loose k t (ltb-false (length t) k h) (ltb-true (val t k) (least k) l)) e))
+        (λ l. absurd (differs (is-long ∙ long-loose k t (ltb-false (length t) k h) (ltb-true (val t k) (least k) l)) e))
         (λ l. same (is-long ∙ long-is k t (ltb-false (length t) k h) (ltb-false (val t k) (least k) l))
         (took-long x t bytes low high (ltb-false (length t) k h) (ltb-false (val t k) (least k) l))))
 
 -- sound: what reads as a length is the form of that length, below 2 ^ 32
 pub read-is-form : (s : List ℕ) → Bytes s → (n width : ℕ) → readLength s ≡ is.Is n width → Taken s n width
 unfolding readLength
-read-is-form [] bytes n width e = absurd (differs {n = n} {w = width} refl e)
+read-is-form [] bytes n width e = absurd (differs {n = n} {w = width} {fault = NoByte} refl e)
 read-is-form (x ∷ t) bytes n width e = took x t (λ i. bytes (suc i)) n width e
 
 -- a length is cut off the front in one way only

@@ -10,15 +10,16 @@ use lib.Seq.{drop-cons}
 use Rattle.format.specs.Cut.{Cut}
 use Rattle.format.specs.Numbers.{val}
 use Rattle.der.specs.Length.{form, least, longForm, readLength}
+use Rattle.der.specs.declared.Fault.the-variants as fault
 use Rattle.der.specs.declared.Length.the-variants as is
 
 -- k bytes after the first, by the tests
 module _ (k : ℕ) (t : List ℕ) where
-  pub long-cut : length t < k → longForm k t ≡ is.Cut
+  pub long-cut : length t < k → longForm k t ≡ is.Not fault.Cut
   unfolding longForm
   long-cut h = simp (lt-ltb (length t) k h)
 
-  pub long-loose : k ≤ length t → val t k < least k → longForm k t ≡ is.Malformed
+  pub long-loose : k ≤ length t → val t k < least k → longForm k t ≡ is.Not fault.NotShortest
   unfolding longForm
   long-loose h l = simp (le-ltb (length t) k h, lt-ltb (val t k) (least k) l)
 
@@ -32,11 +33,11 @@ module _ (x : ℕ) (t : List ℕ) where
   unfolding readLength
   first-short h = simp (lt-ltb x 0x80 h)
 
-  pub first-bad : x ≡ 0x80 → readLength (x ∷ t) ≡ is.Malformed
+  pub first-bad : x ≡ 0x80 → readLength (x ∷ t) ≡ is.Not fault.FirstByte
   unfolding readLength
   first-bad h = simp (le-ltb x 0x80 (omega arith), le-ltb 0x80 x (omega arith))
 
-  pub first-high : 0x85 ≤ x → readLength (x ∷ t) ≡ is.Malformed
+  pub first-high : 0x85 ≤ x → readLength (x ∷ t) ≡ is.Not fault.FirstByte
   unfolding readLength
   first-high h = simp (le-ltb x 0x80 (omega arith), lt-ltb 0x80 x (omega arith), le-ltb x 0x85 h)
 
@@ -45,7 +46,7 @@ module _ (x : ℕ) (t : List ℕ) where
   first-long h l = simp (le-ltb x 0x80 (omega arith), lt-ltb 0x80 x h, lt-ltb x 0x85 l)
 
 -- the same of a byte string by its indices, as the code has it
-pub length-none : (s : List ℕ) → length s ≡ 0 → is.Cut ≡ readLength s
+pub length-none : (s : List ℕ) → length s ≡ 0 → is.Not fault.NoByte ≡ readLength s
 unfolding readLength
 length-none [] h = refl
 length-none (x ∷ t) h = absurd (omega arith)
@@ -57,19 +58,19 @@ module _ (s : List ℕ) (x : ℕ) (e : x ≡ getD s 0 0) (h : 0 < length s) wher
   pub length-short : x < 0x80 → is.Is x 1 ≡ readLength s
   length-short l = sym (ap readLength first ∙ first-short x (drop 1 s) l)
 
-  pub length-bad : x ≡ 0x80 → is.Malformed ≡ readLength s
+  pub length-bad : x ≡ 0x80 → is.Not fault.FirstByte ≡ readLength s
   length-bad l = sym (ap readLength first ∙ first-bad x (drop 1 s) l)
 
-  pub length-high : 0x85 ≤ x → is.Malformed ≡ readLength s
+  pub length-high : 0x85 ≤ x → is.Not fault.FirstByte ≡ readLength s
   length-high l = sym (ap readLength first ∙ first-high x (drop 1 s) l)
 
   -- the long form
   module _ (low : 0x80 < x) (high : x < 0x85) where
-    pub length-cut : length s - 1 < x - 0x80 → is.Cut ≡ readLength s
+    pub length-cut : length s - 1 < x - 0x80 → is.Not fault.Cut ≡ readLength s
     length-cut l = sym (ap readLength first ∙ first-long x (drop 1 s) low high ∙ long-cut (x - 0x80) (drop 1 s) (omega (arith, length-drop 1 s)))
 
     module _ (value : ℕ) (v : value ≡ val (drop 1 s) (x - 0x80)) (there : x - 0x80 ≤ length s - 1) where
-      pub length-loose : value < least (x - 0x80) → is.Malformed ≡ readLength s
+      pub length-loose : value < least (x - 0x80) → is.Not fault.NotShortest ≡ readLength s
       length-loose l =
           sym
           (ap readLength first ∙ first-long x (drop 1 s) low high

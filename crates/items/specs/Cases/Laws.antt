@@ -21,19 +21,29 @@ use Rattle.dates.specs.Calls.{no-date, fromNumber}
 use Rattle.der.specs.Length.{readLength}
 use Rattle.versions.specs.declared.Version.{Version}
 use Rattle.versions.specs.Versions.{versionOfByte}
-use Rattle.verdict.specs.Items.{Item, is, not, whole, byte, mark, version, last, lastIn, date, dateIn, plainIn, derOf, derLength, markIn, versionAt, versionIn}
+use Rattle.causes.specs.declared.Item.{Item as Name}
+use Rattle.causes.specs.declared.Rule.{Rule}
+use Rattle.causes.specs.declared.Rule.the-variants as rule
+use Rattle.items.specs.declared.cursor.Refusal.{Refusal}
+use Rattle.verdict.specs.Items.{Item, Way, why, next, is, not, whole, byte, mark, version, last, lastIn, date, dateIn, plainIn, derOf}
+use Rattle.verdict.specs.Items.{derLength, markIn, versionAt, versionIn}
 use Rattle.verdict.specs.Items.Laws.{whole-read, unread}
-use Rattle.items.specs.Cases.{past}
+use Rattle.items.specs.Cases.{because, past}
+
+-- an item that is not read ends the reading, under its name
+pub unread-on : {A B : Type 0} (name : Name) (i : Item A) (rest : A → ℕ → Way B) (rule : Rule) (place : ℕ) (w : Refusal)
+    → w ≡ because (why name rule) place → not rule place ≡ i → not (w .why) (w .place) ≡ next name i rest
+unread-on name i rest rule place w e f = ap (λ (z : Refusal). not (z .why) (z .place)) e ∙ ap (λ j. next name j rest) f
 
 -- an item of k bytes that are not all there, or are
-pub whole-cut : {A : Type 0} (k at : ℕ) (s : List ℕ) (f : List ℕ → Item A) → length s < at + k → not 2 at ≡ whole k at s f
-whole-cut k at s f h = ap (λ b. pick b (not 2 at) (f (take k (drop at s)))) (sym (lt-ltb (length s) (at + k) h))
+pub whole-cut : {A : Type 0} (k at : ℕ) (s : List ℕ) (f : List ℕ → Item A) → length s < at + k → not rule.There at ≡ whole k at s f
+whole-cut k at s f h = ap (λ b. pick b (not rule.There at) (f (take k (drop at s)))) (sym (lt-ltb (length s) (at + k) h))
 
 pub whole-is : {A : Type 0} (k at : ℕ) (s : List ℕ) (f : List ℕ → Item A) → at + k ≤ length s → whole k at s f ≡ f (take k (drop at s))
-whole-is k at s f h = ap (λ b. pick b (not 2 at) (f (take k (drop at s)))) (le-ltb (length s) (at + k) h)
+whole-is k at s f h = ap (λ b. pick b (not rule.There at) (f (take k (drop at s)))) (le-ltb (length s) (at + k) h)
 
 -- the same of one byte
-pub byte-cut : {A : Type 0} (at : ℕ) (s : List ℕ) (f : ℕ → Item A) → length s ≤ at → not 2 at ≡ byte at s f
+pub byte-cut : {A : Type 0} (at : ℕ) (s : List ℕ) (f : ℕ → Item A) → length s ≤ at → not rule.There at ≡ byte at s f
 byte-cut at s f h = whole-cut 1 at s (λ b. f (getD b 0 0)) (omega arith)
 
 first : (at : ℕ) (s : List ℕ) → getD (take 1 (drop at s)) 0 0 ≡ getD s at 0
@@ -49,7 +59,7 @@ pub record Past (k at : ℕ) (s : List ℕ) (after : ℕ) : Type 0 where
 
 placeOf : {A : Type 0} → Item A → ℕ
 placeOf (is a at) = at
-placeOf (not number place) = place
+placeOf (not rule place) = place
 
 pub past-whole : (k at : ℕ) (s : List ℕ) (after : ℕ) → is tt after ≡ whole k at s (past k at) → Past k at s after
 unfolding placeOf
@@ -60,11 +70,12 @@ past-whole k at s after e =
 pub judged : {A : Type 0} (k at : ℕ) (s : List ℕ) (after : ℕ) (f : List ℕ → Item A) → Past k at s after → whole k at s f ≡ f (take k (drop at s))
 judged k at s after f p = whole-is k at s f (p .there)
 
-pub whole-none : {A : Type 0} (k at : ℕ) (s : List ℕ) (f : List ℕ → Item A) → not 2 at ≡ whole k at s (past k at) → not 2 at ≡ whole k at s f
+pub whole-none : {A : Type 0} (k at : ℕ) (s : List ℕ) (f : List ℕ → Item A) → not rule.There at ≡ whole k at s (past k at)
+    → not rule.There at ≡ whole k at s f
 whole-none k at s f e =
     by-test (ltb (length s) (at + k))
-    (λ less. ap (λ b. pick b (not 2 at) (f (take k (drop at s)))) (sym less))
-    (λ more. absurd (unread 2 at tt (at + k) (e ∙ ap (λ b. pick b (not 2 at) (is tt (at + k))) more)))
+    (λ less. ap (λ b. pick b (not rule.There at) (f (take k (drop at s)))) (sym less))
+    (λ more. absurd (unread rule.There at tt (at + k) (e ∙ ap (λ b. pick b (not rule.There at) (is tt (at + k))) more)))
 
 -- one byte that was read
 pub record Read (at : ℕ) (s : List ℕ) (x after : ℕ) : Type 0 where
@@ -74,7 +85,7 @@ pub record Read (at : ℕ) (s : List ℕ) (x after : ℕ) : Type 0 where
 
 valueOf : ℕ → Item ℕ → ℕ
 valueOf d (is a at) = a
-valueOf d (not number place) = d
+valueOf d (not rule place) = d
 
 pub read-byte : (at : ℕ) (s : List ℕ) (x after : ℕ) → is x after ≡ byte at s (plainIn at) → Read at s x after
 unfolding placeOf valueOf
@@ -89,29 +100,30 @@ read-byte at s x after e =
 pub judged-byte : {A : Type 0} (at : ℕ) (s : List ℕ) (x after : ℕ) (f : ℕ → Item A) → Read at s x after → byte at s f ≡ f x
 judged-byte at s x after f r = byte-is at s f (r .there) ∙ ap f (sym (r .is-byte))
 
-pub byte-none : {A : Type 0} (at : ℕ) (s : List ℕ) (f : ℕ → Item A) → not 2 at ≡ byte at s (plainIn at) → not 2 at ≡ byte at s f
+pub byte-none : {A : Type 0} (at : ℕ) (s : List ℕ) (f : ℕ → Item A) → not rule.There at ≡ byte at s (plainIn at)
+    → not rule.There at ≡ byte at s f
 byte-none at s f e =
     by-test (ltb (length s) (at + 1))
-    (λ less. ap (λ b. pick b (not 2 at) (f (getD (take 1 (drop at s)) 0 0))) (sym less))
-    (λ more. absurd (unread 2 at (getD (take 1 (drop at s)) 0 0) (at + 1) (e ∙ ap (λ b. pick b (not 2 at) (plainIn at (getD (take 1 (drop at s)) 0 0))) more)))
+    (λ less. ap (λ b. pick b (not rule.There at) (f (getD (take 1 (drop at s)) 0 0))) (sym less))
+    (λ more. absurd (unread rule.There at (getD (take 1 (drop at s)) 0 0) (at + 1) (e ∙ ap (λ b. pick b (not rule.There at) (plainIn at (getD (take 1 (drop at s)) 0 0))) more)))
 
 -- DC
 module _ (at : ℕ) (s : List ℕ) (x after : ℕ) (b : Read at s x after) where
   pub mark-is : x ≡ 0xDC → is tt after ≡ mark at s
   mark-is d =
       let read = judged-byte at s x after (markIn at) b in
-      ap (is tt) (b .reached) ∙ sym (ap (λ t. pick t (is tt (at + 1)) (not 3 at)) (eq-eqb x 0xDC d)) ∙ sym read
+      ap (is tt) (b .reached) ∙ sym (ap (λ t. pick t (is tt (at + 1)) (not rule.IsMark at)) (eq-eqb x 0xDC d)) ∙ sym read
 
-  pub mark-wrong : (x ≡ 0xDC → ⊥) → not 3 at ≡ mark at s
+  pub mark-wrong : (x ≡ 0xDC → ⊥) → not rule.IsMark at ≡ mark at s
   mark-wrong d =
       let read = judged-byte at s x after (markIn at) b in
-      sym (ap (λ t. pick t (is tt (at + 1)) (not 3 at)) (ne-eqb x 0xDC d)) ∙ sym read
+      sym (ap (λ t. pick t (is tt (at + 1)) (not rule.IsMark at)) (ne-eqb x 0xDC d)) ∙ sym read
 
   -- the version
   pub version-is : (v : Version) → some v ≡ versionOfByte x → is v after ≡ version at s
   version-is v e = ap (is v) (b .reached) ∙ ap (versionAt at) e ∙ sym (judged-byte at s x after (versionIn at) b)
 
-  pub version-wrong : none ≡ versionOfByte x → not 4 at ≡ version at s
+  pub version-wrong : none ≡ versionOfByte x → not rule.IsVersion at ≡ version at s
   version-wrong e = ap (versionAt at) e ∙ sym (judged-byte at s x after (versionIn at) b)
 
   -- definition reference and category
@@ -121,16 +133,16 @@ module _ (at : ℕ) (s : List ℕ) (x after : ℕ) (b : Read at s x after) where
       let given : lastIn at x ≡ is x (at + 1) = rw (le-leb 1 x low, le-leb x 254 high) refl in
       ap (is x) (b .reached) ∙ sym given ∙ sym read
 
-  pub last-low : x ≡ 0 → not 7 at ≡ last at s
+  pub last-low : x ≡ 0 → not rule.OneTo254 at ≡ last at s
   last-low low =
       let read = judged-byte at s x after (lastIn at) b in
-      let given : lastIn at x ≡ not 7 at = rw (lt-leb 1 x (omega arith)) refl in
+      let given : lastIn at x ≡ not rule.OneTo254 at = rw (lt-leb 1 x (omega arith)) refl in
       sym given ∙ sym read
 
-  pub last-high : 254 < x → not 7 at ≡ last at s
+  pub last-high : 254 < x → not rule.OneTo254 at ≡ last at s
   last-high high =
       let read = judged-byte at s x after (lastIn at) b in
-      let given : lastIn at x ≡ not 7 at = rw (le-leb 1 x (omega arith), lt-leb x 254 high) refl in
+      let given : lastIn at x ≡ not rule.OneTo254 at = rw (le-leb 1 x (omega arith), lt-leb x 254 high) refl in
       sym given ∙ sym read
 
 -- a date: the number in its three bytes
@@ -147,13 +159,13 @@ module _ (at : ℕ) (s : List ℕ) (after : ℕ) (p : Past 3 at s after) (d : Da
 
   pub date-is : isDay d ≡ true → is d after ≡ date at s
   date-is h =
-      ap (is d) (p .reached) ∙ sym (ap (λ t. pick t (is d (at + 3)) (not 6 at)) h) ∙ sym date-read
+      ap (is d) (p .reached) ∙ sym (ap (λ t. pick t (is d (at + 3)) (not rule.IsDay at)) h) ∙ sym date-read
 
-  pub date-wrong : isDay d ≡ false → not 6 at ≡ date at s
-  date-wrong h = sym (ap (λ t. pick t (is d (at + 3)) (not 6 at)) h) ∙ sym date-read
+  pub date-wrong : isDay d ≡ false → not rule.IsDay at ≡ date at s
+  date-wrong h = sym (ap (λ t. pick t (is d (at + 3)) (not rule.IsDay at)) h) ∙ sym date-read
 
 -- a DER length, where the place is past the end
-pub der-past : (at : ℕ) (s : List ℕ) → length s < at → not 2 at ≡ derLength at s
+pub der-past : (at : ℕ) (s : List ℕ) → length s < at → not rule.There at ≡ derLength at s
 unfolding readLength
 der-past at s h = ap (λ t. derOf at (readLength t)) (sym (drop-of-length-le s {i = at} (omega arith)))
 

@@ -4,64 +4,57 @@ use mathlib.Core.Path.{_≡_, refl, ap, ap₂, sym, _∙_}
 use Prim.Native.Nat.{ℕ, _+_, _≤_}
 use native.Mathlib.Omega.{arith}
 use borrow.Author.Tests.{le-ltb}
-use mathlib.Core.List.{List, _++_, append-assoc, append-nil}
+use mathlib.Core.List.{List, _++_, append-assoc}
 use lib.Dec.{ltb}
-use lib.ListN.{length, take, drop, length-take, length-drop, drop-of-length-le}
+use lib.ListN.{length, take, drop, length-take, length-drop}
 use lib.Seq.{take-add, take-at, drop-at, length-take-le}
 use Rattle.format.specs.Choice.{pick}
 use Rattle.format.specs.Buffer.{over}
 use Rattle.octets.specs.Copy.{copied}
-use Rattle.verdict.specs.Items.{Item, is, not, Names}
+use Rattle.causes.specs.declared.Rule.{Rule}
+use Rattle.causes.specs.declared.Why.{Why}
+use Rattle.verdict.specs.Items.{Item, Way, is, not, Names}
 use Rattle.verdict.specs.Items.Laws.{unread}
-use Rattle.items.specs.Cases.{stepOf, through, valueOr}
+use Rattle.items.specs.Cases.{through, valueOr}
 use Rattle.names.specs.Cases.{Measured, measured, textOver}
-use Rattle.names.specs.Cases.Field.{Unread}
 use Rattle.items.specs.declared.cursor.Refusal.{Refusal}
-use Rattle.items.specs.declared.cursor.Step.{Step}
-use Rattle.items.specs.declared.cursor.Step.the-variants as step
 
--- a text that was not read leaves what was there
-pub step-kept : (at : ℕ) (found old : List ℕ) (r : Step) (i : Item (List ℕ)) → Unread r → stepOf 5 at found r ≡ i → (stepOf 5 at old r ≡ i) × (old ≡ valueOr old i)
-step-kept at found old (step.Past next) i u e = absurd u
-step-kept at found old step.Cut i u e = (e, ap (valueOr old) e)
-step-kept at found old step.Wrong i u e = (e, ap (valueOr old) e)
+-- a text that was not read leaves what was there, and one that was read is there
+pub step-kept : (old : List ℕ) (rule : Rule) (place : ℕ) (i : Item (List ℕ)) → not rule place ≡ i
+    → (not rule place ≡ i) × (old ≡ valueOr old i)
+step-kept old rule place i e = (e, ap (valueOr old) e)
 
--- and one that was read is there
-pub step-given : (found new old : List ℕ) (p : ℕ) (i : Item (List ℕ)) → is found p ≡ i → new ≡ found → (is new p ≡ i) × (new ≡ valueOr old i)
-step-given found new old p i e same = (ap (λ t. is t p) same ∙ e, same ∙ ap (valueOr old) e)
-
-pub copied-all : (found old : List ℕ) → length found ≡ length old → copied found old 0 ≡ found
-unfolding copied over
-copied-all found old e =
-    let none : 0 + length found ≡ length found = omega arith in
-    ap (λ b. pick b old (over old 0 found)) (le-ltb (length old) (0 + length found) (omega arith))
-    ∙ ap (λ k. found ++ drop k old) none ∙ ap (λ t. found ++ t) (drop-of-length-le old {i = length found} (omega arith)) ∙ append-nil found
+pub step-given : (new old : List ℕ) (p : ℕ) (i : Item (List ℕ)) → is new p ≡ i → (is new p ≡ i) × (new ≡ valueOr old i)
+step-given new old p i e = (e, ap (valueOr old) e)
 
 -- names that were not read leave the text as it was
-names-unread : (i : Item Names) (number place : ℕ) → not number place ≡ through measured i → (old : List ℕ) → old ≡ textOver old i
-names-unread (is n at) number place e old = absurd (unread number place (measured n) at e)
-names-unread (not n p) number place e old = refl
+names-unread : (i : Way Names) (why : Why) (place : ℕ) → not why place ≡ through measured i → (old : List ℕ) → old ≡ textOver old i
+names-unread (is n at) why place e old = absurd (unread why place (measured n) at e)
+names-unread (not w p) why place e old = refl
 
-pub names-kept : (old : List ℕ) (why : Refusal) (i : Item Names) → not (why .number) (why .place) ≡ through measured i → (not (why .number) (why .place) ≡ through measured i) × (old ≡ textOver old i)
-names-kept old why i e = (e, names-unread i (why .number) (why .place) e old)
+pub names-kept : (old : List ℕ) (w : Refusal) (i : Way Names) → not (w .why) (w .place) ≡ through measured i
+    → (not (w .why) (w .place) ≡ through measured i) × (old ≡ textOver old i)
+names-kept old w i e = (e, names-unread i (w .why) (w .place) e old)
 
 -- names that were read: their parts, and their sizes
-pub record Found (found : List ℕ) (size p : ℕ) (i : Item Names) : Type 0 where
+pub record Found (found : List ℕ) (size p : ℕ) (i : Way Names) : Type 0 where
   pub names : Names
   pub read : i ≡ is names p
   pub signer : names .signer ≡ take 4 found
   pub reference : names .reference ≡ take size (drop 4 found)
   pub long : size ≡ length (names .reference)
 
-abbrev partsOf : Measured → Item Measured → Measured
+abbrev partsOf : Measured → Way Measured → Measured
 partsOf d (is m at) = m
-partsOf d (not number place) = d
+partsOf d (not why place) = d
 
-abbrev placeIn : {A : Type 0} → Item A → ℕ
+abbrev placeIn : {A : Type 0} → Way A → ℕ
 placeIn (is m at) = at
-placeIn (not number place) = place
+placeIn (not why place) = place
 
-pub found-names : (found : List ℕ) (size p : ℕ) (i : Item Names) → is (record { length = size; names = record { signer = take 4 found; reference = take size (drop 4 found) } }) p ≡ through measured i → Found found size p i
+pub found-names : (found : List ℕ) (size p : ℕ) (i : Way Names)
+    → is (record { length = size; names = record { signer = take 4 found; reference = take size (drop 4 found) } }) p ≡ through measured i
+    → Found found size p i
 found-names found size p (is n at) e =
     let m = ap (partsOf (measured n)) e in
     record {
@@ -71,9 +64,10 @@ found-names found size p (is n at) e =
       reference = sym (ap (λ z. z .names .reference) m);
       long = ap (λ z. z .length) m;
     }
-found-names found size p (not number place) e = absurd (unread number place (record { length = size; names = record { signer = take 4 found; reference = take size (drop 4 found) } }) p (sym e))
+found-names found size p (not why place) e =
+    absurd (unread why place (record { length = size; names = record { signer = take 4 found; reference = take size (drop 4 found) } }) p (sym e))
 
-module _ (found : List ℕ) (size p : ℕ) (i : Item Names) (f : Found found size p i) (whole : length found ≡ 259) where
+module _ (found : List ℕ) (size p : ℕ) (i : Way Names) (f : Found found size p i) (whole : length found ≡ 259) where
   pub found-room : 4 + size ≤ 259
   found-room =
       let cut : size ≡ length (take size (drop 4 found)) = f .long ∙ ap length (f .reference) in
@@ -100,6 +94,6 @@ module _ (found : List ℕ) (size p : ℕ) (i : Item Names) (f : Found found siz
       let signer : take 4 new ≡ n .signer = ap (take 4) split ∙ take-at (n .signer) (n .reference ++ rest) 4 four-long in
       let reference : take size (drop 4 new) ≡ n .reference =
       ap (λ t. take size (drop 4 t)) split ∙ ap (take size) (drop-at (n .signer) (n .reference ++ rest) 4 four-long) ∙ take-at (n .reference) rest size (sym (f .long)) in
-      let same : is (record { length = size; names = record { signer = take 4 new; reference = take size (drop 4 new) } }) p ≡ is (measured n) p =
+      let same : _≡_ {A = Way Measured} (is (record { length = size; names = record { signer = take 4 new; reference = take size (drop 4 new) } }) p) (is (measured n) p) =
       λ j. is (record { length = f .long j; names = record { signer = signer j; reference = reference j } }) p in
       (same ∙ ap (through measured) (sym (f .read)), over-text ∙ ap (textOver old) (sym (f .read)))

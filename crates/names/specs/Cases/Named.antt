@@ -1,92 +1,40 @@
--- Laws of country, signer and reference: each test by its characters, and each item from the fields that it has.
+-- Laws of country, signer and reference: each item from the fields that it has.
 -- Assumes nothing.
 use mathlib.Core.Path.{_≡_, ap, sym, subst, _∙_}
-use mathlib.Core.Bool.{Bool, true, false}
+use mathlib.Core.Bool.{true}
+use mathlib.Core.Option.{none}
 use Prim.Native.Nat.{ℕ, _+_, _-_, _*_, _≤_, _<_}
 use native.Mathlib.Omega.{arith}
-use borrow.Author.Tests.{lt-ltb, le-ltb, ltb-true}
+use borrow.Author.Tests.{ltb-true}
 use mathlib.Core.List.{List, [], _∷_, _++_, map}
 use lib.Dec.{ltb}
 use lib.ListN.{length, take, drop, getD, set, length-drop, length-append, List·getD-append}
 use lib.Seq.{take-append-le, drop-append-le, take-at, drop-at, length-take-le}
-use Rattle.format.specs.Table.{both}
-use Rattle.format.specs.Hex.{hexValue}
 use Rattle.grammar.specs.Content.{three, four}
 use Rattle.dates.specs.Days.Laws.{within-both}
 use Rattle.format.specs.Table.Laws.{both-true}
-use Rattle.letters.specs.Characters.{isLetter, isReference, all, isSigner, isCountry, shown}
-use Rattle.verdict.specs.Items.{Item, is, not, next, field, country, lengthIn, isSix, nine, named, after, names, Names}
+use Rattle.format.specs.Hex.{hexValue}
+use Rattle.letters.specs.Characters.{isLetter, isSigner, isCountry, shown}
+use Rattle.causes.specs.declared.Item.the-variants as item
+use Rattle.causes.specs.declared.Rule.{Rule}
+use Rattle.causes.specs.declared.Rule.the-variants as rule
+use Rattle.verdict.specs.Items.{Way, is, not, why, next, pass, field, inCountry, country, lengthIn, isHex, inSix, inNine, inReference}
+use Rattle.verdict.specs.Items.{named, after, names, Names}
 use Rattle.verdict.specs.Items.Fields.{letter-shown}
-use Rattle.items.specs.Cases.{stepOf, whyOf, through}
+use Rattle.verdict.specs.Items.FieldsSound.{field-keeps, kept-all}
+use Rattle.items.specs.Cases.{because, through}
+use Rattle.items.specs.Cases.Laws.{unread-on}
 use Rattle.names.specs.Cases.{measured}
-use Rattle.names.specs.Cases.Field.{Unread, field-good}
 use Rattle.items.specs.declared.cursor.Refusal.{Refusal}
-use Rattle.items.specs.declared.cursor.Step.{Step}
-use Rattle.items.specs.declared.cursor.Step.the-variants as step
-
--- nine characters, and six, by the signer
-module _ (t : List ℕ) where
-  pub nine-no : isSigner (take 4 t) ≡ false → nine t ≡ false
-  nine-no e = ap (λ b. both b (all isReference (drop 4 t))) e
-
-  pub nine-is : isSigner (take 4 t) ≡ true → nine t ≡ all isReference (drop 4 t)
-  nine-is e = ap (λ b. both b (all isReference (drop 4 t))) e
-
-  abbrev digits : Bool
-  digits = both (both (ltb (hexValue (getD t 4 0)) 16) (ltb (hexValue (getD t 5 0)) 16)) (ltb 0 (lengthIn t))
-
-  pub six-no : isSigner (take 4 t) ≡ false → isSix t ≡ false
-  six-no e = ap (λ b. both b digits) e
-
-  module _ (signer : isSigner (take 4 t) ≡ true) where
-    six-in : isSix t ≡ digits
-    six-in = ap (λ b. both b digits) signer
-
-    pub six-high : hexValue (getD t 4 0) ≡ 16 → isSix t ≡ false
-    six-high h = six-in ∙ ap (λ b. both (both b (ltb (hexValue (getD t 5 0)) 16)) (ltb 0 (lengthIn t))) (le-ltb (hexValue (getD t 4 0)) 16 (omega arith))
-
-    module _ (high : hexValue (getD t 4 0) < 16) where
-      six-second : isSix t ≡ both (ltb (hexValue (getD t 5 0)) 16) (ltb 0 (lengthIn t))
-      six-second = six-in ∙ ap (λ b. both (both b (ltb (hexValue (getD t 5 0)) 16)) (ltb 0 (lengthIn t))) (lt-ltb (hexValue (getD t 4 0)) 16 high)
-
-      pub six-low : hexValue (getD t 5 0) ≡ 16 → isSix t ≡ false
-      six-low h = six-second ∙ ap (λ b. both b (ltb 0 (lengthIn t))) (le-ltb (hexValue (getD t 5 0)) 16 (omega arith))
-
-      module _ (low : hexValue (getD t 5 0) < 16) where
-        six-length : isSix t ≡ ltb 0 (lengthIn t)
-        six-length = six-second ∙ ap (λ b. both b (ltb 0 (lengthIn t))) (lt-ltb (hexValue (getD t 5 0)) 16 low)
-
-        pub six-none : hexValue (getD t 4 0) + hexValue (getD t 5 0) ≡ 0 → isSix t ≡ false
-        six-none h = six-length ∙ le-ltb 0 (lengthIn t) (omega arith)
-
-        pub six-is : (hexValue (getD t 4 0) + hexValue (getD t 5 0) ≡ 0 → ⊥) → isSix t ≡ true
-        six-is h = six-length ∙ lt-ltb 0 (lengthIn t) (omega (arith, h))
 
 -- the length that six characters give which were read: 1 to 255
-pub six-size : (at : ℕ) (s t : List ℕ) (n : ℕ) → is t n ≡ field 6 isSix at s → (0 < lengthIn t) × (lengthIn t ≤ 255)
+six-size : (at : ℕ) (s t : List ℕ) (n : ℕ) → is t n ≡ field 6 inSix at s → (0 < lengthIn t) × (lengthIn t ≤ 255)
 six-size at s t n e =
-    let p = both-true (isSigner (take 4 t)) (digits t) (field-good 6 isSix at s t n e) in
-    let q = both-true (both (ltb (hexValue (getD t 4 0)) 16) (ltb (hexValue (getD t 5 0)) 16)) (ltb 0 (lengthIn t)) (p .1) in
+    let p = kept-all (isSigner (take 4 t)) rule.SignerCharacters _ (field-keeps 6 inSix at s t n (sym e)) in
+    let q = kept-all (isHex t) rule.HexadecimalDigits _ (p .1) in
     let r = both-true (ltb (hexValue (getD t 4 0)) 16) (ltb (hexValue (getD t 5 0)) 16) (q .0) in
-    (ltb-true 0 (lengthIn t) (q .1), omega (arith, ltb-true (hexValue (getD t 4 0)) 16 (r .0), ltb-true (hexValue (getD t 5 0)) 16 (r .1)))
-
--- an item after a field that was not read: its answer, and its refusal
-module _ {A B : Type 0} (at : ℕ) (r : Step) (u : Unread r) (i : Item A) (rest : A → ℕ → Item B) where
-  pub answer-on : (a : A) (b : B) → stepOf 5 at a r ≡ i → stepOf 5 at b r ≡ next i rest
-  answer-on a b e = go r u e
-    where
-      go : (r : Step) → Unread r → stepOf 5 at a r ≡ i → stepOf 5 at b r ≡ next i rest
-      go (step.Past n) u e = absurd u
-      go step.Cut u e = ap (λ j. next j rest) e
-      go step.Wrong u e = ap (λ j. next j rest) e
-
-  pub refusal-on : (a : A) (why : Refusal) → stepOf 5 at a r ≡ i → why ≡ whyOf {A = Unit} (stepOf 5 at tt r) → not (why .number) (why .place) ≡ next i rest
-  refusal-on a why e f = ap (λ (w : Refusal). not (w .number) (w .place)) f ∙ go r u e
-    where
-      go : (r : Step) → Unread r → stepOf 5 at a r ≡ i → not (whyOf {A = Unit} (stepOf 5 at tt r) .number) (whyOf {A = Unit} (stepOf 5 at tt r) .place) ≡ next i rest
-      go (step.Past n) u e = absurd u
-      go step.Cut u e = ap (λ j. next j rest) e
-      go step.Wrong u e = ap (λ j. next j rest) e
+    let some = kept-all (ltb 0 (lengthIn t)) rule.NotZero none (q .1) in
+    (ltb-true 0 (lengthIn t) (some .0), omega (arith, ltb-true (hexValue (getD t 4 0)) 16 (r .0), ltb-true (hexValue (getD t 5 0)) 16 (r .1)))
 
 -- the country, with fillers shown: the first character is a letter, and no filler
 letter-in : (a b c : ℕ) → isCountry 32 (a ∷ b ∷ c ∷ []) ≡ true → shown a ≡ a
@@ -100,36 +48,46 @@ shown-three (a ∷ b ∷ c ∷ []) x y l p e f =
     ap (λ z. z ∷ x ∷ y ∷ []) (sym (letter-in a b c p)) ∙ ap (λ z. shown a ∷ z ∷ y ∷ []) e ∙ ap (λ z. shown a ∷ shown b ∷ z ∷ []) f
 shown-three (a ∷ b ∷ c ∷ d ∷ t) x y l p e f = absurd (omega arith)
 
-pub country-is : (at n : ℕ) (s out : List ℕ) (x y : ℕ) → length out ≡ 3 → isCountry 32 out ≡ true → is out n ≡ field 3 (isCountry 32) at s → x ≡ shown (getD out 1 0) → y ≡ shown (getD (set out 1 x) 2 0) → is (set (set out 1 x) 2 y) n ≡ country at s
-country-is at n s out x y l p read e f = ap (λ t. is t n) (shown-three out x y l p e f) ∙ ap (λ i. next i (λ t at. is (map shown t) at)) read
+pub country-is : (at n : ℕ) (s out : List ℕ) (x y : ℕ) → length out ≡ 3 → is out n ≡ field 3 inCountry at s → x ≡ shown (getD out 1 0)
+    → y ≡ shown (getD (set out 1 x) 2 0) → is (set (set out 1 x) 2 y) n ≡ country at s
+country-is at n s out x y l read e f =
+    let p = kept-all (isCountry 32 out) rule.CountryCode none (field-keeps 3 inCountry at s out n (sym read)) .0 in
+    ap (λ t. is t n) (shown-three out x y l p e f) ∙ ap (λ i. pass i (λ t at. is (map shown t) at)) read
 
-pub country-wrong : (at : ℕ) (s : List ℕ) → not 5 at ≡ field 3 (isCountry 32) at s → not 5 at ≡ country at s
-country-wrong at s e = ap (λ i. next i (λ t at. is (map shown t) at)) e
+pub country-not : (at : ℕ) (s : List ℕ) (rule : Rule) (place : ℕ) → not rule place ≡ field 3 inCountry at s → not rule place ≡ country at s
+country-not at s rule place e = ap (λ i. pass i (λ t at. is (map shown t) at)) e
 
 -- names that were read, with the reference's length beside them
-measured-is : (size n : ℕ) (names : Names) (i : Item Names) → length (names .reference) ≡ size → is names n ≡ i → is (record { length = size; names = names }) n ≡ through measured i
+measured-is : (size n : ℕ) (names : Names) (i : Way Names) → length (names .reference) ≡ size → is names n ≡ i
+    → is (record { length = size; names = names }) n ≡ through measured i
 measured-is size n names i e read = ap (λ k. is (record { length = k; names = names }) n) (sym e) ∙ ap (through measured) read
 
 -- version 3: nine characters at the start of a text
-pub names-three : (at n : ℕ) (s t rest : List ℕ) → length t ≡ 9 → is t n ≡ field 9 nine at s → is (record { length = 5; names = record { signer = take 4 (t ++ rest); reference = take 5 (drop 4 (t ++ rest)) } }) n ≡ through measured (names three at s)
+pub names-three : (at n : ℕ) (s t rest : List ℕ) → length t ≡ 9 → is t n ≡ field 9 inNine at s
+    → is (record { length = 5; names = record { signer = take 4 (t ++ rest); reference = take 5 (drop 4 (t ++ rest)) } }) n ≡ through measured (names three at s)
 names-three at n s t rest l read =
     measured-is 5 n _ (names three at s) (length-take-le 5 (drop 4 (t ++ rest)) (omega (arith, length-drop 4 (t ++ rest), length-append t rest)))
     (ap (λ u. is (record { signer = u; reference = take 5 (drop 4 (t ++ rest)) }) n) (take-append-le 4 t rest (omega arith))
     ∙ ap (λ u. is (record { signer = take 4 t; reference = u }) n) (ap (take 5) (drop-append-le 4 t rest (omega arith)) ∙ take-at (drop 4 t) rest 5 (length-drop 4 t ∙ omega arith))
-    ∙ ap (λ i. next i (λ t at. is (record { signer = take 4 t; reference = drop 4 t }) at)) read)
+    ∙ ap (λ i. next item.Names i (λ t at. is (record { signer = take 4 t; reference = drop 4 t }) at)) read)
 
-pub names-three-not : (at : ℕ) (s t : List ℕ) (r : Step) (why : Refusal) → Unread r → stepOf 5 at t r ≡ field 9 nine at s → why ≡ whyOf {A = Unit} (stepOf 5 at tt r) → not (why .number) (why .place) ≡ through measured (names three at s)
-names-three-not at s t r why u read e = ap (through measured) (refusal-on at r u (field 9 nine at s) (λ t at. is (record { signer = take 4 t; reference = drop 4 t }) at) t why read e)
+pub names-three-not : (at : ℕ) (s : List ℕ) (rule : Rule) (place : ℕ) (w : Refusal) → not rule place ≡ field 9 inNine at s
+    → w ≡ because (why item.Names rule) place
+    → not (w .why) (w .place) ≡ through measured (names three at s)
+names-three-not at s rule place w read e =
+    ap (through measured)
+    (unread-on item.Names (field 9 inNine at s) (λ t at. is (record { signer = take 4 t; reference = drop 4 t }) at) rule place w e read)
 
 -- version 4: six characters that were read at the start of a text, and the length that their digits give
 pub record Six (at : ℕ) (s x : List ℕ) (m size : ℕ) : Type 0 where
   pub long : length x ≡ 6
-  pub read : is x m ≡ field 6 isSix at s
+  pub read : is x m ≡ field 6 inSix at s
   pub is-size : size ≡ lengthIn x
   pub some : 0 < size
   pub most : size ≤ 255
 
-pub six-there : (at : ℕ) (s x rest : List ℕ) (m h l : ℕ) → length x ≡ 6 → is x m ≡ field 6 isSix at s → h ≡ hexValue (getD (x ++ rest) 4 0) → l ≡ hexValue (getD (x ++ rest) 5 0) → Six at s x m (h * 16 + l)
+pub six-there : (at : ℕ) (s x rest : List ℕ) (m h l : ℕ) → length x ≡ 6 → is x m ≡ field 6 inSix at s → h ≡ hexValue (getD (x ++ rest) 4 0)
+    → l ≡ hexValue (getD (x ++ rest) 5 0) → Six at s x m (h * 16 + l)
 six-there at s x rest m h l long read high low =
     let same : h * 16 + l ≡ lengthIn x =
     ap (λ k. k * 16 + l) (high ∙ ap hexValue (List·getD-append x rest 0 4 (omega arith))) ∙ ap (λ k. hexValue (getD x 4 0) * 16 + k) (low ∙ ap hexValue (List·getD-append x rest 0 5 (omega arith))) in
@@ -144,10 +102,13 @@ part-long t size h =
 
 module _ (at : ℕ) (s x : List ℕ) (m size : ℕ) (six : Six at s x m size) (k : ℕ) (asked : k ≡ size) where
   -- the reference's item is what is left of the names
-  names-rest : next (field k (all isReference) m s) (named x) ≡ names four at s
-  names-rest = ap (λ j. next (field j (all isReference) m s) (named x)) (asked ∙ six .is-size) ∙ ap (λ i. next i (after s)) (six .read)
+  names-rest : next item.Reference (field k inReference m s) (named x) ≡ names four at s
+  names-rest =
+      ap (λ j. next item.Reference (field j inReference m s) (named x)) (asked ∙ six .is-size)
+      ∙ ap (λ i. next item.SignerAndLength i (after s)) (six .read)
 
-  pub names-four : (y rest post : List ℕ) (n : ℕ) → length y ≡ size → is y n ≡ field k (all isReference) m s → is (record { length = size; names = record { signer = take 4 (take 4 (x ++ rest) ++ (y ++ post)); reference = take size (drop 4 (take 4 (x ++ rest) ++ (y ++ post))) } }) n ≡ through measured (names four at s)
+  pub names-four : (y rest post : List ℕ) (n : ℕ) → length y ≡ size → is y n ≡ field k inReference m s
+      → is (record { length = size; names = record { signer = take 4 (take 4 (x ++ rest) ++ (y ++ post)); reference = take size (drop 4 (take 4 (x ++ rest) ++ (y ++ post))) } }) n ≡ through measured (names four at s)
   names-four y rest post n long read =
       let f = take 4 (x ++ rest) in
       let front : f ≡ take 4 x = take-append-le 4 x rest (omega (arith, six .long)) in
@@ -156,11 +117,17 @@ module _ (at : ℕ) (s x : List ℕ) (m size : ℕ) (six : Six at s x m size) (k
       measured-is size n _ (names four at s) (ap length back ∙ long)
       (ap (λ u. is (record { signer = u; reference = take size (drop 4 (f ++ (y ++ post))) }) n) (take-at f (y ++ post) 4 four-long ∙ front)
       ∙ ap (λ u. is (record { signer = take 4 x; reference = u }) n) back
-      ∙ ap (λ i. next i (named x)) read
+      ∙ ap (λ i. next item.Reference i (named x)) read
       ∙ names-rest)
 
-  pub names-four-not : (y : List ℕ) (r : Step) (why : Refusal) → Unread r → stepOf 5 m y r ≡ field k (all isReference) m s → why ≡ whyOf {A = Unit} (stepOf 5 m tt r) → not (why .number) (why .place) ≡ through measured (names four at s)
-  names-four-not y r why u read e = ap (through measured) (refusal-on m r u (field k (all isReference) m s) (named x) y why read e ∙ names-rest)
+  pub names-four-not : (rule : Rule) (place : ℕ) (w : Refusal) → not rule place ≡ field k inReference m s
+      → w ≡ because (why item.Reference rule) place
+      → not (w .why) (w .place) ≡ through measured (names four at s)
+  names-four-not rule place w read e =
+      ap (through measured) (unread-on item.Reference (field k inReference m s) (named x) rule place w e read ∙ names-rest)
 
-pub names-six-not : (at : ℕ) (s t : List ℕ) (r : Step) (why : Refusal) → Unread r → stepOf 5 at t r ≡ field 6 isSix at s → why ≡ whyOf {A = Unit} (stepOf 5 at tt r) → not (why .number) (why .place) ≡ through measured (names four at s)
-names-six-not at s t r why u read e = ap (through measured) (refusal-on at r u (field 6 isSix at s) (after s) t why read e)
+pub names-six-not : (at : ℕ) (s : List ℕ) (rule : Rule) (place : ℕ) (w : Refusal) → not rule place ≡ field 6 inSix at s
+    → w ≡ because (why item.SignerAndLength rule) place
+    → not (w .why) (w .place) ≡ through measured (names four at s)
+names-six-not at s rule place w read e =
+    ap (through measured) (unread-on item.SignerAndLength (field 6 inSix at s) (after s) rule place w e read)

@@ -1,12 +1,11 @@
--- Laws of the items that are C40 text: what a reading of C40 gives, and a field by its parts.
+-- What a reading of C40 into a text says of the bytes: text of exactly its size, or the place of the first pair that is wrong.
 -- Assumes nothing.
-use mathlib.Core.Path.{_≡_, refl, ap, sym, subst, _∙_}
-use mathlib.Core.Bool.{false}
+use mathlib.Core.Path.{_≡_, refl, ap, sym, _∙_}
 use Prim.Native.Nat.{ℕ, _+_, _-_, _%_, _≤_, _<_}
 use native.Mathlib.Omega.{arith}
-use borrow.Author.Tests.{eq-eqb, ne-eqb, eqb-true, eqb-false, ltb-true, ltb-false}
+use borrow.Author.Tests.{eq-eqb, ne-eqb, ltb-true, ltb-false}
 use mathlib.Core.List.{List, [], _++_, append-nil}
-use lib.Dec.{ltb, eqb}
+use lib.Dec.{ltb}
 use lib.ListN.{length, drop, length-append, length-drop}
 use Rattle.format.specs.Choice.{pick}
 use Rattle.format.specs.Choice.Laws.{by-test}
@@ -17,21 +16,18 @@ use Rattle.c40.specs.Calls.{reading, readingOf}
 use Rattle.c40.specs.Calls.Laws.{reading-wrong, reading-no-room, reading-done}
 use Rattle.c40.specs.declared.decode.Fault.{Fault}
 use Rattle.c40.specs.declared.Reading.{Reading}
-use Rattle.c40.specs.declared.Reading.the-variants.{Done}
-use Rattle.verdict.specs.Items.{exactly}
-use Rattle.names.specs.Cases.{Sized, Fills}
+use Rattle.c40.specs.declared.Reading.the-variants.{Done, WrongPair}
+use Rattle.c40.specs.Text.{width}
+use Rattle.verdict.specs.Items.{exact, wrongAt, exactly}
+use Rattle.names.specs.Cases.{Sized}
 
--- text of exactly k characters: what is wrongly coded is none, nor is text of another length
-pub exactly-wrong : (k : ℕ) (fault : Fault) (at : ℕ) (d : Decoded) → d ≡ wrong fault at → exactly k d ≡ []
-exactly-wrong k fault at d e = ap (exactly k) e
+-- text of exactly k characters, and text of another length
+exactly-text : (k : ℕ) (t : List ℕ) → length t ≡ k → exactly k (text t) ≡ exact t
+exactly-text k t h = ap (λ b. pick b (exact t) (wrongAt (width k - 2))) (eq-eqb (length t) k h)
 
-pub exactly-other : (k : ℕ) (t : List ℕ) (d : Decoded) → d ≡ text t → (length t ≡ k → ⊥) → exactly k d ≡ []
-exactly-other k t d e h = ap (exactly k) e ∙ ap (λ b. pick b t []) (ne-eqb (length t) k h)
+exactly-other : (k : ℕ) (t : List ℕ) → (length t ≡ k → ⊥) → exactly k (text t) ≡ wrongAt (width k - 2)
+exactly-other k t h = ap (λ b. pick b (exact t) (wrongAt (width k - 2))) (ne-eqb (length t) k h)
 
-pub exactly-text : (k : ℕ) (t : List ℕ) (d : Decoded) → d ≡ text t → length t ≡ k → exactly k d ≡ t
-exactly-text k t d e h = ap (exactly k) e ∙ ap (λ b. pick b t []) (eq-eqb (length t) k h)
-
--- what a reading of C40 into a text of a field's size leaves: the text exactly where it fills the room
 module _ (bytes room out : List ℕ) (sized : Sized bytes room) (r : Reading) (answer : readingOf r ≡ told (reading bytes (length room))) (buffer : out ≡ filled (reading bytes (length room)) room) where
   few : length bytes ≤ 4096
   few = omega (arith, sized .0, sized .1 .1)
@@ -39,55 +35,72 @@ module _ (bytes room out : List ℕ) (sized : Sized bytes room) (r : Reading) (a
   even : length bytes % 2 ≡ 1 → ⊥
   even h = omega (arith, sized .0)
 
-  -- a refusal's number, and the buffer as it was
-  refused-is : (number place : ℕ) → reading bytes (length room) ≡ refused number place → (readingOf r .number ≡ number) × (out ≡ room)
-  refused-is number place e = (ap (λ (a : Answer). a .number) (answer ∙ ap told e), buffer ∙ ap (λ o. filled o room) e)
+  -- what the answer is, by what is decoded
+  answered : {C : Type 0}
+      → ((fault : Fault) (at : ℕ) → decode 0 bytes ≡ wrong fault at → readingOf r ≡ told (refused 41 at) → C)
+      → ((t : List ℕ) → decode 0 bytes ≡ text t → length room < length t → readingOf r ≡ told (refused 42 0) → C)
+      → ((t : List ℕ) → decode 0 bytes ≡ text t → length t ≤ length room → readingOf r ≡ told (done t) → out ≡ t ++ drop (length t) room → C)
+      → C
+  answered {C} bad long good = by (decode 0 bytes) refl
+    where
+      by : (d : Decoded) → decode 0 bytes ≡ d → C
+      by (wrong fault at) e = bad fault at e (answer ∙ ap told (reading-wrong bytes (length room) few even fault at e))
+      by (text t) e =
+          by-test (ltb (length room) (length t))
+          (λ b. let more = ltb-true (length room) (length t) b in
+          long t e more (answer ∙ ap told (reading-no-room bytes (length room) few even t e more)))
+          (λ b. let fits = ltb-false (length room) (length t) b in
+          let is-done = reading-done bytes (length room) few even t e fits in
+          good t e fits (answer ∙ ap told is-done) (buffer ∙ ap (λ o. filled o room) is-done))
 
-  done-is : (t : List ℕ) → reading bytes (length room) ≡ done t → (readingOf r .number ≡ 0) × ((readingOf r .count ≡ length t) × (out ≡ t ++ drop (length t) room))
-  done-is t e = (ap (λ (a : Answer). a .number) (answer ∙ ap told e), (ap (λ (a : Answer). a .count) (answer ∙ ap told e), buffer ∙ ap (λ o. filled o room) e))
+  number-of : (a : Answer) → readingOf r ≡ a → readingOf r .number ≡ a .number
+  number-of a e = ap (λ (z : Answer). z .number) e
 
-  fills-not-in : (d : Decoded) → decode 0 bytes ≡ d → 0 < readingOf r .number → exactly (length out) (decode 0 bytes) ≡ []
-  fills-not-in (wrong fault at) e h = exactly-wrong (length out) fault at (decode 0 bytes) e
-  fills-not-in (text t) e h =
-      by-test (ltb (length room) (length t))
-      (λ b.
-      let more = ltb-true (length room) (length t) b in
-      let q = refused-is 42 0 (reading-no-room bytes (length room) few even t e more) in
-      let same : length out ≡ length room = ap length (q .1) in
-      exactly-other (length out) t (decode 0 bytes) e (λ f. omega arith))
-      (λ b.
-      let q = done-is t (reading-done bytes (length room) few even t e (ltb-false (length room) (length t) b)) in
-      absurd (omega (arith, q .0)))
+  -- done, and the text fills the room
+  pub filled-exactly : (count : ℕ) → r ≡ Done count → count ≡ length out → exact out ≡ exactly (length room) (decode 0 bytes)
+  filled-exactly count is-done full =
+      let z : readingOf r .number ≡ 0 = ap (λ q. readingOf q .number) is-done in
+      let many : readingOf r .count ≡ count = ap (λ q. readingOf q .count) is-done in
+      answered
+      (λ fault at e a. absurd (omega (arith, number-of (told (refused 41 at)) a)))
+      (λ t e more a. absurd (omega (arith, number-of (told (refused 42 0)) a)))
+      (λ t e fits a o.
+      let same : count ≡ length t = sym many ∙ ap (λ (z : Answer). z .count) a in
+      let long : length out ≡ length room =
+      ap length o ∙ omega (arith, length-append t (drop (length t) room), length-drop (length t) room) in
+      let is-out : out ≡ t = o ∙ ap (λ u. t ++ u) (past-end room (length t) (omega arith)) ∙ append-nil t in
+      ap exact is-out ∙ sym (exactly-text (length room) t (omega arith)) ∙ ap (exactly (length room)) (sym e))
 
-  -- refused: no text of the size
-  pub fills-not : 0 < readingOf r .number → Fills false bytes out
-  fills-not h = fills-not-in (decode 0 bytes) refl h
+  -- done, and it does not
+  pub filled-less : (count : ℕ) → r ≡ Done count → (count ≡ length out → ⊥)
+      → wrongAt (width (length room) - 2) ≡ exactly (length room) (decode 0 bytes)
+  filled-less count is-done less =
+      let z : readingOf r .number ≡ 0 = ap (λ q. readingOf q .number) is-done in
+      let many : readingOf r .count ≡ count = ap (λ q. readingOf q .count) is-done in
+      answered
+      (λ fault at e a. absurd (omega (arith, number-of (told (refused 41 at)) a)))
+      (λ t e more a. absurd (omega (arith, number-of (told (refused 42 0)) a)))
+      (λ t e fits a o.
+      let same : count ≡ length t = sym many ∙ ap (λ (z : Answer). z .count) a in
+      let long : length out ≡ length room =
+      ap length o ∙ omega (arith, length-append t (drop (length t) room), length-drop (length t) room) in
+      sym (exactly-other (length room) t (λ h. less (same ∙ h ∙ sym long))) ∙ ap (exactly (length room)) (sym e))
 
-  fills-done-in : (count : ℕ) → readingOf r ≡ record { number = 0; place = 0; count = count } → (d : Decoded) → decode 0 bytes ≡ d → Fills (eqb count (length out)) bytes out
-  fills-done-in count e (wrong fault at) f =
-      let q = refused-is 41 at (reading-wrong bytes (length room) few even fault at f) in
-      let z : readingOf r .number ≡ 0 = ap (λ (a : Answer). a .number) e in
-      absurd (omega (arith, q .0))
-  fills-done-in count e (text t) f =
-      let z : readingOf r .number ≡ 0 = ap (λ (a : Answer). a .number) e in
-      let z2 : readingOf r .count ≡ count = ap (λ (a : Answer). a .count) e in
-      by-test (ltb (length room) (length t))
-      (λ b.
-      let q = refused-is 42 0 (reading-no-room bytes (length room) few even t f (ltb-true (length room) (length t) b)) in
-      absurd (omega (arith, q .0)))
-      (λ b.
-      let q = done-is t (reading-done bytes (length room) few even t f (ltb-false (length room) (length t) b)) in
-      let fits = ltb-false (length room) (length t) b in
-      let same : count ≡ length t = omega (arith, q .1 .0) in
-      let long : length out ≡ length room = ap length (q .1 .1) ∙ omega (arith, length-append t (drop (length t) room), length-drop (length t) room) in
-      by-test (eqb count (length out))
-      (λ g.
-      let whole : length t ≡ length out = omega (arith, eqb-true count (length out) g) in
-      let is-out : out ≡ t = q .1 .1 ∙ ap (λ u. t ++ u) (past-end room (length t) (omega arith)) ∙ append-nil t in
-      subst (λ b. Fills b bytes out) (sym g) (exactly-text (length out) t (decode 0 bytes) f whole ∙ sym is-out))
-      (λ g.
-      subst (λ b. Fills b bytes out) (sym g) (exactly-other (length out) t (decode 0 bytes) f (λ h. eqb-false count (length out) g (same ∙ h)))))
+  -- a pair that is wrongly coded
+  pub filled-wrong : (fault : Fault) (at : ℕ) → r ≡ WrongPair fault at → wrongAt at ≡ exactly (length room) (decode 0 bytes)
+  filled-wrong fault at is-wrong =
+      let z : readingOf r .number ≡ 41 = ap (λ q. readingOf q .number) is-wrong in
+      let where-is : readingOf r .place ≡ at = ap (λ q. readingOf q .place) is-wrong in
+      answered
+      (λ f p e a. ap wrongAt (sym where-is ∙ ap (λ (z : Answer). z .place) a) ∙ ap (exactly (length room)) (sym e))
+      (λ t e more a. absurd (omega (arith, number-of (told (refused 42 0)) a)))
+      (λ t e fits a o. absurd (omega (arith, number-of (told (done t)) a)))
 
-  -- done: whether the text has the size
-  pub fills-done : (count : ℕ) → r ≡ Done count → Fills (eqb count (length out)) bytes out
-  fills-done count e = fills-done-in count (ap readingOf e) (decode 0 bytes) refl
+  -- any other answer: the text is longer than the room
+  pub filled-more : (readingOf r .number ≡ 0 → ⊥) → (readingOf r .number ≡ 41 → ⊥)
+      → wrongAt (width (length room) - 2) ≡ exactly (length room) (decode 0 bytes)
+  filled-more not-done not-wrong =
+      answered
+      (λ fault at e a. absurd (not-wrong (number-of (told (refused 41 at)) a)))
+      (λ t e more a. sym (exactly-other (length room) t (λ h. omega arith)) ∙ ap (exactly (length room)) (sym e))
+      (λ t e fits a o. absurd (not-done (number-of (told (done t)) a)))

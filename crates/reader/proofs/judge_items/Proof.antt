@@ -67,7 +67,7 @@ returns c =
     let why = c .before .why .ensures ∙ ap (λ f. whyOf (frontOf [] [] f)) (told .enum-told .given .1) in
     judged-refused _ _ _ _ _
     (judge-fields _ (short on) _ _
-    (ap (λ w. not (w .number) (w .place)) why ∙ sym (ap (frontOf (on .read-front .last .1 .0) (on .read-front .last .1 .1 .0)) (told .enum-told .given .1)) ∙ on .read-front .ensures .0))
+    (ap (λ w. not (w .why) (w .place)) why ∙ sym (ap (frontOf (on .read-front .last .1 .0) (on .read-front .last .1 .1 .0)) (told .enum-told .given .1)) ∙ on .read-front .ensures .0))
     (c .not-good .ensures)
 
 returns-2 : tie.Need-returns-2
@@ -77,7 +77,7 @@ returns-2 c =
     let why = c .before .why2 .ensures ∙ ap (λ f. whyOf (restOf f)) (told .enum-told2 .given .1) in
     judged-refused _ _ _ _ _
     (judge-dated _ (short (on .before .before .before .before)) _ _ (front-read (on .before)) _ _
-    (ap (λ w. not (w .number) (w .place)) why ∙ sym (ap restOf (told .enum-told2 .given .1)) ∙ on .read-rest .ensures))
+    (ap (λ w. not (w .why) (w .place)) why ∙ sym (ap restOf (told .enum-told2 .given .1)) ∙ on .read-rest .ensures))
     (c .not-good2 .ensures)
 
 returns-3 : tie.Need-returns-3
@@ -87,7 +87,7 @@ returns-3 c =
     let why = c .before .why3 .ensures ∙ ap (λ f. whyOf (featuresOf f)) (told .enum-told3 .given .1) in
     judged-refused _ _ _ _ _
     (judge-features _ (short (on .before .before .before .before .before .before .before .before)) _ _ (front-read (on .before .before .before .before .before)) _ _ (rest-read (on .before)) _ _
-    (through-unread length _ _ _ (ap (λ w. not (w .number) (w .place)) why ∙ sym (ap featuresOf (told .enum-told3 .given .1)) ∙ on .read-features .ensures)))
+    (through-unread length _ _ _ (ap (λ w. not (w .why) (w .place)) why ∙ sym (ap featuresOf (told .enum-told3 .given .1)) ∙ on .read-features .ensures)))
     (c .not-good3 .ensures)
 
 add-next : tie.Need-add-next
@@ -107,7 +107,7 @@ returns-4 c =
     judged-refused _ _ _ _ _
     (judge-signature _ (short (on .before .before .before .before .before .before .before .before .before .before .before .before .before)) _ _ (front-read (on .before .before .before .before .before .before .before .before .before .before)) _ _
     (rest-read (on .before .before .before .before .before .before)) (rows .rows) _ (rows .read) _ _
-    (ap (λ w. not (w .number) (w .place)) why ∙ sym (ap signatureOf (told .enum-told4 .given .1)) ∙ on .read-signature .ensures))
+    (ap (λ w. not (w .why) (w .place)) why ∙ sym (ap signatureOf (told .enum-told4 .given .1)) ∙ on .read-signature .ensures))
     (c .not-good4 .ensures)
 
 returns-5 : tie.Need-returns-5

@@ -17,9 +17,12 @@ use Rattle.grammar.specs.Publish.{lengthOf, headerZone}
 use Rattle.grammar.specs.Legal.{ReferenceSize}
 use Rattle.grammar.specs.Sizes.{features-most}
 use Rattle.rows.specs.Rows.{width, table}
-use Rattle.verdict.specs.Items.{is}
+use Rattle.causes.specs.declared.Item.the-variants as item
+use Rattle.causes.specs.declared.Rule.the-variants as rule
+use Rattle.verdict.specs.Items.{is, not, why}
 use Rattle.verdict.specs.Items.Sound.{steps, same-value}
-use Rattle.verdict.specs.Judge.{Report, Verdict, accepted, refused, header, features, signature, verdict, reading as readingOf, judge}
+use Rattle.verdict.specs.Judge.{Report, Verdict, accepted, refused, header, features, signature, verdict, reading as readingOf, judging}
+use Rattle.verdict.specs.Judge.{judge}
 use Rattle.verdict.specs.Judge.Complete.{reportOf}
 use Rattle.verdict.specs.Judge.Features.{rowsOf}
 use Rattle.verdict.specs.Judge.Sound.{verdict-read, unaccepted}
@@ -79,12 +82,13 @@ rows-many v at (f ∷ fs) =
     ap suc ih
 
 walk : (s : List ℕ) (r : Report) → judge s ≡ accepted r → features 256 (r .header .version) [] (r .header-end) s ≡ is (r .rows) (r .message-end)
-unfolding judge readingOf
+unfolding judge judging readingOf
 walk s r e =
     by-test (ltb 4096 (length s))
-    (λ t. absurd (unaccepted 1 4096 r (sym (ap (λ b. pick b (refused 1 4096) (verdict (readingOf s))) t) ∙ e)))
+    (λ t. absurd (unaccepted 1 4096 r (sym (ap (λ b. verdict (pick b (not (why item.Seal rule.NotTooLong) 4096) (readingOf s))) t) ∙ e)))
     (λ t.
-    let v = verdict-read (readingOf s) r (sym (ap (λ b. pick b (refused 1 4096) (verdict (readingOf s))) t) ∙ e) in
+    let v =
+    verdict-read (readingOf s) r (sym (ap (λ b. verdict (pick b (not (why item.Seal rule.NotTooLong) 4096) (readingOf s))) t) ∙ e) in
     let i0 = steps (header s) _ r (v .end) (v .read) in
     let i1 = steps (features 256 (i0 .value .version) [] (i0 .at) s) _ r (v .end) (i0 .goes-on) in
     let i2 = steps (signature (i1 .at + 1) s) _ r (v .end) (i1 .goes-on) in

@@ -9,9 +9,11 @@ use lib.ListN.{length, take, drop, getD}
 use Rattle.format.specs.Choice.{pick}
 use Rattle.format.specs.Choice.Laws.{by-test}
 use Rattle.grammar.specs.Content.{Version}
-use Rattle.verdict.specs.Items.{is, not, next, byte, plainIn}
+use Rattle.causes.specs.declared.Item.the-variants as item
+use Rattle.causes.specs.declared.Rule.the-variants as rule
+use Rattle.verdict.specs.Items.{Way, is, not, why, pass, byte, plainIn}
 use Rattle.verdict.specs.Items.Laws.{unread, whole-read}
-use Rattle.verdict.specs.Items.Sound.{steps, same-value, same-place}
+use Rattle.verdict.specs.Items.Sound.{steps, steps-on, same-value, same-place}
 use Rattle.items.specs.Cases.Laws.{whole-is, read-byte}
 use Rattle.verdict.specs.Judge.{Row, used, tagIn, tag, row, features}
 use Rattle.reader.specs.Rows.{rowsAt, rowsRead, AreRead}
@@ -24,8 +26,8 @@ tag-plain rows at s x after e =
     let y = getD (take 1 (drop at s)) 0 0 in
     whole-is 1 at s (λ b. plainIn at (getD b 0 0)) (w .there)
     ∙ by-test (used y rows)
-    (λ t. absurd (unread 9 at x after (sym (ap (λ c. pick c (not 9 at) (is y (at + 1))) t) ∙ w .read)))
-    (λ t. sym (ap (λ c. pick c (not 9 at) (is y (at + 1))) t) ∙ w .read)
+    (λ t. absurd (unread rule.NotUsedBefore at x after (sym (ap (λ c. pick c (not rule.NotUsedBefore at) (is y (at + 1))) t) ∙ w .read)))
+    (λ t. sym (ap (λ c. pick c (not rule.NotUsedBefore at) (is y (at + 1))) t) ∙ w .read)
 
 -- features that were judged, after those before: the rows that are added, which are read again
 pub record Again (v : Version) (before : List Row) (at : ℕ) (s : List ℕ) (rows : List Row) (end : ℕ) : Type 0 where
@@ -46,15 +48,15 @@ one-more v before at mid after s x r rows end b e g = record {
 
 pub features-again : (more : ℕ) (v : Version) (before : List Row) (at : ℕ) (s : List ℕ) (rows : List Row) (end : ℕ) → features more v before at s ≡ is rows end → Again v before at s rows end
 unfolding features rowsAt
-features-again zero v before at s rows end e = absurd (unread 9 at rows end e)
+features-again zero v before at s rows end e = absurd (unread (why item.Tag rule.NotUsedBefore) at rows end e)
 features-again (suc more) v before at s rows end e =
-    let i = steps (tag before at s) _ rows end e in
+    let i = steps-on item.Tag (tag before at s) _ rows end e in
     let x = i .value in
     let plain = tag-plain before at s x (i .at) (i .read) in
-    let rest = next (row v x (i .at) s) (λ r at. features more v (before ++ (r ∷ [])) at s) in
+    let rest = pass (row v x (i .at) s) (λ r at. features more v (before ++ (r ∷ [])) at s) in
     by-test (eqb x 0xFF)
     (λ f.
-    let g : is before at ≡ is rows end = sym (ap (λ b. pick b (is before at) rest) f) ∙ i .goes-on in
+    let g : _≡_ {A = Way (List Row)} (is before at) (is rows end) = sym (ap (λ b. pick b (is before at) rest) f) ∙ i .goes-on in
     let place = same-place before rows at end g in
     record {
       added = [];

@@ -3,6 +3,7 @@
 use mathlib.Core.Path.{_≡_, refl, ap, sym, subst, _∙_}
 use mathlib.Core.Logic.{_⊎_, ⊎-elim}
 use mathlib.Core.Bool.{Bool, true}
+use mathlib.Core.Option.{none}
 use Prim.Native.Nat.{ℕ, _+_, _-_, _*_, _/_, _%_, _≤_}
 use native.Mathlib.Omega.{arith}
 use borrow.Author.Tests.{lt-ltb, ne-eqb}
@@ -26,7 +27,10 @@ use Rattle.grammar.specs.Legal.{Letter, Filler, Country, Signer, ReferenceChara
 use Rattle.grammar.specs.Parts.{country-text, signer-text, reference-text, Names as LegalNames, six, six-text, four-form}
 use Rattle.letters.specs.Characters.Grammar.{letter, reference-passes, all-pass, signer-passes}
 use Rattle.letters.specs.Characters.{isLetter, isReference, all, isCountry, isSigner, shown}
-use Rattle.verdict.specs.Items.{is, next, field, country, nine, lengthIn, isSix, named, after, names}
+use Rattle.causes.specs.declared.Rule.the-variants as rule
+use Rattle.causes.specs.declared.Item.the-variants as item
+use Rattle.verdict.specs.Items.{is, next, pass, unless, field, inCountry, country, inNine, lengthIn, isHex, inSix, inReference, named}
+use Rattle.verdict.specs.Items.{after, names}
 use Rattle.verdict.specs.Items.Laws.{field-there}
 
 -- a letter is carried as it is and a filler as a space, and back
@@ -72,7 +76,8 @@ country-passes (a ∷ b ∷ c ∷ d ∷ t) l = let e = l .size in absurd (omega 
 
 pub country-there : (p t rest : List ℕ) → Country t → country (length p) (p ++ (c40 (map carried t) ++ rest)) ≡ is t (length p + 2)
 country-there p t rest l =
-    ap (λ i. next i (λ t at. is (map shown t) at)) (field-there 3 (isCountry 32) p (map carried t) rest (country-text t l) (omega arith) (country-passes t l))
+    ap (λ i. pass i (λ t at. is (map shown t) at))
+    (field-there 3 inCountry p (map carried t) rest (country-text t l) (ap (λ b. unless b rule.CountryCode none) (country-passes t l)))
     ∙ ap (λ u. is u (length p + 2)) (all-shown t (l .letters))
 
 -- version 3: nine characters
@@ -80,10 +85,14 @@ pub names-three-there : (p s r rest : List ℕ) → LegalNames three (s, r) → 
 names-three-there p s r rest l =
     let ss = signer-text s (l .signer) in
     let text : TextOf 9 (s ++ r) = (length-append s r ∙ omega (arith, ss .0, l .size), all-append InChart s r (ss .1) (reference-text r (l .reference))) in
-    let passes : nine (s ++ r) ≡ true =
-    ap (λ u. both (isSigner u) (all isReference (drop 4 (s ++ r)))) (take-at s r 4 (ss .0)) ∙ ap (λ b. both b (all isReference (drop 4 (s ++ r)))) (signer-passes s (l .signer))
-    ∙ ap (all isReference) (drop-at s r 4 (ss .0)) ∙ all-pass ReferenceCharacter isReference reference-passes r (l .reference) in
-    ap (λ i. next i (λ t at. is (record { signer = take 4 t; reference = drop 4 t }) at)) (field-there 9 nine p (s ++ r) rest text (omega arith) passes)
+    let first : isSigner (take 4 (s ++ r)) ≡ true = ap isSigner (take-at s r 4 (ss .0)) ∙ signer-passes s (l .signer) in
+    let second : all isReference (drop 4 (s ++ r)) ≡ true =
+    ap (all isReference) (drop-at s r 4 (ss .0)) ∙ all-pass ReferenceCharacter isReference reference-passes r (l .reference) in
+    let keeps : inNine (s ++ r) ≡ none =
+    ap (λ b. unless b rule.SignerCharacters (unless (all isReference (drop 4 (s ++ r))) rule.ReferenceCharacters none)) first
+    ∙ ap (λ b. unless b rule.ReferenceCharacters none) second in
+    ap (λ i. next item.Names i (λ t at. is (record { signer = take 4 t; reference = drop 4 t }) at))
+    (field-there 9 inNine p (s ++ r) rest text keeps)
     ∙ ap (λ u. is (record { signer = u; reference = drop 4 (s ++ r) }) (length p + 6)) (take-at s r 4 (ss .0))
     ∙ ap (λ u. is (record { signer = s; reference = u }) (length p + 6)) (drop-at s r 4 (ss .0))
 
@@ -98,7 +107,7 @@ six-length (a ∷ b ∷ c ∷ d ∷ []) n e h =
     ∙ ap (λ x. n / 16 * 16 + x) (digit-value (n % 16) (omega arith)) ∙ omega arith
 six-length (a ∷ b ∷ c ∷ d ∷ x ∷ t) n e h = absurd (omega arith)
 
-six-digits : (s : List ℕ) (n : ℕ) → length s ≡ 4 → n ≤ 255 → both (ltb (hexValue (getD (s ++ hexDigits n) 4 0)) 16) (ltb (hexValue (getD (s ++ hexDigits n) 5 0)) 16) ≡ true
+six-digits : (s : List ℕ) (n : ℕ) → length s ≡ 4 → n ≤ 255 → isHex (s ++ hexDigits n) ≡ true
 six-digits [] n e h = absurd (omega arith)
 six-digits (a ∷ []) n e h = absurd (omega arith)
 six-digits (a ∷ b ∷ []) n e h = absurd (omega arith)
@@ -110,14 +119,15 @@ six-digits (a ∷ b ∷ c ∷ d ∷ []) n e h =
     ∙ lt-ltb (n % 16) 16 (omega arith)
 six-digits (a ∷ b ∷ c ∷ d ∷ x ∷ t) n e h = absurd (omega arith)
 
-six-passes : (s : List ℕ) (n : ℕ) → Signer s → 1 ≤ n → n ≤ 255 → isSix (s ++ hexDigits n) ≡ true
-six-passes s n l some most =
+six-keeps : (s : List ℕ) (n : ℕ) → Signer s → 1 ≤ n → n ≤ 255 → inSix (s ++ hexDigits n) ≡ none
+six-keeps s n l some most =
     let t = s ++ hexDigits n in
-    let rest = both (both (ltb (hexValue (getD t 4 0)) 16) (ltb (hexValue (getD t 5 0)) 16)) (ltb 0 (lengthIn t)) in
-    ap (λ u. both (isSigner u) rest) (take-at s (hexDigits n) 4 (l .size)) ∙ ap (λ b. both b rest) (signer-passes s l)
-    ∙ ap (λ b. both b (ltb 0 (lengthIn t))) (six-digits s n (l .size) most)
-    ∙ ap (λ k. ltb 0 k) (six-length s n (l .size) most)
-    ∙ lt-ltb 0 n (omega arith)
+    let length-rule = unless (ltb 0 (lengthIn t)) rule.NotZero none in
+    let signer : isSigner (take 4 t) ≡ true = ap isSigner (take-at s (hexDigits n) 4 (l .size)) ∙ signer-passes s l in
+    let some-length : ltb 0 (lengthIn t) ≡ true = ap (λ k. ltb 0 k) (six-length s n (l .size) most) ∙ lt-ltb 0 n (omega arith) in
+    ap (λ b. unless b rule.SignerCharacters (unless (isHex t) rule.HexadecimalDigits length-rule)) signer
+    ∙ ap (λ b. unless b rule.HexadecimalDigits length-rule) (six-digits s n (l .size) most)
+    ∙ ap (λ b. unless b rule.NotZero none) some-length
 
 pub names-four-there : (p s r rest : List ℕ) → LegalNames four (s, r) → names four (length p) (p ++ (form.names four s r ++ rest)) ≡ is (record { signer = s; reference = r }) (length p + length (form.names four s r))
 names-four-there p s r rest l =
@@ -129,15 +139,17 @@ names-four-there p s r rest l =
     let again : p ++ (c40 x ++ (c40 r ++ rest)) ≡ q ++ (c40 r ++ rest) = sym (append-assoc p (c40 x) (c40 r ++ rest)) in
     let wide : length q ≡ length p + 4 = length-append p (c40 x) ∙ ap (λ k. length p + k) (length-c40 x ∙ ap width (text .0)) in
     let all-wide : length p + 4 + width n ≡ length p + length (form.names four s r) = omega (arith, ap length (four-form (s, r) l), length-append (c40 x) (c40 r), length-c40 x, ap width (text .0), length-c40 r) in
-    let first = field-there 6 isSix p x (c40 r ++ rest) text (omega arith) (six-passes s n (l .signer) (l .size .0) (l .size .1)) in
-    let second : field n (all isReference) (length p + 4) (p ++ (c40 x ++ (c40 r ++ rest))) ≡ is r (length p + 4 + width n) =
-    ap (λ z. field n (all isReference) (length p + 4) z) again ∙ ap (λ k. field n (all isReference) k (q ++ (c40 r ++ rest))) (sym wide)
-    ∙ field-there n (all isReference) q r rest (refl, reference-text r (l .reference)) (omega (arith, l .size .0)) (all-pass ReferenceCharacter isReference reference-passes r (l .reference))
+    let first = field-there 6 inSix p x (c40 r ++ rest) text (six-keeps s n (l .signer) (l .size .0) (l .size .1)) in
+    let second : field n inReference (length p + 4) (p ++ (c40 x ++ (c40 r ++ rest))) ≡ is r (length p + 4 + width n) =
+    ap (λ z. field n inReference (length p + 4) z) again ∙ ap (λ k. field n inReference k (q ++ (c40 r ++ rest))) (sym wide)
+    ∙ field-there n inReference q r rest (refl, reference-text r (l .reference))
+    (ap (λ b. unless b rule.ReferenceCharacters none) (all-pass ReferenceCharacter isReference reference-passes r (l .reference)))
     ∙ ap (λ k. is r (k + width n)) wide in
     ap (names four (length p)) parts
-    ∙ ap (λ i. next i (after (p ++ (c40 x ++ (c40 r ++ rest))))) first
-    ∙ ap (λ k. next (field k (all isReference) (length p + 4) (p ++ (c40 x ++ (c40 r ++ rest)))) (named x)) (six-length s n (l .signer .size) (l .size .1))
-    ∙ ap (λ i. next i (named x)) second
+    ∙ ap (λ i. next item.SignerAndLength i (after (p ++ (c40 x ++ (c40 r ++ rest))))) first
+    ∙ ap (λ k. next item.Reference (field k inReference (length p + 4) (p ++ (c40 x ++ (c40 r ++ rest)))) (named x))
+    (six-length s n (l .signer .size) (l .size .1))
+    ∙ ap (λ i. next item.Reference i (named x)) second
     ∙ ap (λ u. is (record { signer = u; reference = r }) (length p + 4 + width n)) (take-at s (hexDigits n) 4 (l .signer .size))
     ∙ ap (λ k. is (record { signer = s; reference = r }) k) all-wide
 

@@ -2,7 +2,8 @@
 -- Assumes nothing.
 use mathlib.Core.Path.{_≡_, refl, ap, sym, subst, _∙_}
 use mathlib.Core.Logic.{_⊎_, inl, inr, ⊎-elim}
-use mathlib.Core.Bool.{Bool, true}
+use mathlib.Core.Bool.{Bool, true, false}
+use mathlib.Core.Option.{Option, none, some, Option·none-ne-some}
 use Prim.Native.Nat.{ℕ, _+_, _-_, _*_, _/_, _%_, _≤_, _<_}
 use native.Mathlib.Omega.{arith}
 use borrow.Author.Tests.{eqb-true, ltb-true}
@@ -30,47 +31,70 @@ use Rattle.format.specs.Table.Laws.{both-true, either-true}
 use Rattle.dates.specs.Days.Laws.{within-both}
 use Rattle.letters.specs.Characters.Grammar.{reference-of, all-of, signer-of}
 use Rattle.letters.specs.Characters.{isLetter, isReference, all, isCountry, isSigner, shown}
-use Rattle.verdict.specs.Items.{is, exactly, fieldIn, field, country, Names, nine, lengthIn, isSix, named, after, names}
-use Rattle.verdict.specs.Items.Laws.{whole-read}
+use Rattle.causes.specs.declared.Rule.{Rule}
+use Rattle.causes.specs.declared.Rule.the-variants as rule
+use Rattle.causes.specs.declared.Item.the-variants as item
+use Rattle.verdict.specs.Items.{is, exact, wrongAt, exactly, unless, judgedBy, fieldIn, field, inCountry, country, Names, inNine}
+use Rattle.verdict.specs.Items.{lengthIn, isHex, inSix, inReference, named, after, names}
+use Rattle.verdict.specs.Items.Laws.{whole-read, unread}
 use Rattle.verdict.specs.Items.Fields.{letter-carried, letter-shown}
-use Rattle.verdict.specs.Items.Sound.{Stands, stands-append, steps, stands, taken-size, same-value, same-place, passed}
+use Rattle.verdict.specs.Items.Sound.{Stands, stands-append, steps, steps-on, stands, taken-size, same-value, same-place}
 
--- text that was found is all that was decoded
-exactly-is : (k : ℕ) (d : Decoded) → 0 < length (exactly k d) → (d ≡ text (exactly k d)) × (length (exactly k d) ≡ k)
-exactly-is k (wrong fault at) h = absurd (omega arith)
-exactly-is k (text t) h =
-    by-test (eqb (length t) k)
-    (λ e. (sym (ap (λ b. text (pick b t [])) e), ap (λ b. length (pick b t [])) e ∙ eqb-true (length t) k e))
-    (λ e. absurd (no (subst (λ u. 0 < length u) (ap (λ b. pick b t []) e) h)))
-  where
-    no : 0 < 0 → ⊥
-    no h = omega arith
+-- text that was found is all that was decoded, and has k characters
+record Found (k : ℕ) (d : Decoded) (broken : List ℕ → Option Rule) (at : ℕ) (t : List ℕ) (after : ℕ) : Type 0 where
+  is-all : d ≡ text t
+  size : length t ≡ k
+  keeps : broken t ≡ none
+  place : at + width k ≡ after
 
-pub record FieldRead (k : ℕ) (good : List ℕ → Bool) (at : ℕ) (s t : List ℕ) (after : ℕ) : Type 0 where
+kept : (o : Option Rule) (u t : List ℕ) (at end after : ℕ) → judgedBy o u at end ≡ is t after → (o ≡ none) × (u ≡ t) × (end ≡ after)
+kept none u t at end after e = (refl, same-value u t end after e, same-place u t end after e)
+kept (some rule) u t at end after e = absurd (unread rule at t after e)
+
+found : (k : ℕ) (broken : List ℕ → Option Rule) (at : ℕ) (d : Decoded) (t : List ℕ) (after : ℕ)
+    → fieldIn k broken at (exactly k d) ≡ is t after → Found k d broken at t after
+found k broken at (wrong fault pair) t after e = absurd (unread rule.WellCoded at t after e)
+found k broken at (text u) t after e =
+    by-test (eqb (length u) k)
+    (λ b.
+    let p =
+    kept (broken u) u t at (at + width k) after (sym (ap (λ c. fieldIn k broken at (pick c (exact u) (wrongAt (width k - 2)))) b) ∙ e) in
+    record { is-all = ap text (p .1); size = subst (λ z. length z ≡ k) (p .1) (eqb-true (length u) k b); keeps = subst (λ z. broken z ≡ none) (p .1) (p .0); place = p .2 })
+    (λ b. absurd (unread rule.WellCoded at t after (sym (ap (λ c. fieldIn k broken at (pick c (exact u) (wrongAt (width k - 2)))) b) ∙ e)))
+
+pub record FieldRead (k : ℕ) (broken : List ℕ → Option Rule) (at : ℕ) (s t : List ℕ) (after : ℕ) : Type 0 where
   pub is-text : TextOf k t
-  pub passes : good t ≡ true
+  pub keeps : broken t ≡ none
   pub there : Stands (c40 t) at after s
 
-pub field-read : (k : ℕ) (good : List ℕ → Bool) (at : ℕ) (s t : List ℕ) (after : ℕ) → Bytes s → field k good at s ≡ is t after → FieldRead k good at s t after
-field-read k good at s t after bytes e =
-    let w = whole-read (width k) at s (λ b. fieldIn k good at (exactly k (decode 0 b))) t after e in
+pub field-read : (k : ℕ) (broken : List ℕ → Option Rule) (at : ℕ) (s t : List ℕ) (after : ℕ) → Bytes s → field k broken at s ≡ is t after
+    → FieldRead k broken at s t after
+field-read k broken at s t after bytes e =
+    let w = whole-read (width k) at s (λ b. fieldIn k broken at (exactly k (decode 0 b))) t after e in
     let b = take (width k) (drop at s) in
-    let u = exactly k (decode 0 b) in
-    let p = passed (both (ltb 0 (length u)) (good u)) (is u (at + width k)) 5 at t after (w .read) in
-    let q = both-true (ltb 0 (length u)) (good u) (p .0) in
-    let same = same-value u t (at + width k) after (p .1) in
-    let place = same-place u t (at + width k) after (p .1) in
-    let d = exactly-is k (decode 0 b) (ltb-true 0 (length u) (q .0)) in
-    let r = decodes-published b (bytes-take (width k) (drop at s) (bytes-drop at s bytes)) 0 u (d .0) in
-    let form-is : c40 t ≡ b = ap c40 (sym same) ∙ r .1 in
+    let f = found k broken at (decode 0 b) t after (w .read) in
+    let r = decodes-published b (bytes-take (width k) (drop at s) (bytes-drop at s bytes)) 0 t (f .is-all) in
     record {
-      is-text = subst (TextOf k) same (d .1, r .0);
-      passes = subst (λ z. good z ≡ true) same (q .1);
+      is-text = (f .size, r .0);
+      keeps = f .keeps;
       there = record {
-        form-there = stands (width k) at s (w .there) ∙ ap (λ z. z ++ drop (at + width k) s) (sym form-is) ∙ ap (λ n. c40 t ++ drop n s) place;
-        size = sym place ∙ ap (λ n. at + n) (sym (ap length form-is ∙ taken-size (width k) at s (w .there)));
+        form-there = stands (width k) at s (w .there) ∙ ap (λ z. z ++ drop (at + width k) s) (sym (r .1))
+            ∙ ap (λ n. c40 t ++ drop n s) (f .place);
+        size = sym (f .place) ∙ ap (λ n. at + n) (sym (ap length (r .1) ∙ taken-size (width k) at s (w .there)));
       };
     }
+
+-- what was read breaks no rule
+pub field-keeps : (k : ℕ) (broken : List ℕ → Option Rule) (at : ℕ) (s t : List ℕ) (after : ℕ) → field k broken at s ≡ is t after
+    → broken t ≡ none
+field-keeps k broken at s t after e =
+    let w = whole-read (width k) at s (λ b. fieldIn k broken at (exactly k (decode 0 b))) t after e in
+    found k broken at (decode 0 (take (width k) (drop at s))) t after (w .read) .keeps
+
+-- rules that are all kept
+pub kept-all : (b : Bool) (rule : Rule) (later : Option Rule) → unless b rule later ≡ none → (b ≡ true) × (later ≡ none)
+kept-all true rule later e = (refl, e)
+kept-all false rule later e = absurd (Option·none-ne-some rule (sym e))
 
 -- a country: letters, and spaces that are shown as fillers
 abbrev Carried : ℕ → Type 0
@@ -126,9 +150,9 @@ country-legal (a ∷ b ∷ c ∷ []) l e =
 
 pub country-read : (at : ℕ) (s t : List ℕ) (after : ℕ) → Bytes s → country at s ≡ is t after → Country t × Stands (c40 (map carried t)) at after s
 country-read at s t after bytes e =
-    let i = steps (field 3 (isCountry 32) at s) (λ t at. is (map shown t) at) t after e in
-    let f = field-read 3 (isCountry 32) at s (i .value) (i .at) bytes (i .read) in
-    let c = country-legal (i .value) (f .is-text .0) (f .passes) in
+    let i = steps (field 3 inCountry at s) (λ t at. is (map shown t) at) t after e in
+    let f = field-read 3 inCountry at s (i .value) (i .at) bytes (i .read) in
+    let c = country-legal (i .value) (f .is-text .0) (kept-all (isCountry 32 (i .value)) rule.CountryCode none (f .keeps) .0) in
     let same = same-value (map shown (i .value)) t (i .at) after (i .goes-on) in
     let place = same-place (map shown (i .value)) t (i .at) after (i .goes-on) in
     let form-is : c40 (i .value) ≡ c40 (map carried t) = ap c40 (sym (c .back) ∙ ap (map carried) same) in
@@ -137,17 +161,18 @@ country-read at s t after bytes e =
 -- version 3: nine characters
 pub names-three-read : (at : ℕ) (s : List ℕ) (n : Names) (after : ℕ) → Bytes s → names three at s ≡ is n after → LegalNames three (n .signer, n .reference) × Stands (c40 (n .signer ++ n .reference)) at after s
 names-three-read at s n after bytes e =
-    let i = steps (field 9 nine at s) (λ t at. is (record { signer = take 4 t; reference = drop 4 t }) at) n after e in
+    let i = steps-on item.Names (field 9 inNine at s) (λ t at. is (record { signer = take 4 t; reference = drop 4 t }) at) n after e in
     let t = i .value in
-    let f = field-read 9 nine at s t (i .at) bytes (i .read) in
-    let p = both-true (isSigner (take 4 t)) (all isReference (drop 4 t)) (f .passes) in
+    let f = field-read 9 inNine at s t (i .at) bytes (i .read) in
+    let p = kept-all (isSigner (take 4 t)) rule.SignerCharacters _ (f .keeps) in
+    let q = kept-all (all isReference (drop 4 t)) rule.ReferenceCharacters none (p .1) in
     let m : Names = record { signer = take 4 t; reference = drop 4 t } in
     let same = same-value m n (i .at) after (i .goes-on) in
     let place = same-place m n (i .at) after (i .goes-on) in
     let size : length t ≡ 9 = f .is-text .0 in
     let legal : LegalNames three (take 4 t, drop 4 t) = record {
       signer = signer-of (take 4 t) (length-take-le 4 t (omega arith)) (p .0);
-      reference = all-of ReferenceCharacter isReference reference-of (drop 4 t) (p .1);
+      reference = all-of ReferenceCharacter isReference reference-of (drop 4 t) (q .0);
       size = length-drop 4 t ∙ omega arith;
     } in
     let there : Stands (c40 (take 4 t ++ drop 4 t)) at after s = subst (λ u. Stands (c40 u) at after s) (sym (take-append-drop 4 t)) (subst (λ k. Stands (c40 t) at k s) place (f .there)) in
@@ -160,7 +185,7 @@ record Six (t : List ℕ) : Type 0 where
   most : lengthIn t ≤ 255
   back : take 4 t ++ hexDigits (lengthIn t) ≡ t
 
-six-of : (t : List ℕ) → length t ≡ 6 → isSix t ≡ true → Six t
+six-of : (t : List ℕ) → length t ≡ 6 → inSix t ≡ none → Six t
 six-of [] l e = absurd (omega arith)
 six-of (a ∷ []) l e = absurd (omega arith)
 six-of (a ∷ b ∷ []) l e = absurd (omega arith)
@@ -171,8 +196,9 @@ six-of (a ∷ b ∷ c ∷ d ∷ x ∷ y ∷ z ∷ t) l e = absurd (omega arith)
 six-of (a ∷ b ∷ c ∷ d ∷ x ∷ y ∷ []) l e =
     let t : List ℕ = a ∷ b ∷ c ∷ d ∷ x ∷ y ∷ [] in
     let n = hexValue x * 16 + hexValue y in
-    let p = both-true (isSigner (a ∷ b ∷ c ∷ d ∷ [])) (both (both (ltb (hexValue x) 16) (ltb (hexValue y) 16)) (ltb 0 n)) e in
-    let q = both-true (both (ltb (hexValue x) 16) (ltb (hexValue y) 16)) (ltb 0 n) (p .1) in
+    let p = kept-all (isSigner (a ∷ b ∷ c ∷ d ∷ [])) rule.SignerCharacters _ e in
+    let q = kept-all (isHex t) rule.HexadecimalDigits _ (p .1) in
+    let some-length = kept-all (ltb 0 n) rule.NotZero none (q .1) in
     let r = both-true (ltb (hexValue x) 16) (ltb (hexValue y) 16) (q .0) in
     let hx = ltb-true (hexValue x) 16 (r .0) in
     let hy = ltb-true (hexValue y) 16 (r .1) in
@@ -180,7 +206,7 @@ six-of (a ∷ b ∷ c ∷ d ∷ x ∷ y ∷ []) l e =
     let low : n % 16 ≡ hexValue y = omega arith in
     record {
       signer = signer-of (a ∷ b ∷ c ∷ d ∷ []) refl (p .0);
-      some = omega (arith, ltb-true 0 n (q .1));
+      some = omega (arith, ltb-true 0 n (some-length .0));
       most = omega arith;
       back =
           ap (λ u. a ∷ b ∷ c ∷ d ∷ u ∷ hexDigit (n % 16) ∷ []) (ap hexDigit high ∙ value-digit x hx)
@@ -189,20 +215,21 @@ six-of (a ∷ b ∷ c ∷ d ∷ x ∷ y ∷ []) l e =
 
 pub names-four-read : (at : ℕ) (s : List ℕ) (n : Names) (end : ℕ) → Bytes s → names four at s ≡ is n end → LegalNames four (n .signer, n .reference) × Stands (form.names four (n .signer) (n .reference)) at end s
 names-four-read at s n end bytes e =
-    let i = steps (field 6 isSix at s) (after s) n end e in
+    let i = steps-on item.SignerAndLength (field 6 inSix at s) (after s) n end e in
     let x = i .value in
-    let f = field-read 6 isSix at s x (i .at) bytes (i .read) in
-    let j = steps (field (lengthIn x) (all isReference) (i .at) s) (named x) n end (i .goes-on) in
+    let f = field-read 6 inSix at s x (i .at) bytes (i .read) in
+    let j = steps-on item.Reference (field (lengthIn x) inReference (i .at) s) (named x) n end (i .goes-on) in
     let r = j .value in
-    let g = field-read (lengthIn x) (all isReference) (i .at) s r (j .at) bytes (j .read) in
-    let h = six-of x (f .is-text .0) (f .passes) in
+    let g = field-read (lengthIn x) inReference (i .at) s r (j .at) bytes (j .read) in
+    let h = six-of x (f .is-text .0) (f .keeps) in
     let m : Names = record { signer = take 4 x; reference = r } in
     let same = same-value m n (j .at) end (j .goes-on) in
     let place = same-place m n (j .at) end (j .goes-on) in
     let size : length r ≡ lengthIn x = g .is-text .0 in
     let legal : LegalNames four (take 4 x, r) = record {
       signer = h .signer;
-      reference = all-of ReferenceCharacter isReference reference-of r (g .passes);
+      reference =
+          all-of ReferenceCharacter isReference reference-of r (kept-all (all isReference r) rule.ReferenceCharacters none (g .keeps) .0);
       size = (omega (arith, h .some), omega (arith, h .most));
     } in
     let both-there : Stands (c40 x ++ c40 r) at end s = subst (λ k. Stands (c40 x ++ c40 r) at k s) place (stands-append (c40 x) (c40 r) at (i .at) (j .at) s (f .there) (g .there)) in

@@ -22,22 +22,26 @@ use Rattle.dates.specs.Exact.{from-day, taken-published}
 use Rattle.der.specs.Length.{Sized, form, readLength}
 use Rattle.der.specs.Length.Exact.{read-is-form}
 use Rattle.der.specs.declared.Length.{Length}
-use Rattle.der.specs.declared.Length.the-variants.{Is, Cut, Malformed}
+use Rattle.der.specs.declared.Length.the-variants.{Is, Not}
 use Rattle.grammar.specs.Legal.{LastByte, ValueSize}
 use Rattle.grammar.specs.Content.{Version, three, four}
 use Rattle.versions.specs.Versions.{versionByte, versionOfByte}
 use Rattle.versions.specs.Versions.Laws.{byte-of}
 use Rattle.grammar.specs.Publish.{lengthOf}
-use Rattle.verdict.specs.Items.{Item, is, not, next, byte, markIn, versionAt, versionIn, lastIn, dateIn, plainIn, mark, version, last, date, derOf, derLength, featureLength}
+use Rattle.causes.specs.declared.Item.{Item as Name}
+use Rattle.causes.specs.declared.Rule.{Rule}
+use Rattle.causes.specs.declared.Rule.the-variants as rule
+use Rattle.verdict.specs.Items.{Read, Item, Way, is, not, why, next, pass, lengthRule, byte, markIn, versionAt, versionIn, lastIn}
+use Rattle.verdict.specs.Items.{dateIn, plainIn, mark, version, last, date, derOf, derLength, featureLength}
 use Rattle.verdict.specs.Items.Laws.{unread, whole-read}
 
-abbrev valueIn : {A : Type 0} → A → Item A → A
+abbrev valueIn : {R A : Type 0} → A → Read R A → A
 valueIn a (is b at) = b
-valueIn a (not number place) = a
+valueIn a (not why place) = a
 
-abbrev placeIn : {A : Type 0} → Item A → ℕ
+abbrev placeIn : {R A : Type 0} → Read R A → ℕ
 placeIn (is a at) = at
-placeIn (not number place) = 0
+placeIn (not why place) = 0
 
 -- what stands at a place: these bytes, and then the rest
 pub record Stands (form : List ℕ) (at after : ℕ) (s : List ℕ) : Type 0 where
@@ -51,15 +55,20 @@ stands-append a b at mid after s f g = record {
 }
 
 -- the parts of a reading in steps
-pub record Step {A B : Type 0} (i : Item A) (rest : A → ℕ → Item B) (b : B) (after : ℕ) : Type 0 where
+pub record Step {R S A B : Type 0} (i : Read R A) (rest : A → ℕ → Read S B) (b : B) (after : ℕ) : Type 0 where
   pub value : A
   pub at : ℕ
   pub read : i ≡ is value at
   pub goes-on : rest value at ≡ is b after
 
-pub steps : {A B : Type 0} (i : Item A) (rest : A → ℕ → Item B) (b : B) (after : ℕ) → next i rest ≡ is b after → Step i rest b after
+pub steps : {R A B : Type 0} (i : Read R A) (rest : A → ℕ → Read R B) (b : B) (after : ℕ) → pass i rest ≡ is b after → Step i rest b after
 steps (is a at) rest b after e = record { value = a; at = at; read = refl; goes-on = e }
-steps (not number place) rest b after e = absurd (unread number place b after e)
+steps (not why place) rest b after e = absurd (unread why place b after e)
+
+pub steps-on : {A B : Type 0} (name : Name) (i : Item A) (rest : A → ℕ → Way B) (b : B) (after : ℕ) → next name i rest ≡ is b after
+    → Step i rest b after
+steps-on name (is a at) rest b after e = record { value = a; at = at; read = refl; goes-on = e }
+steps-on name (not rule place) rest b after e = absurd (unread (why name rule) place b after e)
 
 -- k bytes that were read stand there
 pub stands : (k at : ℕ) (s : List ℕ) → at + k ≤ length s → drop at s ≡ take k (drop at s) ++ drop (at + k) s
@@ -69,10 +78,10 @@ pub taken-size : (k at : ℕ) (s : List ℕ) → at + k ≤ length s → length 
 taken-size k at s h = length-take-le k (drop at s) (omega (arith, length-drop at s))
 
 -- the value and place that were read
-pub same-value : {A : Type 0} (a b : A) (at after : ℕ) → is a at ≡ is b after → a ≡ b
+pub same-value : {R A : Type 0} (a b : A) (at after : ℕ) → _≡_ {A = Read R A} (is a at) (is b after) → a ≡ b
 same-value a b at after e = ap (λ i. valueIn a i) e
 
-pub same-place : {A : Type 0} (a b : A) (at after : ℕ) → is a at ≡ is b after → at ≡ after
+pub same-place : {R A : Type 0} (a b : A) (at after : ℕ) → _≡_ {A = Read R A} (is a at) (is b after) → at ≡ after
 same-place a b at after e = ap placeIn e
 
 -- one byte
@@ -93,20 +102,21 @@ byte-read at s f a after e =
     record { x = getD t 0 0; there = stands 1 at s (w .there) ∙ ap (λ u. u ++ drop (at + 1) s) (one t (taken-size 1 at s (w .there))); read = w .read }
 
 -- a test that a value passed
-pub passed : {A : Type 0} (test : Bool) (i : Item A) (number place : ℕ) (a : A) (after : ℕ) → pick test i (not number place) ≡ is a after → (test ≡ true) × (i ≡ is a after)
-passed true i number place a after e = (refl, e)
-passed false i number place a after e = absurd (unread number place a after e)
+pub passed : {R A : Type 0} (test : Bool) (i : Read R A) (why : R) (place : ℕ) (a : A) (after : ℕ)
+    → pick test i (not why place) ≡ is a after → (test ≡ true) × (i ≡ is a after)
+passed true i why place a after e = (refl, e)
+passed false i why place a after e = absurd (unread why place a after e)
 
 pub mark-read : (at : ℕ) (s : List ℕ) (a : Unit) (after : ℕ) → mark at s ≡ is a after → Stands (0xDC ∷ []) at after s
 mark-read at s a after e =
     let b = byte-read at s (markIn at) a after e in
-    let p = passed (eqb (b .x) 0xDC) (is tt (at + 1)) 3 at a after (b .read) in
+    let p = passed (eqb (b .x) 0xDC) (is tt (at + 1)) rule.IsMark at a after (b .read) in
     let place = same-place tt a (at + 1) after (p .1) in
     record { form-there = b .there ∙ ap (λ x. x ∷ drop (at + 1) s) (eqb-true (b .x) 0xDC (p .0)) ∙ ap (λ k. 0xDC ∷ drop k s) place; size = sym place }
 
 version-in : (at x : ℕ) (o : Option Version) → versionOfByte x ≡ o → (v : Version) (after : ℕ) → versionAt at o ≡ is v after → (x ≡ versionByte v) × (at + 1 ≡ after)
 version-in at x (some w) o v after e = (byte-of x w o ∙ ap versionByte (same-value w v (at + 1) after e), same-place w v (at + 1) after e)
-version-in at x none o v after e = absurd (unread 4 at v after e)
+version-in at x none o v after e = absurd (unread rule.IsVersion at v after e)
 
 pub version-read : (at : ℕ) (s : List ℕ) (v : Version) (after : ℕ) → version at s ≡ is v after → Stands (versionByte v ∷ []) at after s
 version-read at s v after e =
@@ -117,7 +127,7 @@ version-read at s v after e =
 pub last-read : (at : ℕ) (s : List ℕ) (x : ℕ) (after : ℕ) → last at s ≡ is x after → LastByte x × Stands (x ∷ []) at after s
 last-read at s x after e =
     let b = byte-read at s (lastIn at) x after e in
-    let p = passed (within 1 254 (b .x)) (is (b .x) (at + 1)) 7 at x after (b .read) in
+    let p = passed (within 1 254 (b .x)) (is (b .x) (at + 1)) rule.OneTo254 at x after (b .read) in
     let same = same-value (b .x) x (at + 1) after (p .1) in
     let place = same-place (b .x) x (at + 1) after (p .1) in
     (subst LastByte same (within-both 1 254 (b .x) (p .0)), record { form-there = b .there ∙ ap (λ y. y ∷ drop (at + 1) s) same ∙ ap (λ k. x ∷ drop k s) place; size = sym place })
@@ -127,7 +137,7 @@ date-read at s d after bytes e =
     let w = whole-read 3 at s (λ b. dateIn at (dateOf (val b 3))) d after e in
     let t = take 3 (drop at s) in
     let l = taken-size 3 at s (w .there) in
-    let p = passed (isDay (dateOf (val t 3))) (is (dateOf (val t 3)) (at + 3)) 6 at d after (w .read) in
+    let p = passed (isDay (dateOf (val t 3))) (is (dateOf (val t 3)) (at + 3)) rule.IsDay at d after (w .read) in
     let same = same-value (dateOf (val t 3)) d (at + 3) after (p .1) in
     let place = same-place (dateOf (val t 3)) d (at + 3) after (p .1) in
     let r = taken-published t (bytes-take 3 (drop at s) (bytes-drop at s bytes)) (omega arith) d (from-day (val t 3) (p .0) ∙ ap given same) in
@@ -140,13 +150,12 @@ der-read at s n after bytes e = found (readLength (drop at s)) refl
   where
     found : (r : Length) → readLength (drop at s) ≡ r → Sized n × Stands (form n) at after s
     found (Is m width) f =
-        let g : is m (at + width) ≡ is n after = sym (ap (derOf at) f) ∙ e in
+        let g : _≡_ {A = Item ℕ} (is m (at + width)) (is n after) = sym (ap (derOf at) f) ∙ e in
         let same = same-value m n (at + width) after g in
         let place = same-place m n (at + width) after g in
         let t = read-is-form (drop at s) (bytes-drop at s bytes) n width (f ∙ ap (λ k. Is k width) same) in
         (t .sized, record { form-there = sym (take-append-drop width (drop at s)) ∙ ap (λ u. u ++ drop width (drop at s)) (sym (t .front)) ∙ ap (λ u. form n ++ u) (drop-drop width at s) ∙ ap (λ k. form n ++ drop k s) place; size = sym place ∙ ap (λ k. at + k) (sym (t .size)) })
-    found Cut f = absurd (unread 2 at n after (sym (ap (derOf at) f) ∙ e))
-    found Malformed f = absurd (unread 8 at n after (sym (ap (derOf at) f) ∙ e))
+    found (Not fault) f = absurd (unread (lengthRule fault) at n after (sym (ap (derOf at) f) ∙ e))
 
 pub feature-length-read : (v : Version) (at : ℕ) (s : List ℕ) (n after : ℕ) → Bytes s → featureLength v at s ≡ is n after → ValueSize v n × Stands (lengthOf v n) at after s
 feature-length-read three at s n after bytes e =

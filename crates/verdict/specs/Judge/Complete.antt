@@ -22,18 +22,18 @@ use Rattle.grammar.specs.Publish.{carried, headerZone, messageZone, signatureZo
 use Rattle.grammar.specs.Legal.{LegalHeader, SignatureSize, n28, n32, n48, n64, n66, Legal}
 use Rattle.grammar.specs.Sizes.{features-most}
 use Rattle.grammar.specs.Zones.{header-parts, legal-names}
-use Rattle.verdict.specs.Items.{Item, is, not, next, whole, mark, version, country, names, date, last, derLength}
+use Rattle.causes.specs.declared.Rule.the-variants as rule
+use Rattle.causes.specs.declared.Item.the-variants as item
+use Rattle.verdict.specs.Items.{Read, is, not, why, next, whole, mark, version, country, names, date, last, derLength}
 use Rattle.verdict.specs.Items.Laws.{whole-there, der-there, mark-there, version-there, last-there, date-there}
 use Rattle.verdict.specs.Items.Fields.{country-there, names-there}
-use Rattle.verdict.specs.Judge.{Report, accepted, header, features, isSignature, rawIn, sizeIn, signature, reading, judge}
+use Rattle.verdict.specs.Judge.{Report, accepted, header, features, isSignature, rawIn, endIn, sizeIn, signature, verdict, reading}
+use Rattle.verdict.specs.Judge.{judging, judge}
 use Rattle.verdict.specs.Judge.Features.{rowsOf, features-there}
 
--- an item that stands after p, with what it was cut to; then the rest is read after both
-step : {A B : Type 0} (i : Item A) (a : A) (at : ℕ) (rest : A → ℕ → Item B) → i ≡ is a at → next i rest ≡ rest a at
-step i a at rest e = ap (λ j. next j rest) e
-
 -- an item read after p is read at its place in the whole
-placed : {A : Type 0} (f : ℕ → List ℕ → Item A) (p q s : List ℕ) (k w : ℕ) (a : A) → s ≡ p ++ q → length p ≡ k → f (length p) (p ++ q) ≡ is a (length p + w) → f k s ≡ is a (k + w)
+placed : {R A : Type 0} (f : ℕ → List ℕ → Read R A) (p q s : List ℕ) (k w : ℕ) (a : A) → s ≡ p ++ q → length p ≡ k
+    → f (length p) (p ++ q) ≡ is a (length p + w) → f k s ≡ is a (k + w)
 placed f p q s k w a e l r =
     ap (λ z. f k z) e ∙ ap (λ n. f n (p ++ q)) (sym l) ∙ r ∙ ap (λ n. is a (n + w)) l
 
@@ -104,12 +104,15 @@ signature-there p z size =
     let l1 : length q ≡ length p + w = length-append p (derForm n) in
     let whole-length : length s ≡ length p + w + n = omega (arith, length-append p (derForm n ++ z), length-append (derForm n) z) in
     let i0 : derLength (length p) s ≡ is n (length p + w) = der-there p n z (omega (arith, size-small n size)) in
-    let i1 : whole n (length p + w) s (rawIn n (length p + w) s) ≡ rawIn n (length p + w) s z =
-    ap (λ u. whole n (length p + w) u (rawIn n (length p + w) s)) e1 ∙ ap (λ k. whole n k (q ++ (z ++ [])) (rawIn n (length p + w) s)) (sym l1) ∙ whole-there n q z [] (rawIn n (length p + w) s) refl in
-    ap (λ i. next i (sizeIn (length p) s)) i0
-    ∙ ap (λ b. pick b (whole n (length p + w) s (rawIn n (length p + w) s)) (not 10 (length p))) (size-passes n size)
-    ∙ i1
-    ∙ ap (λ b. pick b (not 11 (length p + w + n)) (is n (length p + w))) (le-ltb (length p + w + n) (length s) (omega arith))
+    let raw = rawIn n (length p + w) in
+    let end = endIn (length p + w) s in
+    let i1 : whole n (length p + w) s raw ≡ is n (length p + w + n) =
+    ap (λ u. whole n (length p + w) u raw) e1 ∙ ap (λ k. whole n k (q ++ (z ++ [])) raw) (sym l1) ∙ whole-there n q z [] raw refl in
+    ap (λ i. next item.SignatureLength i (sizeIn (length p) s)) i0
+    ∙ ap (λ b. pick b (next item.Signature (whole n (length p + w) s raw) end) (not (why item.SignatureLength rule.SignatureSize) (length p))) (size-passes n size)
+    ∙ ap (λ i. next item.Signature i end) i1
+    ∙ ap (λ b. pick b (not (why item.End rule.NothingAfter) (length p + w + n)) (is n (length p + w)))
+    (le-ltb (length p + w + n) (length s) (omega arith))
 
 -- what is reported of a content
 unfoldable pub reportOf : Content → Report
@@ -128,7 +131,7 @@ reportOf c =
 
 -- the published form of a legal content is accepted, and that is what is reported
 pub published-accepted : (c : Content) → Legal c → judge (publish c) ≡ accepted (reportOf c)
-unfolding judge reading reportOf publish signedBytes signatureZone
+unfolding judge judging reading reportOf publish signedBytes signatureZone
 published-accepted c l =
     let v = c .header .version in
     let h = headerZone (c .header) in

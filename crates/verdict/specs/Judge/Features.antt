@@ -14,6 +14,7 @@ use Rattle.format.specs.Table.{either}
 use Rattle.grammar.specs.Content.{Version, Feature}
 use Rattle.grammar.specs.Publish.{lengthOf, messageZone}
 use Rattle.grammar.specs.Legal.{Unused, LegalFeatures}
+use Rattle.causes.specs.declared.Rule.the-variants as rule
 use Rattle.verdict.specs.Items.{is, not, whole, byte, featureLength}
 use Rattle.verdict.specs.Items.Laws.{byte-there, whole-there, feature-length-there}
 use Rattle.verdict.specs.Judge.{Row, used, tag, row, features, tagIn, valueIn}
@@ -55,7 +56,7 @@ unfolding features tag row rowsOf messageZone
 features-there zero v fs tags rows p t l fresh ff less small = absurd (omega arith)
 features-there (suc more) v [] tags rows p t l fresh ff less small =
     let read : byte (length p) (p ++ (0xFF ∷ t)) (tagIn rows (length p)) ≡ is 0xFF (length p + 1) =
-    byte-there p 0xFF t (tagIn rows (length p)) ∙ ap (λ b. pick b (not 9 (length p)) (is 0xFF (length p + 1))) ff in
+    byte-there p 0xFF t (tagIn rows (length p)) ∙ ap (λ b. pick b (not rule.NotUsedBefore (length p)) (is 0xFF (length p + 1))) ff in
     rw read (ap (λ u. is u (length p)) (sym (append-nil rows)) ∙ ap (is (rows ++ [])) (omega arith))
 features-there (suc more) v (f ∷ fs) tags rows p t l fresh ff less small =
     let x = f .tag in
@@ -77,7 +78,7 @@ features-there (suc more) v (f ∷ fs) tags rows p t l fresh ff less small =
     let r : Row = record { tag = x; place = length p + 1 + w; size = n } in
     let i0 : byte (length p) s (tagIn rows (length p)) ≡ is x (length p + 1) =
     ap (λ z. byte (length p) z (tagIn rows (length p))) e0 ∙ byte-there p x (lengthOf v n ++ (f .value ++ rest)) (tagIn rows (length p))
-    ∙ ap (λ b. pick b (not 9 (length p)) (is x (length p + 1))) (fresh x (l .1)) in
+    ∙ ap (λ b. pick b (not rule.NotUsedBefore (length p)) (is x (length p + 1))) (fresh x (l .1)) in
     let i1 : featureLength v (length p + 1) s ≡ is n (length p + 1 + w) =
     ap (featureLength v (length p + 1)) e1 ∙ ap (λ k. featureLength v k (p1 ++ (lengthOf v n ++ (f .value ++ rest)))) (sym l1)
     ∙ feature-length-there v p1 n (f .value ++ rest) (omega arith) ∙ ap (λ k. is n (k + w)) l1 in

@@ -20,23 +20,29 @@ use Rattle.grammar.specs.Publish.{lengthOf, headerZone, messageZone, signatureZ
 use Rattle.grammar.specs.Legal.{LegalHeader, Unused, ValueSize, LegalFeatures, SignatureSize, n28, n32, n48, n64, n66, Legal}
 use Rattle.grammar.specs.Zones.{header-parts}
 use Rattle.format.specs.Table.Laws.{not-true}
-use Rattle.verdict.specs.Items.{Item, is, not, next, whole, mark, version, country, names, date, last, derLength, featureLength}
-use Rattle.verdict.specs.Items.Sound.{Stands, stands-append, steps, stands, taken-size, same-value, same-place, passed, mark-read, version-read, last-read, date-read, der-read, feature-length-read, byte-read}
+use Rattle.causes.specs.Causes.{ruleNumber}
+use Rattle.causes.specs.declared.Rule.the-variants as rule
+use Rattle.causes.specs.declared.Item.the-variants as item
+use Rattle.verdict.specs.Items.{Item, Way, is, not, why, next, pass, whole, mark, version, country, names, date, last, derLength}
+use Rattle.verdict.specs.Items.{featureLength}
+use Rattle.verdict.specs.Items.Sound.{Stands, stands-append, steps, steps-on, stands, taken-size, same-value, same-place, passed}
+use Rattle.verdict.specs.Items.Sound.{mark-read, version-read, last-read, date-read, der-read, feature-length-read, byte-read}
 use Rattle.verdict.specs.Items.Laws.{unread, whole-read}
 use Rattle.verdict.specs.Items.FieldsSound.{country-read, names-read}
-use Rattle.verdict.specs.Judge.{Row, Report, Verdict, accepted, refused, header, used, tagIn, tag, valueIn, row, features, isSignature, rawIn, sizeIn, signature, verdict, reading, judge}
+use Rattle.verdict.specs.Judge.{Row, Report, Verdict, accepted, refused, header, used, tagIn, tag, valueIn, row, features}
+use Rattle.verdict.specs.Judge.{isSignature, rawIn, endIn, sizeIn, signature, verdict, reading, judging, judge}
 
 pub header-read : (s : List ℕ) (h : Header) (end : ℕ) → Bytes s → header s ≡ is h end → LegalHeader h × Stands (headerZone h) 0 end s
 unfolding header
 header-read s h end bytes e =
-    let i0 = steps (mark 0 s) _ h end e in
-    let i1 = steps (version (i0 .at) s) _ h end (i0 .goes-on) in
-    let i2 = steps (country (i1 .at) s) _ h end (i1 .goes-on) in
+    let i0 = steps-on item.Mark (mark 0 s) _ h end e in
+    let i1 = steps-on item.Version (version (i0 .at) s) _ h end (i0 .goes-on) in
+    let i2 = steps-on item.Country (country (i1 .at) s) _ h end (i1 .goes-on) in
     let i3 = steps (names (i1 .value) (i2 .at) s) _ h end (i2 .goes-on) in
-    let i4 = steps (date (i3 .at) s) _ h end (i3 .goes-on) in
-    let i5 = steps (date (i4 .at) s) _ h end (i4 .goes-on) in
-    let i6 = steps (last (i5 .at) s) _ h end (i5 .goes-on) in
-    let i7 = steps (last (i6 .at) s) _ h end (i6 .goes-on) in
+    let i4 = steps-on item.Issued (date (i3 .at) s) _ h end (i3 .goes-on) in
+    let i5 = steps-on item.Signed (date (i4 .at) s) _ h end (i4 .goes-on) in
+    let i6 = steps-on item.Definition (last (i5 .at) s) _ h end (i5 .goes-on) in
+    let i7 = steps-on item.Category (last (i6 .at) s) _ h end (i6 .goes-on) in
     let r0 = mark-read 0 s (i0 .value) (i0 .at) (i0 .read) in
     let r1 = version-read (i0 .at) s (i1 .value) (i1 .at) (i1 .read) in
     let r2 = country-read (i1 .at) s (i2 .value) (i2 .at) bytes (i2 .read) in
@@ -91,9 +97,10 @@ unfolding tag
 tag-read rows at s x after bytes e =
     let b = byte-read at s (tagIn rows at) x after e in
     by-test (used (b .x) rows)
-    (λ t. absurd (unread 9 at x after (sym (ap (λ c. pick c (not 9 at) (is (b .x) (at + 1))) t) ∙ b .read)))
+    (λ t. absurd (unread rule.NotUsedBefore at x after (sym (ap (λ c. pick c (not rule.NotUsedBefore at) (is (b .x) (at + 1))) t) ∙ b .read)))
     (λ t.
-    let f : is (b .x) (at + 1) ≡ is x after = sym (ap (λ c. pick c (not 9 at) (is (b .x) (at + 1))) t) ∙ b .read in
+    let f : _≡_ {A = Item ℕ} (is (b .x) (at + 1)) (is x after) =
+    sym (ap (λ c. pick c (not rule.NotUsedBefore at) (is (b .x) (at + 1))) t) ∙ b .read in
     let same = same-value (b .x) x (at + 1) after f in
     let place = same-place (b .x) x (at + 1) after f in
     let low : b .x < 256 = subst (λ u. getD u 0 0 < 256) (b .there) (bytes-drop at s bytes 0) in
@@ -113,16 +120,17 @@ record RowRead (v : Version) (x at : ℕ) (s : List ℕ) (r : Row) (after : ℕ)
 row-read : (v : Version) (x at : ℕ) (s : List ℕ) (r : Row) (after : ℕ) → Bytes s → row v x at s ≡ is r after → RowRead v x at s r after
 unfolding row
 row-read v x at s r after all e =
-    let k = steps (featureLength v at s) (λ n at. whole n at s (valueIn x n at)) r after e in
+    let k = steps-on item.Length (featureLength v at s) (λ n at. next item.Value (whole n at s (valueIn x n at)) is) r after e in
     let n = k .value in
     let m = k .at in
     let l = feature-length-read v at s n m all (k .read) in
-    let w = whole-read n m s (valueIn x n m) r after (k .goes-on) in
+    let j = steps-on item.Value (whole n m s (valueIn x n m)) is r after (k .goes-on) in
+    let w = whole-read n m s (valueIn x n m) (j .value) (j .at) (j .read) in
     let b = take n (drop m s) in
     let many : length b ≡ n = taken-size n m s (w .there) in
     let q : Row = record { tag = x; place = m; size = n } in
-    let same = same-value q r (m + n) after (w .read) in
-    let place = same-place q r (m + n) after (w .read) in
+    let same = same-value q (j .value) (m + n) (j .at) (w .read) ∙ same-value (j .value) r (j .at) after (j .goes-on) in
+    let place = same-place q (j .value) (m + n) (j .at) (w .read) ∙ same-place (j .value) r (j .at) after (j .goes-on) in
     let here : Stands b m after s = record { form-there = stands n m s (w .there) ∙ ap (λ z. b ++ drop z s) place; size = sym place ∙ ap (λ z. m + z) (sym many) } in
     record {
       value = b;
@@ -148,19 +156,21 @@ form-of v f fs = simp append-assoc
 
 pub features-read : (more : ℕ) (v : Version) (rows : List Row) (at : ℕ) (s : List ℕ) (out : List Row) (end : ℕ) (tags : List ℕ) → Bytes s → Covers rows tags → features more v rows at s ≡ is out end → FeaturesRead v tags at end s
 unfolding features
-features-read zero v rows at s out end tags bytes covers e = absurd (unread 9 at out end e)
+features-read zero v rows at s out end tags bytes covers e = absurd (unread (why item.Tag rule.NotUsedBefore) at out end e)
 features-read (suc more) v rows at s out end tags bytes covers e =
-    let i = steps (tag rows at s) _ out end e in
+    let i = steps-on item.Tag (tag rows at s) _ out end e in
     let x = i .value in
     let t = tag-read rows at s x (i .at) bytes (i .read) in
     by-test (eqb x 0xFF)
     (λ f.
-    let g : is rows at ≡ is out end = sym (ap (λ b. pick b (is rows at) (next (row v x (i .at) s) (λ r at. features more v (rows ++ (r ∷ [])) at s))) f) ∙ i .goes-on in
+    let g : _≡_ {A = Way (List Row)} (is rows at) (is out end) =
+    sym (ap (λ b. pick b (is rows at) (pass (row v x (i .at) s) (λ r at. features more v (rows ++ (r ∷ [])) at s))) f) ∙ i .goes-on in
     let place = same-place rows out at end g in
     let ff : Stands (0xFF ∷ []) at (at + 1) s = subst (λ y. Stands (y ∷ []) at (at + 1) s) (eqb-true x 0xFF f) (subst (λ k. Stands (x ∷ []) at k s) (t .there .size) (t .there)) in
     ended v tags at end s place ff)
     (λ f.
-    let g : next (row v x (i .at) s) (λ r at. features more v (rows ++ (r ∷ [])) at s) ≡ is out end = sym (ap (λ b. pick b (is rows at) (next (row v x (i .at) s) (λ r at. features more v (rows ++ (r ∷ [])) at s))) f) ∙ i .goes-on in
+    let g : pass (row v x (i .at) s) (λ r at. features more v (rows ++ (r ∷ [])) at s) ≡ is out end =
+    sym (ap (λ b. pick b (is rows at) (pass (row v x (i .at) s) (λ r at. features more v (rows ++ (r ∷ [])) at s))) f) ∙ i .goes-on in
     let j = steps (row v x (i .at) s) (λ r at. features more v (rows ++ (r ∷ [])) at s) out end g in
     let r = row-read v x (i .at) s (j .value) (j .at) bytes (j .read) in
     let covers′ : Covers (rows ++ (j .value ∷ [])) (x ∷ tags) = λ y u.
@@ -200,18 +210,22 @@ record SignatureRead (at : ℕ) (s : List ℕ) : Type 0 where
 signature-read : (at : ℕ) (s : List ℕ) (n start : ℕ) → Bytes s → signature at s ≡ is n start → SignatureRead at s
 unfolding signature
 signature-read at s n start all e =
-    let i = steps (derLength at s) (sizeIn at s) n start e in
+    let i = steps-on item.SignatureLength (derLength at s) (sizeIn at s) n start e in
     let m = i .value in
     let k = i .at in
     let d = der-read at s m k all (i .read) in
-    let p = passed (isSignature m) (whole m k s (rawIn m k s)) 10 at n start (i .goes-on) in
-    let w = whole-read m k s (rawIn m k s) n start (p .1) in
+    let p =
+    passed (isSignature m) (next item.Signature (whole m k s (rawIn m k)) (endIn k s))
+    (why item.SignatureLength rule.SignatureSize) at n start (i .goes-on) in
+    let j = steps-on item.Signature (whole m k s (rawIn m k)) (endIn k s) n start (p .1) in
+    let w = whole-read m k s (rawIn m k) (j .value) (j .at) (j .read) in
+    let end : k + m ≡ j .at = same-place m (j .value) (k + m) (j .at) (w .read) in
     let z = take m (drop k s) in
     let many : length z ≡ m = taken-size m k s (w .there) in
-    by-test (ltb (k + m) (length s))
-    (λ t. absurd (unread 11 (k + m) n start (sym (ap (λ b. pick b (not 11 (k + m)) (is m k)) t) ∙ w .read)))
+    by-test (ltb (j .at) (length s))
+    (λ t. absurd (unread (why item.End rule.NothingAfter) (j .at) n start (sym (ap (λ b. pick b (not (why item.End rule.NothingAfter) (j .at)) (is (j .value) k)) t) ∙ j .goes-on)))
     (λ t.
-    let last : k + m ≡ length s = omega (arith, w .there, ltb-false (k + m) (length s) t) in
+    let last : k + m ≡ length s = omega (arith, w .there, ltb-false (j .at) (length s) t, end) in
     let here : Stands z k (length s) s = record { form-there = stands m k s (w .there) ∙ ap (λ u. z ++ drop u s) last; size = omega arith } in
     record {
       raw = z;
@@ -232,14 +246,14 @@ reportIn : Report → Verdict → Report
 reportIn q (accepted r) = r
 reportIn q (refused number place) = q
 
-pub record VerdictRead (i : Item Report) (r : Report) : Type 0 where
+pub record VerdictRead (i : Way Report) (r : Report) : Type 0 where
   pub end : ℕ
   pub read : i ≡ is r end
 
-pub verdict-read : (i : Item Report) (r : Report) → verdict i ≡ accepted r → VerdictRead i r
+pub verdict-read : (i : Way Report) (r : Report) → verdict i ≡ accepted r → VerdictRead i r
 unfolding reportIn
 verdict-read (is q at) r e = record { end = at; read = ap (λ z. is (reportIn q z) at) e }
-verdict-read (not number place) r e = absurd (unaccepted number place r e)
+verdict-read (not why place) r e = absurd (unaccepted (ruleNumber (why .rule)) place r e)
 
 at-most : (n : ℕ) → n ≤ n
 at-most n = omega arith
@@ -251,12 +265,12 @@ pub record Published (s : List ℕ) : Type 0 where
   pub form-is : publish content ≡ s
 
 pub accepted-published : (s : List ℕ) → Bytes s → (r : Report) → judge s ≡ accepted r → Published s
-unfolding judge reading publish signedBytes signatureZone
+unfolding judge judging reading publish signedBytes signatureZone
 accepted-published s bytes r e =
     by-test (ltb 4096 (length s))
-    (λ t. absurd (unaccepted 1 4096 r (sym (ap (λ b. pick b (refused 1 4096) (verdict (reading s))) t) ∙ e)))
+    (λ t. absurd (unaccepted 1 4096 r (sym (ap (λ b. verdict (pick b (not (why item.Seal rule.NotTooLong) 4096) (reading s))) t) ∙ e)))
     (λ t.
-    let v = verdict-read (reading s) r (sym (ap (λ b. pick b (refused 1 4096) (verdict (reading s))) t) ∙ e) in
+    let v = verdict-read (reading s) r (sym (ap (λ b. verdict (pick b (not (why item.Seal rule.NotTooLong) 4096) (reading s))) t) ∙ e) in
     let i0 = steps (header s) _ r (v .end) (v .read) in
     let h = i0 .value in
     let i1 = steps (features 256 (h .version) [] (i0 .at) s) _ r (v .end) (i0 .goes-on) in

@@ -1,24 +1,34 @@
 -- `names::Names::why` meets its contract: each case is taken apart.
 -- Assumes nothing.
 use borrow.Author.Needs.{needs}
-use mathlib.Core.Path.{sym, ap}
+use mathlib.Core.Path.{_∙_, sym, ap}
 use mathlib.Core.List.{[]}
 use Rattle.items.specs.Cases.{whyOf}
 use Rattle.names.specs.Cases.{namesOf}
 use Rattle.names.proofs.Names.why.Statement.{statement}
 use Rattle.names.proofs.Names.why.Tie as tie
 
-enum-told : tie.Need-enum-told
-enum-told c = search needs
-
-enum-known-self : tie.Need-enum-known-self
-enum-known-self c = search needs
-
 returns : tie.Need-returns
-returns c = ap (λ n. whyOf (namesOf [] n)) (sym (c .enum-told .given .1))
+returns c = c .of .ensures ∙ ap (λ n. whyOf (namesOf [] n)) (sym (c .before .enum-told .given .1))
 
 returns-2 : tie.Need-returns-2
 returns-2 c = sym (ap (λ n. whyOf (namesOf [] n)) (c .before .self .given .1))
 
+enum-told : tie.Need-enum-told
+enum-told c = search needs
+
+of-requires : tie.Need-of-requires
+of-requires c κs = search needs
+
+enum-known-self : tie.Need-enum-known-self
+enum-known-self c = search needs
+
 pub why-spec : {M : Type 1} → statement M
-why-spec = tie.close (tie.spec enum-told enum-known-self returns returns-2)
+why-spec =
+    tie.close
+    (tie.spec
+    enum-told
+    of-requires
+    enum-known-self
+    returns
+    returns-2)

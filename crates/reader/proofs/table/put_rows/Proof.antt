@@ -3,7 +3,7 @@
 mod Turn
 use borrow.Author.Needs.{needs}
 use native.Mathlib.Omega.{arith}
-use mathlib.Core.Path.{refl, _≡_, _∙_, ap, sym}
+use mathlib.Core.Path.{_≡_, _∙_, ap, sym}
 use Prim.Native.Nat.{ℕ, _+_, _*_, _-_, _≤_}
 use mathlib.Core.List.{List}
 use denote.Ref.{now}
@@ -12,7 +12,6 @@ use Rattle.grammar.specs.Content.{Version}
 use Rattle.verdict.specs.Items.{is, byte, plainIn, featureLength}
 use Rattle.items.specs.Cases.{byteOf, numberOf}
 use Rattle.rows.specs.Rows.{width}
-use Rattle.zones.proofs.Says.{number-says}
 use Rattle.reader.proofs.table.put_rows.Proof.Turn.{Put, put-start, put-length, put-end}
 use Rattle.reader.proofs.table.put_rows.Proof.Turn.{put-tag, put-size, put-value, put-room, put-more}
 use Rattle.reader.proofs.table.put_rows.Statement.{statement}
@@ -36,7 +35,7 @@ tag-read : (c : tie.After-known-told Inv-loop μ-loop) → let on = c .before .b
 tag-read c = sym (ap (byteOf _) (c .before .tag .given .1)) ∙ c .before .before .before .byte .ensures
 
 size-read : (c : tie.After-known-told2 Inv-loop μ-loop) → let told = c .before .before .before .before in let on = told .before .before .before .before .before in is (c .before .size .given .0 .0) (c .before .size .given .0 .1 .0 .place) ≡ featureLength (versionAt on) (told .before .tag .given .0 .1 .0 .place) (sealAt on)
-size-read c = sym (ap (numberOf 8 _) (c .before .size .given .1)) ∙ c .before .before .before .feature-length .ensures
+size-read c = sym (ap numberOf (c .before .size .given .1)) ∙ c .before .before .before .feature-length .ensures
 
 -- neither is ever missing
 tag-there : tie.After-enum-told Inv-loop μ-loop → ⊥
@@ -44,11 +43,12 @@ tag-there c =
     let on = c .before .before .before in
     put-tag _ _ _ _ _ _ _ _ (on .before .loop .inv) (on .loop-test .taken) (sym (ap (byteOf _) (c .enum-told .given .1)) ∙ c .before .before .byte .ensures)
 
-size-there : tie.At-match2-keys2 Inv-loop μ-loop → ⊥
+size-there : tie.After-enum-told2 Inv-loop μ-loop → ⊥
 size-there c =
-    let told = c .before .before in
+    let told = c .before .before .before in
     let on = told .before .before .before .before in
-    put-size _ _ _ _ _ _ _ _ (on .before .loop .inv) (on .loop-test .taken) _ _ (tag-read told) _ _ (number-says 8 _ (c .before .feature-length .result) _ (c .match2 .keys2) refl ∙ c .before .feature-length .ensures)
+    put-size _ _ _ _ _ _ _ _ (on .before .loop .inv) (on .loop-test .taken) _ _ (tag-read told) _ _
+    (sym (ap numberOf (c .enum-told2 .given .1)) ∙ c .before .before .feature-length .ensures)
 
 -- nor is the value
 value-there : (c : tie.After-known-told2 Inv-loop μ-loop) → c .before .size .given .0 .1 .0 .place + c .before .size .given .0 .0 ≤ length (sealAt (c .before .before .before .before .before .before .before .before .before))
@@ -80,6 +80,9 @@ enum-known-tag c = search needs
 enum-told : tie.Need-enum-told Inv-loop μ-loop
 enum-told c = search needs
 
+enum-told-2 : tie.Need-enum-told-2 Inv-loop μ-loop
+enum-told-2 c = search needs
+
 same-length : tie.Need-same-length Inv-loop μ-loop
 same-length c = put-length _ _ _ _ _ _ _ _ (c .before .before .before .before .loop .inv)
 
@@ -93,7 +96,7 @@ enum-known-size : tie.Need-enum-known-size Inv-loop μ-loop
 enum-known-size c = search needs
 
 same-length-2 : tie.Need-same-length-2 Inv-loop μ-loop
-same-length-2 c = put-length _ _ _ _ _ _ _ _ (c .before .before .before .before .before .before .before .loop .inv)
+same-length-2 c = put-length _ _ _ _ _ _ _ _ (c .before .before .before .before .before .before .before .before .loop .inv)
 
 returns-2 : tie.Need-returns-2 Inv-loop μ-loop
 returns-2 c = absurd (size-there c)
@@ -140,6 +143,7 @@ put-rows-spec =
     returns
     feature-length-requires
     enum-known-size
+    enum-told-2
     same-length-2
     returns-2
     put-row-requires

@@ -13,8 +13,9 @@ use borrow.Author.Count.{below-none, below-more}
 use Rattle.format.specs.Bytes.{Bytes}
 use Rattle.grammar.specs.Content.{Version}
 use Rattle.verdict.specs.Items.{is, byte, plainIn, featureLength}
-use Rattle.items.specs.Cases.{byteOf, wholeOf, numberOf}
-use Rattle.zones.proofs.Says.{number-says}
+use Rattle.causes.specs.declared.Item.the-variants as item
+use Rattle.items.specs.Cases.{byteOf, wholeOf, numberOf, refused}
+use Rattle.zones.proofs.Says.{says}
 use Rattle.zones.proofs.features.read_features.Proof.Turn.{Kept, kept-start, kept-cut, kept-end, kept-again, kept-most, New, new-unsized, new-small, new-room, new-short, new-more}
 use Rattle.zones.proofs.features.read_features.Statement.{statement}
 use Rattle.zones.proofs.features.read_features.Tie as tie
@@ -53,7 +54,7 @@ new c = record {
 
 -- its length
 size-read : (c : tie.After-known-told2 Inv-loop μ-loop Inv-rows μ-rows) → let told = c .before .before .before .before .before .before .before in let on = told .before .before .before .before in is (c .before .length .given .0 .0) (c .before .length .given .0 .1 .0 .place) ≡ featureLength (versionAt on) (told .before .tag .given .0 .1 .0 .place) (sealAt on)
-size-read c = sym (ap (numberOf 8 _) (c .before .length .given .1)) ∙ c .before .before .before .feature-length .ensures
+size-read c = sym (ap numberOf (c .before .length .given .1)) ∙ c .before .before .before .feature-length .ensures
 
 -- the seal's bytes
 bytes : (c : tie.After-known-told3 Inv-loop μ-loop Inv-rows μ-rows) → Bytes (sealAt (c .before .before .before .before .before .before .before .before .before .before .before .before .before .before .before))
@@ -73,8 +74,13 @@ enum-told c = search needs
 
 returns : tie.Need-returns Inv-loop μ-loop Inv-rows μ-rows
 returns c =
-    let on = c .before .before .before in
-    kept-cut _ _ _ _ _ _ (on .rows .inv) (sym (ap (byteOf _) (c .enum-told .given .1)) ∙ c .before .before .byte .ensures)
+    let told = c .before in
+    let on = told .before .before .before in
+    says _ _ _ _ (c .of .ensures)
+    (kept-cut _ _ _ _ _ _ (on .rows .inv) (sym (ap (byteOf _) (told .enum-told .given .1)) ∙ told .before .before .byte .ensures))
+
+of-requires : tie.Need-of-requires Inv-loop μ-loop Inv-rows μ-rows
+of-requires c κs = search needs
 
 returns-2 : tie.Need-returns-2 Inv-loop μ-loop Inv-rows μ-rows
 returns-2 c = kept-end _ _ _ _ _ _ (c .before .before .before .before .before .rows .inv) _ _ (tag-read (c .before)) (c .if1 .taken)
@@ -108,8 +114,10 @@ refusal-requires c κs = search needs
 
 returns-3 : tie.Need-returns-3 Inv-loop μ-loop Inv-rows μ-rows
 returns-3 c =
-    let on = c .before .before .before in
-    new-unsized _ _ _ _ _ _ _ _ (new on) _ _ (number-says 8 _ (c .before .before .feature-length .result) (c .refusal .result) (c .before .match2 .keys2) (c .refusal .ensures) ∙ c .before .before .feature-length .ensures)
+    let told = c .before in
+    let on = told .before .before in
+    says _ _ _ _ (c .refusal .ensures ∙ ap (λ r. refused item.Length (numberOf r)) (told .enum-told2 .given .1))
+    (new-unsized _ _ _ _ _ _ _ _ (new (on .before)) _ _ (sym (ap numberOf (told .enum-told2 .given .1)) ∙ on .feature-length .ensures))
 
 skip-requires : tie.Need-skip-requires Inv-loop μ-loop Inv-rows μ-rows
 skip-requires c κs = search needs
@@ -120,10 +128,18 @@ enum-known-end c = search needs
 enum-told-2 : tie.Need-enum-told-2 Inv-loop μ-loop Inv-rows μ-rows
 enum-told-2 c = search needs
 
+enum-told-3 : tie.Need-enum-told-3 Inv-loop μ-loop Inv-rows μ-rows
+enum-told-3 c = search needs
+
+of-requires-2 : tie.Need-of-requires-2 Inv-loop μ-loop Inv-rows μ-rows
+of-requires-2 c κs = search needs
+
 returns-4 : tie.Need-returns-4 Inv-loop μ-loop Inv-rows μ-rows
 returns-4 c =
-    let on = c .before .before .before in
-    new-short _ _ _ _ _ _ _ _ (new (on .before .before .before .before)) _ _ (size-read on) (sym (ap (wholeOf _) (c .enum-told2 .given .1)) ∙ c .before .before .skip .ensures)
+    let told = c .before in
+    let on = told .before .before .before in
+    says _ _ _ _ (c .of2 .ensures)
+    (new-short _ _ _ _ _ _ _ _ (new (on .before .before .before .before)) _ _ (size-read on) (sym (ap (wholeOf _) (told .enum-told3 .given .1)) ∙ told .before .before .skip .ensures))
 
 cast-tags : tie.Need-cast-tags Inv-loop μ-loop Inv-rows μ-rows
 cast-tags c = omega (arith, new-small _ _ _ _ _ _ _ _ (new (c .before .before .before .before .before .before .before .before)) (bytes c))
@@ -142,8 +158,13 @@ rows-again c = new-more _ _ _ _ _ _ _ _ (new (c .before .before .before .before 
 
 returns-5 : tie.Need-returns-5 Inv-loop μ-loop Inv-rows μ-rows
 returns-5 c =
-    let on = c .before .before .before in
-    kept-again _ _ _ _ _ _ (on .before .before .before .before .before .before .rows .inv) _ _ _ (tag-read (on .before .before)) (c .before .before .loop-test .taken) (sym (c .before .wide .ensures) ∙ c .if2 .taken)
+    let test = c .before in
+    let on = test .before .before .before in
+    says _ _ _ _ (c .of3 .ensures)
+    (kept-again _ _ _ _ _ _ (on .before .before .before .before .before .before .rows .inv) _ _ _ (tag-read (on .before .before)) (test .before .before .loop-test .taken) (sym (test .before .wide .ensures) ∙ test .if2 .taken))
+
+of-requires-3 : tie.Need-of-requires-3 Inv-loop μ-loop Inv-rows μ-rows
+of-requires-3 c κs = search needs
 
 pub read-features-spec : {M : Type 1} → statement M
 read-features-spec =
@@ -157,6 +178,7 @@ read-features-spec =
     byte-requires
     enum-known-tag
     enum-told
+    of-requires
     returns
     returns-2
     loop-holds
@@ -167,15 +189,18 @@ read-features-spec =
     loop-again
     feature-length-requires
     enum-known-length
+    enum-told-2
     refusal-requires
     returns-3
     skip-requires
     enum-known-end
-    enum-told-2
+    enum-told-3
+    of-requires-2
     returns-4
     cast-tags
     array-write-tags
     add-count
     rows-less
     rows-again
+    of-requires-3
     returns-5)

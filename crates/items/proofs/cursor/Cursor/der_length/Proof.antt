@@ -10,7 +10,7 @@ use lib.Seq.{take-all}
 use Rattle.format.specs.Bytes.Laws.{bytes-drop}
 use Rattle.der.specs.Length.{readLength}
 use Rattle.der.specs.Length.Exact.{read-is-form}
-use Rattle.verdict.specs.Items.{derOf}
+use Rattle.verdict.specs.Items.{not, derOf}
 use Rattle.items.specs.Cases.Laws.{der-past}
 use Rattle.items.proofs.cursor.Cursor.der_length.Statement.{statement}
 use Rattle.items.proofs.cursor.Cursor.der_length.Tie as tie
@@ -28,8 +28,8 @@ returns c =
     let a = c .before .before .args in
     der-past (a .self .place) (now (a .seal)) (omega arith)
 
-add-t13 : tie.Need-add-t13
-add-t13 c =
+add-t15 : tie.Need-add-t15
+add-t15 c =
     let on = c .before .before .before in
     let a = on .before .before .before .before .args in
     let s = now (a .seal) in
@@ -46,15 +46,10 @@ returns-2 c =
 
 returns-3 : tie.Need-returns-3
 returns-3 c =
-    let on = c .before .before in
+    let told = c .before .before in
+    let on = told .before .before in
     let at = on .before .before .before .before .args .self .place in
-    ap (derOf at) (sym (c .enum-told .given .1) ∙ read on)
-
-returns-4 : tie.Need-returns-4
-returns-4 c =
-    let on = c .before .before in
-    let at = on .before .before .before .before .args .self .place in
-    ap (derOf at) (sym (c .enum-told2 .given .1) ∙ read on)
+    ap (λ r. not r at) (c .length-rule .ensures) ∙ ap (derOf at) (sym (told .read2 .given .1) ∙ read on)
 
 sub-read-length : tie.Need-sub-read-length
 sub-read-length c = search needs
@@ -71,11 +66,11 @@ read-length-requires c κs = search needs
 enum-known-read : tie.Need-enum-known-read
 enum-known-read c = search needs
 
-enum-told : tie.Need-enum-told
-enum-told c = search needs
+enum-known-read-2 : tie.Need-enum-known-read-2
+enum-known-read-2 c = search needs
 
-enum-told-2 : tie.Need-enum-told-2
-enum-told-2 c = search needs
+length-rule-requires : tie.Need-length-rule-requires
+length-rule-requires c κs = search needs
 
 pub der-length-spec : {M : Type 1} → statement M
 der-length-spec =
@@ -87,9 +82,8 @@ der-length-spec =
     part-read-length-end
     read-length-requires
     enum-known-read
-    add-t13
-    enum-told
-    enum-told-2
+    add-t15
+    enum-known-read-2
+    length-rule-requires
     returns-2
-    returns-3
-    returns-4)
+    returns-3)

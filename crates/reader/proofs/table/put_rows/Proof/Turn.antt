@@ -7,9 +7,12 @@ use mathlib.Core.List.{List, [], _∷_, _++_, append-assoc, append-nil}
 use lib.ListN.{length}
 use Rattle.format.specs.Buffer.Laws.{Held, held-start, held-more, held-length, over-start}
 use Rattle.grammar.specs.Content.{Version}
-use Rattle.verdict.specs.Items.{Item, is, not, next, whole, byte, plainIn, featureLength}
+use Rattle.causes.specs.declared.Item.the-variants as item
+use Rattle.causes.specs.declared.Rule.{Rule}
+use Rattle.causes.specs.declared.Rule.the-variants as rule
+use Rattle.verdict.specs.Items.{Way, is, not, next, pass, whole, byte, plainIn, featureLength}
 use Rattle.verdict.specs.Items.Laws.{unread, whole-read}
-use Rattle.verdict.specs.Items.Sound.{steps, same-value, same-place}
+use Rattle.verdict.specs.Items.Sound.{steps, steps-on, same-value, same-place}
 use Rattle.items.specs.Cases.{through}
 use Rattle.rows.specs.declared.Row.{Row}
 use Rattle.rows.specs.Rows.{width, numbers, rowPut, table}
@@ -19,13 +22,13 @@ use Rattle.reader.specs.Calls.{then}
 use Rattle.reader.specs.Rows.{rowsAt, rowsRead, AreRead}
 
 -- rows that are read, with the place after them
-record Ended (i : Item (List Row)) : Type 0 where
+record Ended (i : Way (List Row)) : Type 0 where
   end : ℕ
   is-read : i ≡ is (rowsRead i) end
 
-ended : (i : Item (List Row)) → AreRead i → Ended i
+ended : (i : Way (List Row)) → AreRead i → Ended i
 ended (is rows end) a = record { end = end; is-read = refl }
-ended (not number place) a = absurd a
+ended (not why place) a = absurd a
 
 -- the parts of a row that was read
 record RowParts (v : Version) (x at : ℕ) (s : List ℕ) (r : Row) (after : ℕ) : Type 0 where
@@ -39,22 +42,30 @@ record RowParts (v : Version) (x at : ℕ) (s : List ℕ) (r : Row) (after : ℕ
 row-parts : (v : Version) (x at : ℕ) (s : List ℕ) (r : Row) (after : ℕ) → row v x at s ≡ is r after → RowParts v x at s r after
 unfolding row
 row-parts v x at s r after e =
-    let k = steps (featureLength v at s) (λ n at. whole n at s (valueIn x n at)) r after e in
+    let k = steps-on item.Length (featureLength v at s) (λ n at. next item.Value (whole n at s (valueIn x n at)) is) r after e in
     let n = k .value in
     let m = k .at in
-    let w = whole-read n m s (valueIn x n m) r after (k .goes-on) in
+    let j = steps-on item.Value (whole n m s (valueIn x n m)) is r after (k .goes-on) in
+    let w = whole-read n m s (valueIn x n m) (j .value) (j .at) (j .read) in
     let q : Row = record { tag = x; place = m; size = n } in
-    record { n = n; value = m; sized = k .read; there = w .there; is-row = same-value q r (m + n) after (w .read); reached = same-place q r (m + n) after (w .read) }
+    record {
+      n = n;
+      value = m;
+      sized = k .read;
+      there = w .there;
+      is-row = same-value q (j .value) (m + n) (j .at) (w .read) ∙ same-value (j .value) r (j .at) after (j .goes-on);
+      reached = same-place q (j .value) (m + n) (j .at) (w .read) ∙ same-place (j .value) r (j .at) after (j .goes-on);
+    }
 
 -- the rows that are left after one: what the map that puts it in front was given
-record Behind (r : Row) (i : Item (List Row)) (rest : List Row) (end : ℕ) : Type 0 where
+record Behind (r : Row) (i : Way (List Row)) (rest : List Row) (end : ℕ) : Type 0 where
   others : List Row
   is-read : i ≡ is others end
   in-front : r ∷ others ≡ rest
 
-behind : (r : Row) (i : Item (List Row)) (rest : List Row) (end : ℕ) → through (λ rows. r ∷ rows) i ≡ is rest end → Behind r i rest end
+behind : (r : Row) (i : Way (List Row)) (rest : List Row) (end : ℕ) → through (λ rows. r ∷ rows) i ≡ is rest end → Behind r i rest end
 behind r (is rows at) rest end e = record { others = rows; is-read = ap (is rows) (same-place (r ∷ rows) rest at end e); in-front = same-value (r ∷ rows) rest at end e }
-behind r (not number place) rest end e = absurd (unread number place rest end e)
+behind r (not why place) rest end e = absurd (unread why place rest end e)
 
 -- the next row, and those after it
 record Ahead (more : ℕ) (v : Version) (at : ℕ) (s : List ℕ) (rest : List Row) (end : ℕ) : Type 0 where
@@ -69,7 +80,9 @@ record Ahead (more : ℕ) (v : Version) (at : ℕ) (s : List ℕ) (rest : List R
 ahead : (more : ℕ) (v : Version) (at : ℕ) (s : List ℕ) (rest : List Row) (end : ℕ) → rowsAt (suc more) v at s ≡ is rest end → Ahead more v at s rest end
 unfolding rowsAt
 ahead more v at s rest end e =
-    let i = steps (byte at s (plainIn at)) (λ x at. next (row v x at s) (λ r at. through (λ rows. r ∷ rows) (rowsAt more v at s))) rest end e in
+    let i =
+    steps-on item.Tag (byte at s (plainIn at))
+    (λ x at. pass (row v x at s) (λ r at. through (λ rows. r ∷ rows) (rowsAt more v at s))) rest end e in
     let j = steps (row v (i .value) (i .at) s) (λ r at. through (λ rows. r ∷ rows) (rowsAt more v at s)) rest end (i .goes-on) in
     record {
       x = i .value;
@@ -129,8 +142,8 @@ module _ (v : Version) (s : List ℕ) (count from : ℕ) (entry out : List ℕ) 
     found = one-left (put .left) (put .counted) (put .is-left)
 
     -- so its tag is there
-    pub put-tag : not 2 at ≡ byte at s (plainIn at) → ⊥
-    put-tag e = unread 2 at (found .2 .x) (found .2 .mid) (e ∙ found .2 .plain)
+    pub put-tag : not rule.There at ≡ byte at s (plainIn at) → ⊥
+    put-tag e = unread rule.There at (found .2 .x) (found .2 .mid) (e ∙ found .2 .plain)
 
     module _ (x after : ℕ) (e : is x after ≡ byte at s (plainIn at)) where
       same-tag : x ≡ found .2 .x
@@ -143,8 +156,8 @@ module _ (v : Version) (s : List ℕ) (count from : ℕ) (entry out : List ℕ) 
       sized-here = ap (λ k. featureLength v k s) same-mid ∙ found .2 .parts .sized
 
       -- and so is its length
-      pub put-size : (number place : ℕ) → not number place ≡ featureLength v after s → ⊥
-      put-size number place l = unread number place (found .2 .parts .n) (found .2 .parts .value) (l ∙ sized-here)
+      pub put-size : (rule : Rule) (place : ℕ) → not rule place ≡ featureLength v after s → ⊥
+      put-size rule place l = unread rule place (found .2 .parts .n) (found .2 .parts .value) (l ∙ sized-here)
 
       module _ (n value : ℕ) (l : is n value ≡ featureLength v after s) where
         same-size : n ≡ found .2 .parts .n

@@ -15,7 +15,10 @@ use Rattle.format.specs.Table.{either}
 use Rattle.format.specs.Bytes.{Bytes}
 use Rattle.grammar.specs.Content.{Version}
 use Rattle.grammar.specs.Sizes.{has, free, free-less}
-use Rattle.verdict.specs.Items.{is, not, next, whole, byte, plainIn, featureLength}
+use Rattle.causes.specs.declared.Item.the-variants as item
+use Rattle.causes.specs.declared.Rule.{Rule}
+use Rattle.causes.specs.declared.Rule.the-variants as rule
+use Rattle.verdict.specs.Items.{is, not, why, pass, whole, byte, plainIn, featureLength}
 use Rattle.items.specs.Cases.{past, through}
 use Rattle.items.specs.Cases.Laws.{Read, read-byte, judged-byte, byte-none, Past, past-whole, judged, whole-none}
 use Rattle.verdict.specs.Judge.{Row, used, tagIn, tag, valueIn, row, features}
@@ -76,7 +79,7 @@ free-row n rows r h e =
 
 -- what the features are, by what stands at the place
 module _ (more : ℕ) (v : Version) (rows : List Row) (at : ℕ) (s : List ℕ) where
-  features-cut : not 2 at ≡ byte at s (plainIn at) → features (suc more) v rows at s ≡ not 2 at
+  features-cut : not rule.There at ≡ byte at s (plainIn at) → features (suc more) v rows at s ≡ not (why item.Tag rule.There) at
   unfolding features tag
   features-cut e = rw (sym (byte-none at s (tagIn rows at) e)) refl
 
@@ -84,22 +87,26 @@ module _ (more : ℕ) (v : Version) (rows : List Row) (at : ℕ) (s : List ℕ) 
   unfolding features tag
   features-end after b e = rw (judged-byte at s 0xFF after (tagIn rows at) b, e) refl
 
-  features-used : (x after : ℕ) → Read at s x after → used x rows ≡ true → features (suc more) v rows at s ≡ not 9 at
+  features-used : (x after : ℕ) → Read at s x after → used x rows ≡ true
+      → features (suc more) v rows at s ≡ not (why item.Tag rule.NotUsedBefore) at
   unfolding features tag
   features-used x after b e = rw (judged-byte at s x after (tagIn rows at) b, e) refl
 
-  features-row : (x after : ℕ) → Read at s x after → used x rows ≡ false → (x ≡ 0xFF → ⊥) → features (suc more) v rows at s ≡ next (row v x after s) (λ r at. features more v (rows ++ (r ∷ [])) at s)
+  features-row : (x after : ℕ) → Read at s x after → used x rows ≡ false → (x ≡ 0xFF → ⊥)
+      → features (suc more) v rows at s ≡ pass (row v x after s) (λ r at. features more v (rows ++ (r ∷ [])) at s)
   unfolding features tag
   features-row x after b e other =
-      rw (judged-byte at s x after (tagIn rows at) b, e, ne-eqb x 0xFF other) (ap (λ k. next (row v x k s) (λ r at. features more v (rows ++ (r ∷ [])) at s)) (sym (b .reached)))
+      rw (judged-byte at s x after (tagIn rows at) b, e, ne-eqb x 0xFF other)
+      (ap (λ k. pass (row v x k s) (λ r at. features more v (rows ++ (r ∷ [])) at s)) (sym (b .reached)))
 
 -- what a row is, by its length and value
 module _ (v : Version) (x at : ℕ) (s : List ℕ) where
-  row-refused : (number place : ℕ) → not number place ≡ featureLength v at s → row v x at s ≡ not number place
+  row-refused : (rule : Rule) (place : ℕ) → not rule place ≡ featureLength v at s → row v x at s ≡ not (why item.Length rule) place
   unfolding row
-  row-refused number place e = rw (sym e) refl
+  row-refused rule place e = rw (sym e) refl
 
-  row-cut : (n value : ℕ) → is n value ≡ featureLength v at s → not 2 value ≡ whole n value s (past n value) → row v x at s ≡ not 2 value
+  row-cut : (n value : ℕ) → is n value ≡ featureLength v at s → not rule.There value ≡ whole n value s (past n value)
+      → row v x at s ≡ not (why item.Value rule.There) value
   unfolding row
   row-cut n value e w = rw (sym e, sym (whole-none n value s (valueIn x n value) w)) refl
 
@@ -118,7 +125,7 @@ turn-start v s from = record { same = ap (λ n. features (suc n) v [] from s) (s
 
 module _ (v : Version) (s : List ℕ) (from : ℕ) (rows : List Row) (at : ℕ) (turn : Turn v s from rows at) where
   -- the seal ends here
-  pub walk-cut : not 2 at ≡ byte at s (plainIn at) → features 256 v [] from s ≡ not 2 at
+  pub walk-cut : not rule.There at ≡ byte at s (plainIn at) → features 256 v [] from s ≡ not (why item.Tag rule.There) at
   walk-cut e = turn .same ∙ features-cut (free 255 (tagsOf rows)) v rows at s e
 
   -- FF
@@ -128,13 +135,14 @@ module _ (v : Version) (s : List ℕ) (from : ℕ) (rows : List Row) (at : ℕ) 
       turn .same ∙ features-end (free 255 (tagsOf rows)) v rows at s after b (turn .no-mark)
 
   -- a tag of an earlier row
-  pub walk-again : (x after i : ℕ) → is x after ≡ byte at s (plainIn at) → i < length rows → getD (tagsOf rows) i 0 ≡ x → features 256 v [] from s ≡ not 9 at
+  pub walk-again : (x after i : ℕ) → is x after ≡ byte at s (plainIn at) → i < length rows → getD (tagsOf rows) i 0 ≡ x
+      → features 256 v [] from s ≡ not (why item.Tag rule.NotUsedBefore) at
   walk-again x after i e h f =
       turn .same ∙ features-used (free 255 (tagsOf rows)) v rows at s x after (read-byte at s x after e) (used-at x rows i h f)
 
   -- a new tag
   module _ (x after : ℕ) (e : is x after ≡ byte at s (plainIn at)) (other : x ≡ 0xFF → ⊥) (none : (i : ℕ) → i < length rows → getD (tagsOf rows) i 0 ≡ x → ⊥) where
-    on : features 256 v [] from s ≡ next (row v x after s) (λ r at. features (free 255 (tagsOf rows)) v (rows ++ (r ∷ [])) at s)
+    on : features 256 v [] from s ≡ pass (row v x after s) (λ r at. features (free 255 (tagsOf rows)) v (rows ++ (r ∷ [])) at s)
     on = turn .same ∙ features-row (free 255 (tagsOf rows)) v rows at s x after (read-byte at s x after e) (used-none x rows none) other
 
     -- fewer than 255 rows stand before it
@@ -144,14 +152,17 @@ module _ (v : Version) (s : List ℕ) (from : ℕ) (rows : List Row) (at : ℕ) 
         omega (arith, turn .room, free-row 255 rows r (omega (arith, other)) (used-none x rows none))
 
     -- whose length is not read
-    pub walk-unsized : (number place : ℕ) → not number place ≡ featureLength v after s → features 256 v [] from s ≡ not number place
-    walk-unsized number place l = on ∙ ap (λ i. next i (λ r at. features (free 255 (tagsOf rows)) v (rows ++ (r ∷ [])) at s)) (row-refused v x after s number place l)
+    pub walk-unsized : (rule : Rule) (place : ℕ) → not rule place ≡ featureLength v after s
+        → features 256 v [] from s ≡ not (why item.Length rule) place
+    walk-unsized rule place l =
+        on ∙ ap (λ i. pass i (λ r at. features (free 255 (tagsOf rows)) v (rows ++ (r ∷ [])) at s)) (row-refused v x after s rule place l)
 
     module _ (n value : ℕ) (l : is n value ≡ featureLength v after s) where
       -- whose value is cut
-      pub walk-short : not 2 value ≡ whole n value s (past n value) → features 256 v [] from s ≡ not 2 value
+      pub walk-short : not rule.There value ≡ whole n value s (past n value)
+          → features 256 v [] from s ≡ not (why item.Value rule.There) value
       walk-short w =
-          on ∙ ap (λ i. next i (λ r at. features (free 255 (tagsOf rows)) v (rows ++ (r ∷ [])) at s))
+          on ∙ ap (λ i. pass i (λ r at. features (free 255 (tagsOf rows)) v (rows ++ (r ∷ [])) at s))
           (row-cut v x after s n value l w)
 
       -- whose value is there
@@ -162,7 +173,9 @@ module _ (v : Version) (s : List ℕ) (from : ℕ) (rows : List Row) (at : ℕ) 
           let less : free 255 (tagsOf rows) ≡ suc (free 255 (tagsOf (rows ++ (r ∷ [])))) = free-row 255 rows r (omega (arith, other)) (used-none x rows none) in
           record {
             same =
-                on ∙ ap (λ i. next i (λ r at. features (free 255 (tagsOf rows)) v (rows ++ (r ∷ [])) at s)) (row-is v x after s n value end l p)
+                on
+                ∙ ap (λ i. pass i (λ r at. features (free 255 (tagsOf rows)) v (rows ++ (r ∷ [])) at s))
+                (row-is v x after s n value end l p)
                 ∙ ap (λ k. features k v (rows ++ (r ∷ [])) end s) less;
             room = omega (arith, turn .room, less, length-append rows (r ∷ []));
             no-mark = used-end 0xFF rows r ∙ ap (λ b. either b (used 0xFF rows)) (ne-eqb 0xFF x (λ z. other (sym z))) ∙ turn .no-mark;
@@ -184,13 +197,14 @@ module _ (v : Version) (s : List ℕ) (from : ℕ) (tags : List ℕ) (count at :
   tag-at : (i : ℕ) → i < count → getD (tagsOf (kept .rows)) i 0 ≡ getD tags i 0
   tag-at i h = ap (λ l. getD l i 0) (sym (kept .stand)) ∙ getD-take count tags i 0 h
 
-  pub kept-cut : not 2 at ≡ byte at s (plainIn at) → not 2 at ≡ through length (features 256 v [] from s)
+  pub kept-cut : not rule.There at ≡ byte at s (plainIn at) → not (why item.Tag rule.There) at ≡ through length (features 256 v [] from s)
   kept-cut e = sym (ap (through length) (walk-cut v s from (kept .rows) at (kept .turn) e))
 
   pub kept-end : (x after : ℕ) → is x after ≡ byte at s (plainIn at) → x ≡ 0xFF → is count at ≡ through length (features 256 v [] from s)
   kept-end x after e ff = ap (λ n. is n at) (sym (kept .many)) ∙ sym (ap (through length) (walk-end v s from (kept .rows) at (kept .turn) x after e ff))
 
-  pub kept-again : (x after i : ℕ) → is x after ≡ byte at s (plainIn at) → i < count → getD tags i 0 ≡ x → not 9 at ≡ through length (features 256 v [] from s)
+  pub kept-again : (x after i : ℕ) → is x after ≡ byte at s (plainIn at) → i < count → getD tags i 0 ≡ x
+      → not (why item.Tag rule.NotUsedBefore) at ≡ through length (features 256 v [] from s)
   kept-again x after i e h f =
       sym (ap (through length) (walk-again v s from (kept .rows) at (kept .turn) x after i e (omega (arith, kept .many)) (tag-at i h ∙ f)))
 
@@ -210,8 +224,10 @@ module _ (v : Version) (s : List ℕ) (from : ℕ) (tags : List ℕ) (count at x
       let g : i < count = omega (arith, new .kept .many) in
       new .none i g (sym (tag-at v s from tags count at (new .kept) i g) ∙ f)
 
-  pub new-unsized : (number place : ℕ) → not number place ≡ featureLength v after s → not number place ≡ through length (features 256 v [] from s)
-  new-unsized number place l = sym (ap (through length) (walk-unsized v s from (new .kept .rows) at (new .kept .turn) x after (new .read) (new .other) none-of number place l))
+  pub new-unsized : (rule : Rule) (place : ℕ) → not rule place ≡ featureLength v after s
+      → not (why item.Length rule) place ≡ through length (features 256 v [] from s)
+  new-unsized rule place l =
+      sym (ap (through length) (walk-unsized v s from (new .kept .rows) at (new .kept .turn) x after (new .read) (new .other) none-of rule place l))
 
   pub new-small : Bytes s → x < 256
   new-small bytes = omega (arith, bytes at, read-byte at s x after (new .read) .is-byte)
@@ -220,7 +236,8 @@ module _ (v : Version) (s : List ℕ) (from : ℕ) (tags : List ℕ) (count at x
   new-room bytes = omega (arith, new .kept .many, walk-room v s from (new .kept .rows) at (new .kept .turn) x after (new .read) (new .other) none-of (new-small bytes))
 
   module _ (n value : ℕ) (l : is n value ≡ featureLength v after s) where
-    pub new-short : not 2 value ≡ whole n value s (past n value) → not 2 value ≡ through length (features 256 v [] from s)
+    pub new-short : not rule.There value ≡ whole n value s (past n value)
+        → not (why item.Value rule.There) value ≡ through length (features 256 v [] from s)
     new-short w = sym (ap (through length) (walk-short v s from (new .kept .rows) at (new .kept .turn) x after (new .read) (new .other) none-of n value l w))
 
     pub new-more : (end : ℕ) → Bytes s → is tt end ≡ whole n value s (past n value) → Kept v s from (set tags count x) (count + 1) end
