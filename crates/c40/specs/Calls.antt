@@ -8,7 +8,7 @@ use lib.ListN.{length}
 use Rattle.format.specs.Choice.{pick}
 use Rattle.format.specs.Answers.{Outcome, Answer, done}
 use Rattle.format.specs.Order.{Test, test, inOrder}
-use Rattle.c40.specs.Chart.{inChart}
+use Rattle.pairs.specs.Chart.{inChart}
 use Rattle.c40.specs.Text.{publish, width}
 use Rattle.c40.specs.Decode.{decode, textOf, isText, wrongAt}
 use Rattle.c40.specs.declared.Reading.{Reading}

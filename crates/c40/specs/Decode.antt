@@ -6,12 +6,12 @@ use mathlib.Core.Path.{_≡_}
 use Prim.Native.Nat.{ℕ, _+_, _%_, _≤_}
 use mathlib.Core.List.{List, [], _∷_, _++_}
 use lib.ListN.{length}
-use Rattle.c40.specs.Chart.{theChart}
-use Rattle.c40.specs.Pairs.{pairOf}
-use Rattle.c40.specs.declared.decode.Fault.{Fault}
-use Rattle.c40.specs.declared.decode.Fault.the-variants.{WronglyCoded}
-use Rattle.c40.specs.declared.decode.Pair.{Pair}
-use Rattle.c40.specs.declared.decode.Pair.the-variants.{Three, Two, One, Wrong}
+use Rattle.pairs.specs.Chart.{theChart}
+use Rattle.pairs.specs.Pairs.{pairOf}
+use Rattle.pairs.specs.declared.decode.Fault.{Fault}
+use Rattle.pairs.specs.declared.decode.Fault.the-variants.{WronglyCoded}
+use Rattle.pairs.specs.declared.decode.Pair.{Pair}
+use Rattle.pairs.specs.declared.decode.Pair.the-variants.{Three, Two, One, Wrong}
 use Rattle.c40.specs.declared.decode.Judged.{Judged}
 use Rattle.c40.specs.declared.decode.Judged.the-variants as judged
 
@@ -39,7 +39,7 @@ follow at (Wrong fault) d = wrong fault at
 unfoldable pub decode : ℕ → List ℕ → Decoded
 decode at [] = text []
 decode at (x ∷ []) = wrong WronglyCoded at
-decode at (x ∷ y ∷ s) = follow at (pairOf (none s) x y) (decode (at + 2) s)
+decode at (x ∷ y ∷ s) = follow at (pairOf theChart (none s) x y) (decode (at + 2) s)
 
 -- what the judge says of it, and the text itself
 abbrev pub judgedOf : Decoded → Judged

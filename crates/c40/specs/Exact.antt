@@ -15,18 +15,18 @@ use Rattle.format.specs.Choice.Laws.{by-test}
 use Rattle.format.specs.Cut.{Cut}
 use Rattle.format.specs.Cut.Laws.{cut-sized}
 use Rattle.format.specs.Answers.{done, refused}
-use Rattle.c40.specs.Chart.{valueOf, InChart}
-use Rattle.c40.specs.Text.{Text, TextOf, triple, publish, width}
-use Rattle.c40.specs.Text.Laws.{triple-is, length-publish, publish-three, publish-two, publish-one, publish-none}
-use Rattle.c40.specs.Pairs.{pairOf, charsOf}
-use Rattle.c40.specs.Pairs.Laws.{chars-some, by-pair}
-use Rattle.c40.specs.Pairs.Exact.{pair-three, pair-two, pair-one, pair-sound}
+use Rattle.pairs.specs.Chart.{theChart, valueOf, InChart}
+use Rattle.c40.specs.Text.{Text, TextOf, publish, width}
+use Rattle.c40.specs.Text.Laws.{length-publish, publish-three, publish-two, publish-one, publish-none, publish-pair}
+use Rattle.pairs.specs.Pairs.{pairOf, charsOf, triple}
+use Rattle.pairs.specs.Pairs.Laws.{chars-some, by-pair, triple-is}
+use Rattle.pairs.specs.Pairs.Exact.{pair-three, pair-two, pair-one, pair-sound}
 use Rattle.c40.specs.Decode.{Decoded, text, wrong, ahead, follow, none, decode}
 use Rattle.c40.specs.Decode.Laws.{follow-good, ahead-text, wrong-text}
-use Rattle.c40.specs.declared.decode.Fault.{Fault}
-use Rattle.c40.specs.declared.decode.Fault.the-variants.{WronglyCoded}
-use Rattle.c40.specs.declared.decode.Pair.{Pair}
-use Rattle.c40.specs.declared.decode.Pair.the-variants.{Wrong}
+use Rattle.pairs.specs.declared.decode.Fault.{Fault}
+use Rattle.pairs.specs.declared.decode.Fault.the-variants.{WronglyCoded}
+use Rattle.pairs.specs.declared.decode.Pair.{Pair}
+use Rattle.pairs.specs.declared.decode.Pair.the-variants.{Wrong}
 use Rattle.c40.specs.Calls.{known, reading, writing}
 use Rattle.c40.specs.Calls.Laws.{known-text, text-known, reading-long, reading-odd, reading-wrong, reading-no-room, reading-done, writing-long, writing-stranger, writing-no-room, writing-done}
 
@@ -66,12 +66,14 @@ joined [] p u whole e =
 joined (z ∷ s) p u whole e = three-ahead p u (whole refl) ∙ ap (λ q. publish p ++ q) e
 
 -- one pair, where the rest is settled
-turn : (x y : ℕ) (s : List ℕ) → Byte x → Byte y → (at : ℕ) (t : List ℕ) → follow at (pairOf (none s) x y) (decode (at + 2) s) ≡ text t
-    → ((u : List ℕ) → decode (at + 2) s ≡ text u → Text u × (publish u ≡ s)) → Text t × (publish t ≡ x ∷ y ∷ s)
+turn : (x y : ℕ) (s : List ℕ) → Byte x → Byte y → (at : ℕ) (t : List ℕ)
+    → follow at (pairOf theChart (none s) x y) (decode (at + 2) s) ≡ text t
+    → ((u : List ℕ) → decode (at + 2) s ≡ text u → Text u × (publish u ≡ s))
+    → Text t × (publish t ≡ x ∷ y ∷ s)
 turn x y s hx hy at t e rest = by-pair pair some nothing
   where
     pair : Pair
-    pair = pairOf (none s) x y
+    pair = pairOf theChart (none s) x y
 
     some : 0 < length (charsOf pair) → Text t × (publish t ≡ x ∷ y ∷ s)
     some good =
@@ -80,7 +82,7 @@ turn x y s hx hy at t e rest = by-pair pair some nothing
         let r = rest (u .0) (u .1) in
         let c = pair-sound (none s) x y hx hy (chars-some pair good) in (
           subst (λ v. Text v) (u .2) (all-append InChart p (u .0) (c .is-text) (r .0)),
-          ap publish (sym (u .2)) ∙ joined s p (u .0) (c .whole) (r .1) ∙ ap (λ q. q ++ s) (c .form),
+          ap publish (sym (u .2)) ∙ joined s p (u .0) (c .whole) (r .1) ∙ ap (λ q. q ++ s) (publish-pair pair ∙ c .form),
         )
 
     nothing : (fault : Fault) → pair ≡ Wrong fault → Text t × (publish t ≡ x ∷ y ∷ s)

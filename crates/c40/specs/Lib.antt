@@ -1,6 +1,4 @@
-pub mod Chart
 pub mod Text
-pub mod Pairs
 pub mod Decode
 pub mod Calls
 pub mod Exact

@@ -6,7 +6,7 @@ use Rattle.format.specs.Choice.{pick}
 use Rattle.format.specs.Answers.{Answer}
 use Rattle.format.specs.OneToOne.{OneToOne, one-back}
 use Rattle.c40.specs.Calls.{readingOf, writingOf}
-use Rattle.c40.specs.declared.decode.Fault.the-variants.{WronglyCoded}
+use Rattle.pairs.specs.declared.decode.Fault.the-variants.{WronglyCoded}
 use Rattle.c40.specs.declared.Reading.{Reading}
 use Rattle.c40.specs.declared.Reading.the-variants as read
 use Rattle.c40.specs.declared.Writing.{Writing}

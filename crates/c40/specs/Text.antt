@@ -6,8 +6,8 @@ use Prim.Native.Nat.{ℕ, _+_, _*_, _/_}
 use mathlib.Core.List.{List, [], _∷_, _++_}
 use lib.ListN.{length}
 use Rattle.format.specs.Bytes.{All}
-use Rattle.format.specs.Numbers.{be}
-use Rattle.c40.specs.Chart.{valueOf, InChart}
+use Rattle.pairs.specs.Chart.{valueOf, InChart}
+use Rattle.pairs.specs.Pairs.{triple}
 
 -- text is characters of the chart; text of k characters
 abbrev pub Text : List ℕ → Type 0
@@ -15,13 +15,6 @@ Text t = All InChart t
 
 abbrev pub TextOf : ℕ → List ℕ → Type 0
 TextOf k t = (length t ≡ k) × Text t
-
--- three values a, b, c make 1600a + 40b + c + 1, big-endian in two bytes
-abbrev pub packedOf : ℕ → ℕ → ℕ → ℕ
-packedOf a b c = 1600 * a + 40 * b + c + 1
-
-unfoldable pub triple : ℕ → ℕ → ℕ → List ℕ
-triple a b c = be 2 (packedOf a b c)
 
 -- Full triples; two left over are completed with 0; one left over is FE and its ASCII code plus 1.
 unfoldable pub publish : List ℕ → List ℕ

@@ -1,121 +1,23 @@
-// From C40 bytes to text: a pair, all pairs judged, the text put down.
+// From C40 bytes to text: all pairs judged, the text put down.
 ghost use mathlib.Core.Path.{_≡_};
 ghost use mathlib.Core.Bool.{false};
-ghost use Prim.Native.Nat.{_+_, _*_, _≤_, _<_};
+ghost use Prim.Native.Nat.{_+_, _≤_};
 ghost use lib.ListN.{length};
 ghost use Rattle.format.specs.Buffer.{over};
-ghost use Rattle.c40.specs.Chart.{theChart};
-ghost use Rattle.c40.specs.Pairs.{pairOf, charsOf, first, second, third};
+ghost use Rattle.pairs.specs.Chart.{theChart};
+ghost use Rattle.pairs.specs.Pairs.{pairOf, charsOf};
 ghost use Rattle.c40.specs.Decode.{decode, judgedOf, textOf, Even, Good};
-use crate::chart::value_of;
 use octets::wide;
-
-// What is wrong with a pair of bytes: one kind, which 41 tells.
-pub enum Fault {
-    WronglyCoded,
-}
-
-// What a pair of bytes carries.
-pub enum Pair {
-    Three(u8, u8, u8),
-    // two characters, which only the last pair may carry
-    Two(u8, u8),
-    // one character, which only the last pair may carry
-    One(u8),
-    // no characters, but what is wrong
-    Wrong(Fault),
-}
-
-// Three values below 40.
-pub struct Values {
-    pub a: usize,
-    pub b: usize,
-    pub c: usize,
-}
+use pairs::Fault;
+use pairs::Pair;
+use pairs::carried;
+use pairs::pair_of;
+use pairs::split;
 
 // What all pairs together carry: so many characters, or the fault of the first pair that is wrongly coded, and its place.
 pub enum Judged {
     Text(usize),
     Wrong(Fault, usize),
-}
-
-// The three values of a pair's number, 1 to 64,000 (Doc 9303-13, 2.6.2).
-pub(crate) fn split(number: usize) -> Values
-    requires { ⌜ (0 < number) × (number ≤ 64000) ⌝ }
-    ensures { λ r. ⌜ (r .a ≡ first number) × ((r .b ≡ second number) × (r .c ≡ third number)) ⌝ }
-{
-    let n = number - 1;
-    Values {
-        a: n / 1600,
-        b: n / 40 % 40,
-        c: n % 40,
-    }
-}
-
-// What a pair carries that begins with FE: one character, its code plus 1, and only as the last pair.
-pub(crate) fn single(chart: &[u8; 40], x: u8, y: u8, last: bool) -> Pair
-    requires { ⌜ (now chart ≡ theChart) × (64000 < x * 256 + y) ⌝ }
-    ensures { λ r. ⌜ r ≡ pairOf last x y ⌝ }
-{
-    if x != 0xFE {
-        return Pair::Wrong(Fault::WronglyCoded);
-    }
-    if !last {
-        return Pair::Wrong(Fault::WronglyCoded);
-    }
-    if y == 0 {
-        return Pair::Wrong(Fault::WronglyCoded);
-    }
-    let c = y - 1;
-    if chart[value_of(c)] != c {
-        return Pair::Wrong(Fault::WronglyCoded);
-    }
-    Pair::One(c)
-}
-
-// What the pair `x`, `y` carries.
-pub(crate) fn pair_of(chart: &[u8; 40], x: u8, y: u8, last: bool) -> Pair
-    requires { ⌜ now chart ≡ theChart ⌝ }
-    ensures { λ r. ⌜ r ≡ pairOf last x y ⌝ }
-{
-    let number = wide(x) * 256 + wide(y);
-    if number == 0 {
-        return Pair::Wrong(Fault::WronglyCoded);
-    }
-    if 64000 < number {
-        return single(chart, x, y, last);
-    }
-    let v = split(number);
-    let a = v.a;
-    let b = v.b;
-    let c = v.c;
-    if a < 3 {
-        return Pair::Wrong(Fault::WronglyCoded);
-    }
-    if b < 3 {
-        return Pair::Wrong(Fault::WronglyCoded);
-    }
-    if 3 <= c {
-        return Pair::Three(chart[a], chart[b], chart[c]);
-    }
-    if c == 0 {
-        if last {
-            return Pair::Two(chart[a], chart[b]);
-        }
-    }
-    Pair::Wrong(Fault::WronglyCoded)
-}
-
-// How many characters a pair carries; none where it is wrongly coded.
-pub(crate) fn carried(pair: Pair) -> usize
-    ensures { λ r. ⌜ r ≡ length (charsOf pair) ⌝ }
-{
-    match pair {
-        Pair::Three(_, _, _) => 3,
-        Pair::Two(_, _) => 2,
-        Pair::One(_) => 1,
-        Pair::Wrong(_) => 0,
-    }
 }
 
 // Judges all pairs of an even number of bytes, from the left.
@@ -161,10 +63,10 @@ pub(crate) fn put_pair(pair: Pair, out: &mut [u8], at: usize)
 
 // What a pair carries that was judged good and is not the last: three characters, with no test left to make.
 pub(crate) fn full(chart: &[u8; 40], x: u8, y: u8) -> Pair
-    requires { ⌜ (now chart ≡ theChart) × (length (charsOf (pairOf false x y)) ≡ 3) ⌝ }
-    ensures { λ r. ⌜ r ≡ pairOf false x y ⌝ }
+    requires { ⌜ (now chart ≡ theChart) × (length (charsOf (pairOf theChart false x y)) ≡ 3) ⌝ }
+    ensures { λ r. ⌜ r ≡ pairOf theChart false x y ⌝ }
 {
-    let v = split(wide(x) * 256 + wide(y));
+    let v = split(wide(x) * 256 + wide(y) - 1);
     let a = v.a;
     let b = v.b;
     let c = v.c;

@@ -4,11 +4,13 @@ ghost use Prim.Native.Nat.{_+_, _<_, _≤_};
 ghost use lib.ListN.{length};
 ghost use Rattle.format.specs.Numbers.{be};
 ghost use Rattle.format.specs.Buffer.{over};
-ghost use Rattle.c40.specs.Chart.{theChart, valueOf};
-ghost use Rattle.c40.specs.Text.{Text, packedOf, publish, width};
+ghost use Rattle.pairs.specs.Chart.{theChart};
+ghost use Rattle.c40.specs.Text.{Text, publish, width};
 ghost use Rattle.c40.specs.Calls.{known as knownOf};
-use crate::chart::value_of;
-use octets::wide;
+use pairs::number_of;
+use pairs::number_of_one;
+use pairs::number_of_two;
+use pairs::value_of;
 
 // The index of the first character that is not in the chart, or the length: the chart must have the character at its value.
 pub(crate) fn known(chart: &[u8; 40], text: &[u8]) -> usize
@@ -37,14 +39,6 @@ pub(crate) fn put_number(number: usize, out: &mut [u8], at: usize)
     out[at + 1] = (number % 256) as u8;
 }
 
-// The number of three values, the third given: 1600a + 40b + c + 1.
-pub(crate) fn packed(a: u8, b: u8, c: usize) -> usize
-    requires { ⌜ c < 40 ⌝ }
-    ensures { λ r. ⌜ (r ≡ packedOf (valueOf a) (valueOf b) c) × (r ≤ 64000) ⌝ }
-{
-    1600 * value_of(a) + 40 * value_of(b) + c + 1
-}
-
 // Puts down the C40 bytes of text from the start of `out`, which has room for them.
 pub(crate) fn put(text: &[u8], out: &mut [u8])
     requires { ⌜ Text (now text) × (width (length (now text)) ≤ length (now out)) ⌝ }
@@ -54,15 +48,13 @@ pub(crate) fn put(text: &[u8], out: &mut [u8])
     let mut i: usize = 0;
     let mut at: usize = 0;
     while i + 2 < n {
-        put_number(packed(text[i], text[i + 1], value_of(text[i + 2])), out, at);
+        put_number(number_of(text[i], text[i + 1], text[i + 2]), out, at);
         i += 3;
         at += 2;
     }
     if i + 2 == n {
-        // two left over are completed with 0
-        put_number(packed(text[i], text[i + 1], 0), out, at);
+        put_number(number_of_two(text[i], text[i + 1]), out, at);
     } else if i < n {
-        // one left over is FE and its ASCII code plus 1
-        put_number(0xFE00 + wide(text[i]) + 1, out, at);
+        put_number(number_of_one(text[i]), out, at);
     }
 }

@@ -3,16 +3,13 @@ ghost use mathlib.Core.Path.{_≡_};
 ghost use Prim.Native.Nat.{_≤_};
 ghost use lib.ListN.{length};
 ghost use Rattle.format.specs.Answers.{told, filled};
-ghost use Rattle.c40.specs.Chart.{valueOf};
-ghost use Rattle.c40.specs.Text.{packedOf};
 ghost use Rattle.c40.specs.Calls.{reading, writing, readingOf, writingOf};
 
-mod chart;
 mod decode;
 mod encode;
 
-pub use decode::Fault;
 use decode::Judged;
+use pairs::Fault;
 
 // What reading C40 bytes answers; `readingOf` of specs/Calls.antt gives each case its number and place.
 pub enum Reading {
@@ -52,7 +49,7 @@ pub fn read(bytes: &[u8], out: &mut [u8]) -> Reading
     if n % 2 == 1 {
         return Reading::Odd(n);
     }
-    let chart = chart::CHART;
+    let chart = pairs::the_chart();
     let judged = decode::judge(&chart, bytes);
     match judged {
         Judged::Wrong(fault, at) => Reading::WrongPair(fault, at),
@@ -75,7 +72,7 @@ pub fn write(text: &[u8], out: &mut [u8]) -> Writing
     if 6144 < n {
         return Writing::TooLong;
     }
-    let chart = chart::CHART;
+    let chart = pairs::the_chart();
     let known = encode::known(&chart, text);
     if known < n {
         return Writing::Stranger(known);
@@ -86,11 +83,4 @@ pub fn write(text: &[u8], out: &mut [u8]) -> Writing
     }
     encode::put(text, out);
     Writing::Done(size)
-}
-
-// The number of a full pair: 1600a + 40b + c + 1 of the values of three characters. It judges none of them: that is for `write`, or for a caller who has done so.
-pub fn number_of(a: u8, b: u8, c: u8) -> usize
-    ensures { λ r. ⌜ (r ≡ packedOf (valueOf a) (valueOf b) (valueOf c)) × (r ≤ 64000) ⌝ }
-{
-    encode::packed(a, b, chart::value_of(c))
 }

@@ -8,8 +8,8 @@ use Rattle.format.specs.Numbers.{val}
 use Rattle.format.specs.Answers.{told}
 use Rattle.dates.specs.Days.{isDay}
 use Rattle.dates.specs.Calls.{fromNumber, toNumber}
-use Rattle.c40.specs.Chart.{theChart, valueOf}
-use Rattle.c40.specs.Pairs.{pairOf, single, values}
+use Rattle.pairs.specs.Chart.{theChart, valueOf}
+use Rattle.pairs.specs.Pairs.{pairOf, single, values}
 use Rattle.c40.specs.Decode.{decode}
 use Rattle.c40.specs.Calls.{reading as readText, known, writing as writeText}
 use Rattle.der.specs.Length.{readLength, longForm}

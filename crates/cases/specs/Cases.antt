@@ -4,9 +4,9 @@ use mathlib.Core.Path.{_≡_, refl}
 use mathlib.Core.List.{List, _++_, map}
 use Rattle.format.specs.Order.{inRoom}
 use Rattle.format.specs.Numbers.{be, val}
-use Rattle.c40.specs.Chart.{theChart, valueOf}
-use Rattle.c40.specs.Text.{triple, publish}
-use Rattle.c40.specs.Pairs.{single, values, pairOf}
+use Rattle.pairs.specs.Chart.{theChart, valueOf}
+use Rattle.c40.specs.Text.{publish}
+use Rattle.pairs.specs.Pairs.{single, values, pairOf, triple}
 use Rattle.c40.specs.Decode.{decode}
 use Rattle.c40.specs.Calls.{reading, known, writing}
 use Rattle.dates.specs.Days.{isDay, publish as date}

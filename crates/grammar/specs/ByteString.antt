@@ -12,7 +12,7 @@ use Rattle.format.specs.Numbers.Laws.{be-bytes}
 use Rattle.format.specs.Bytes.{Byte, Bytes}
 use Rattle.format.specs.Bytes.Laws.{bytes-nil, bytes-cons, bytes-append, all-append}
 use Rattle.format.specs.Choice.Laws.{by-test}
-use Rattle.c40.specs.Chart.{InChart}
+use Rattle.pairs.specs.Chart.{InChart}
 use Rattle.c40.specs.Text.{publish as c40}
 use Rattle.c40.specs.Text.Laws.{publish-bytes}
 use Rattle.dates.specs.Days.{publish as date}

@@ -17,8 +17,8 @@ use Rattle.format.specs.Cut.{Cut}
 use Rattle.format.specs.Cut.Laws.{cut-through}
 use Rattle.format.specs.Hex.{hexDigit, hexValue}
 use Rattle.format.specs.Hex.Laws.{digit-value}
-use Rattle.c40.specs.Chart.{InChart}
-use Rattle.c40.specs.Chart.Laws.{letter-in, digit-in, space-in}
+use Rattle.pairs.specs.Chart.{InChart}
+use Rattle.pairs.specs.Chart.Laws.{letter-in, digit-in, space-in}
 use Rattle.c40.specs.Text.{Text, TextOf, publish as c40}
 use Rattle.c40.specs.Exact.{three-ahead, cut-text}
 use Rattle.grammar.specs.Content.{Version, three, four}

@@ -5,8 +5,8 @@ use Prim.Native.Nat.{ℕ, _-_}
 use mathlib.Core.List.{List, [], _∷_}
 use mathlib.Core.Option.{none, Option·map}
 use Rattle.format.specs.Numbers.{val}
-use Rattle.c40.specs.Chart.{theChart, valueOf}
-use Rattle.c40.specs.Pairs.{pairOf, single, values}
+use Rattle.pairs.specs.Chart.{theChart, valueOf}
+use Rattle.pairs.specs.Pairs.{pairOf, single, values}
 use Rattle.c40.specs.Decode.{decode}
 use Rattle.dates.specs.Days.{isDay}
 use Rattle.dates.specs.Calls.{no-date}

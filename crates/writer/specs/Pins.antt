@@ -6,8 +6,9 @@ use mathlib.Core.List.{List, [], _∷_, _++_}
 use lib.ListN.{replicate}
 use Rattle.format.specs.Numbers.{be}
 use Rattle.format.specs.Answers.{done, refused}
-use Rattle.c40.specs.Chart.{theChart, valueOf}
-use Rattle.c40.specs.Text.{publish as c40, triple}
+use Rattle.pairs.specs.Chart.{theChart, valueOf}
+use Rattle.c40.specs.Text.{publish as c40}
+use Rattle.pairs.specs.Pairs.{triple}
 use Rattle.dates.specs.Days.{isDay, publish as date}
 use Rattle.der.specs.Length.{form}
 use Rattle.grammar.specs.Publish.{headerZone, messageZone, signatureZone, signedBytes, publish}

@@ -14,8 +14,9 @@ use Rattle.format.specs.Buffer.{over}
 use Rattle.format.specs.Buffer.Laws.{over-none, length-over, over-over, set-over, over-two, over-three}
 use Rattle.format.specs.Answers.{filled}
 use Rattle.format.specs.Hex.{hexDigit}
-use Rattle.c40.specs.Chart.{InChart, valueOf}
-use Rattle.c40.specs.Text.{Text, packedOf, triple, publish as c40}
+use Rattle.pairs.specs.Chart.{InChart, valueOf}
+use Rattle.c40.specs.Text.{Text, publish as c40}
+use Rattle.pairs.specs.Pairs.{packedOf, triple}
 use Rattle.c40.specs.Text.Laws.{length-publish, publish-three, publish-none, left-three, left-none}
 use Rattle.c40.specs.Calls.{writing}
 use Rattle.c40.specs.Calls.Laws.{writing-done, text-known}

@@ -8,8 +8,9 @@ use lib.ListN.{replicate}
 use Rattle.format.specs.Bytes.{All}
 use Rattle.format.specs.Numbers.{be}
 use Rattle.format.specs.Answers.{done, refused}
-use Rattle.c40.specs.Chart.{theChart, valueOf}
-use Rattle.c40.specs.Text.{triple, publish as c40}
+use Rattle.pairs.specs.Chart.{theChart, valueOf}
+use Rattle.c40.specs.Text.{publish as c40}
+use Rattle.pairs.specs.Pairs.{triple}
 use Rattle.dates.specs.declared.Date.{Date}
 use Rattle.dates.specs.Days.{isDay, firstDay, lastDay, publish as date}
 use Rattle.der.specs.Length.{form}

@@ -28,7 +28,7 @@ pub(crate) fn put_text(text: &[u8], out: &mut [u8], start: usize) -> usize
     let mut at = start;
     let mut i: usize = 0;
     while i + 2 < n {
-        let number = c40::number_of(text[i], text[i + 1], text[i + 2]);
+        let number = pairs::number_of(text[i], text[i + 1], text[i + 2]);
         out[at] = (number / 256) as u8;
         out[at + 1] = (number % 256) as u8;
         at += 2;

@@ -2,13 +2,12 @@
 -- Assumes nothing.
 use borrow.Author.Needs.{needs}
 use native.Mathlib.Omega.{arith}
-use mathlib.Core.Path.{_≡_, _∙_, refl, sym, ap}
+use mathlib.Core.Path.{_≡_, _∙_, sym, ap}
 use Prim.Native.Nat.{ℕ, _<_, _≤_}
 use denote.Ref.{now}
 use lib.ListN.{length}
 use Rattle.format.specs.Answers.{refused}
 use Rattle.format.specs.Answers.Laws.{refuses, gives}
-use Rattle.c40.specs.Chart.{theChart}
 use Rattle.c40.specs.Text.Laws.{length-publish}
 use Rattle.c40.specs.Calls.Laws.{known-text, writing-long, writing-stranger, writing-no-room, writing-done}
 use Rattle.c40.proofs.write.Statement.{statement}
@@ -17,9 +16,11 @@ use Rattle.c40.proofs.write.Tie as tie
 returns : tie.Need-returns
 returns c = refuses _ 45 0 _ (writing-long _ _ (omega arith))
 
+the-chart-requires : tie.Need-the-chart-requires
+the-chart-requires c κs = search needs
+
 known-requires : tie.Need-known-requires
-unfolding theChart
-known-requires c κs = refl
+known-requires c κs = c .before .the-chart .ensures
 
 returns-2 : tie.Need-returns-2
 returns-2 c =
@@ -36,14 +37,15 @@ returns-3 : tie.Need-returns-3
 returns-3 c = refuses _ 44 0 _ (writing-no-room _ _ (omega arith) (omega arith) (omega arith))
 
 put-requires : tie.Need-put-requires
-put-requires c κs = (known-text (now (c .before .before .before .before .before .before .before .before .args .text)) (omega arith), omega arith)
+put-requires c κs =
+    (known-text (now (c .before .before .before .before .before .before .before .before .before .args .text)) (omega arith), omega arith)
 
 same-length : tie.Need-same-length
 same-length c = search needs
 
 returns-4 : tie.Need-returns-4
 returns-4 c =
-    let text = now (c .before .before .before .before .before .before .before .before .before .before .before .args .text) in
+    let text = now (c .before .before .before .before .before .before .before .before .before .before .before .before .args .text) in
     gives _ _ _ _ _ (writing-done text _ (omega arith) (omega arith) (omega arith)) (omega (arith, length-publish text)) (c .before .before .put .ensures)
 
 pub write-spec : {M : Type 1} → statement M
@@ -51,6 +53,7 @@ write-spec =
     tie.close
     (tie.spec
     returns
+    the-chart-requires
     known-requires
     returns-2
     add-size

@@ -10,11 +10,11 @@ use lib.ListN.{length, getD, drop}
 use Rattle.format.specs.Choice.{pick}
 use Rattle.format.specs.Choice.Laws.{by-test}
 use Rattle.format.specs.Places.{at-place, past-end}
-use Rattle.c40.specs.Chart.{char, valueOf, InChart}
+use Rattle.pairs.specs.Chart.{char, valueOf, InChart}
 use Rattle.format.specs.Answers.{done, refused}
 use Rattle.c40.specs.Text.{Text, publish, width}
 use Rattle.c40.specs.Decode.{Decoded, decode, text, wrong, textOf, isText, wrongAt}
-use Rattle.c40.specs.declared.decode.Fault.{Fault}
+use Rattle.pairs.specs.declared.decode.Fault.{Fault}
 use Rattle.c40.specs.Calls.{known, reading, writing}
 
 known-in : (c : ℕ) (t : List ℕ) → InChart c → known (c ∷ t) ≡ suc (known t)

@@ -10,11 +10,12 @@ use lib.Dec.{ltb, eqb}
 use lib.ListN.{length, getD, drop, length-append, length-drop}
 use Rattle.format.specs.Choice.Laws.{by-test}
 use Rattle.format.specs.Places.{at-place, past-end}
-use Rattle.c40.specs.Pairs.{pairOf, charsOf}
-use Rattle.c40.specs.Pairs.Laws.{pair-full, chars-some, by-pair}
-use Rattle.c40.specs.declared.decode.Fault.{Fault}
-use Rattle.c40.specs.declared.decode.Pair.{Pair}
-use Rattle.c40.specs.declared.decode.Pair.the-variants.{Three, Two, One, Wrong}
+use Rattle.pairs.specs.Chart.{theChart}
+use Rattle.pairs.specs.Pairs.{pairOf, charsOf}
+use Rattle.pairs.specs.Pairs.Laws.{pair-full, chars-some, by-pair}
+use Rattle.pairs.specs.declared.decode.Fault.{Fault}
+use Rattle.pairs.specs.declared.decode.Pair.{Pair}
+use Rattle.pairs.specs.declared.decode.Pair.the-variants.{Three, Two, One, Wrong}
 use Rattle.c40.specs.declared.decode.Judged.the-variants as judged
 use Rattle.c40.specs.Decode.{Decoded, text, wrong, ahead, follow, none, decode, textOf, judgedOf}
 
@@ -57,14 +58,15 @@ none-by-length (x ∷ s) n k e h = sym (ne-eqb k n (λ f. omega arith))
 -- one pair more, at a place; the end
 module _ (s : List ℕ) (i : ℕ) where
   pub decode-pair : i + 2 ≤ length s
-      → decode i (drop i s) ≡ follow i (pairOf (eqb (i + 2) (length s)) (getD s i 0) (getD s (i + 1) 0)) (decode (i + 2) (drop (i + 2) s))
+      → let p = pairOf theChart (eqb (i + 2) (length s)) (getD s i 0) (getD s (i + 1) 0) in
+      decode i (drop i s) ≡ follow i p (decode (i + 2) (drop (i + 2) s))
   unfolding decode
   decode-pair h =
       let next : i + 1 + 1 ≡ i + 2 = omega arith in
       let two : drop i s ≡ getD s i 0 ∷ getD s (i + 1) 0 ∷ drop (i + 2) s =
       at-place s i 0 (omega arith) ∙ ap (λ t. getD s i 0 ∷ t) (at-place s (i + 1) 0 (omega arith) ∙ ap (λ k. getD s (i + 1) 0 ∷ drop k s) next) in
       let last : none (drop (i + 2) s) ≡ eqb (i + 2) (length s) = none-by-length (drop (i + 2) s) (length s) (i + 2) (length-drop (i + 2) s) h in
-      ap (decode i) two ∙ ap (λ l. follow i (pairOf l (getD s i 0) (getD s (i + 1) 0)) (decode (i + 2) (drop (i + 2) s))) last
+      ap (decode i) two ∙ ap (λ l. follow i (pairOf theChart l (getD s i 0) (getD s (i + 1) 0)) (decode (i + 2) (drop (i + 2) s))) last
 
   pub decode-end : length s ≤ i → decode i (drop i s) ≡ text []
   unfolding decode
@@ -79,17 +81,17 @@ sofar-start s = sym (ahead-nothing (decode 0 s))
 
 -- before the last pair of bytes that decode as text: three characters more; at the last pair: the text is whole
 pub record Inner (s : List ℕ) (i : ℕ) (before t : List ℕ) : Type 0 where
-  pub three : length (charsOf (pairOf false (getD s i 0) (getD s (i + 1) 0))) ≡ 3
+  pub three : length (charsOf (pairOf theChart false (getD s i 0) (getD s (i + 1) 0))) ≡ 3
   pub room : length before + 3 ≤ length t
-  pub next : Sofar s (i + 2) (before ++ charsOf (pairOf false (getD s i 0) (getD s (i + 1) 0)))
+  pub next : Sofar s (i + 2) (before ++ charsOf (pairOf theChart false (getD s i 0) (getD s (i + 1) 0)))
 
 pub record Last (s : List ℕ) (i : ℕ) (before t : List ℕ) : Type 0 where
-  pub room : length before + length (charsOf (pairOf true (getD s i 0) (getD s (i + 1) 0))) ≤ length t
-  pub whole : t ≡ before ++ charsOf (pairOf true (getD s i 0) (getD s (i + 1) 0))
+  pub room : length before + length (charsOf (pairOf theChart true (getD s i 0) (getD s (i + 1) 0))) ≤ length t
+  pub whole : t ≡ before ++ charsOf (pairOf theChart true (getD s i 0) (getD s (i + 1) 0))
 
 -- a pair's turn: on to the next place, or the answer
 module _ (s : List ℕ) (i : ℕ) (before : List ℕ) (sofar : Sofar s i before) where
-  module _ (h : i + 2 ≤ length s) (pair : Pair) (e : pair ≡ pairOf (eqb (i + 2) (length s)) (getD s i 0) (getD s (i + 1) 0)) where
+  module _ (h : i + 2 ≤ length s) (pair : Pair) (e : pair ≡ pairOf theChart (eqb (i + 2) (length s)) (getD s i 0) (getD s (i + 1) 0)) where
     turn : decode 0 s ≡ ahead before (follow i pair (decode (i + 2) (drop (i + 2) s)))
     turn = sofar ∙ ap (ahead before) (decode-pair s i h ∙ ap (λ p. follow i p (decode (i + 2) (drop (i + 2) s))) (sym e))
 
@@ -117,20 +119,20 @@ module _ (s : List ℕ) (i : ℕ) (before : List ℕ) (sofar : Sofar s i before)
   module _ (t : List ℕ) (whole : decode 0 s ≡ text t) where
     pub sofar-inner : i + 2 < length s → Inner s i before t
     sofar-inner h =
-        let p = pairOf false (getD s i 0) (getD s (i + 1) 0) in
+        let p = pairOf theChart false (getD s i 0) (getD s (i + 1) 0) in
         let inner : eqb (i + 2) (length s) ≡ false = ne-eqb (i + 2) (length s) (λ e. omega arith) in
-        let is : p ≡ pairOf (eqb (i + 2) (length s)) (getD s i 0) (getD s (i + 1) 0) =
-        ap (λ l. pairOf l (getD s i 0) (getD s (i + 1) 0)) (sym inner) in
+        let is : p ≡ pairOf theChart (eqb (i + 2) (length s)) (getD s i 0) (getD s (i + 1) 0) =
+        ap (λ l. pairOf theChart l (getD s i 0) (getD s (i + 1) 0)) (sym inner) in
         let good = sofar-good (omega arith) p is t whole in
         let three : length (charsOf p) ≡ 3 = ap (λ q. length (charsOf q)) (pair-full false (getD s i 0) (getD s (i + 1) 0) refl (chars-some p (good .0)) .2) in
         record { three = three; room = omega arith; next = sofar-more (omega arith) p is (good .0) }
 
     pub sofar-last : i + 2 ≡ length s → Last s i before t
     sofar-last h =
-        let p = pairOf true (getD s i 0) (getD s (i + 1) 0) in
+        let p = pairOf theChart true (getD s i 0) (getD s (i + 1) 0) in
         let last : eqb (i + 2) (length s) ≡ true = eq-eqb (i + 2) (length s) h in
-        let is : p ≡ pairOf (eqb (i + 2) (length s)) (getD s i 0) (getD s (i + 1) 0) =
-        ap (λ l. pairOf l (getD s i 0) (getD s (i + 1) 0)) (sym last) in
+        let is : p ≡ pairOf theChart (eqb (i + 2) (length s)) (getD s i 0) (getD s (i + 1) 0) =
+        ap (λ l. pairOf theChart l (getD s i 0) (getD s (i + 1) 0)) (sym last) in
         let good = sofar-good (omega arith) p is t whole in
         let end : decode 0 s ≡ text (before ++ charsOf p) =
         sofar-more (omega arith) p is (good .0) ∙ ap (ahead (before ++ charsOf p)) (decode-end s (i + 2) (omega arith))

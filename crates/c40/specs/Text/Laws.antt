@@ -1,23 +1,21 @@
 -- Laws of the published form: its size, its bytes, and text three characters at a time.
 -- Assumes nothing.
 use mathlib.Core.Path.{_≡_, refl, ap, sym, _∙_}
-use Prim.Native.Nat.{ℕ, _+_, _/_, _%_, _<_, _≤_}
+use Prim.Native.Nat.{ℕ, _+_, _*_, _/_, _%_, _<_, _≤_}
 use native.Mathlib.Omega.{arith}
-use mathlib.Core.List.{List, [], _∷_, _++_}
+use mathlib.Core.List.{List, [], _∷_, _++_, append-nil}
 use lib.ListN.{length, getD, drop, length-append}
 use Rattle.format.specs.Bytes.{Bytes}
 use Rattle.format.specs.Bytes.Laws.{bytes-nil, bytes-cons, bytes-append}
 use Rattle.format.specs.Numbers.{be}
 use Rattle.format.specs.Numbers.Laws.{length-be, be-bytes, be-two}
 use Rattle.format.specs.Places.{at-place, past-end}
-use Rattle.c40.specs.Chart.{valueOf}
-use Rattle.c40.specs.Chart.Laws.{char-below}
-use Rattle.c40.specs.Text.{Text, packedOf, triple, publish, width}
-
--- the two bytes of a triple
-pub triple-is : (a b c : ℕ) → triple a b c ≡ (packedOf a b c / 256 % 256) ∷ (packedOf a b c % 256) ∷ []
-unfolding triple be
-triple-is a b c = refl
+use Rattle.pairs.specs.Chart.{valueOf}
+use Rattle.pairs.specs.Chart.Laws.{char-below}
+use Rattle.c40.specs.Text.{Text, publish, width}
+use Rattle.pairs.specs.Pairs.{packedOf, triple, number, charsOf, formOf}
+use Rattle.pairs.specs.declared.decode.Pair.{Pair}
+use Rattle.pairs.specs.declared.decode.Pair.the-variants.{Three, Two, One, Wrong}
 
 pub length-publish : (t : List ℕ) → length (publish t) ≡ width (length t)
 unfolding publish triple
@@ -55,6 +53,16 @@ pub publish-none : publish [] ≡ []
 unfolding publish
 publish-none = refl
 
+-- the form of what a pair carries
+pub publish-pair : (p : Pair) → publish (charsOf p) ≡ formOf p
+publish-pair (Three a b c) =
+    publish-three a b c []
+    ∙ ap (λ q. triple (valueOf a) (valueOf b) (valueOf c) ++ q) publish-none
+    ∙ append-nil (triple (valueOf a) (valueOf b) (valueOf c))
+publish-pair (Two a b) = publish-two a b
+publish-pair (One a) = publish-one a
+publish-pair (Wrong fault) = publish-none
+
 -- what is left of text at a place, three characters at a time: three or more, two, one, none
 module _ (t : List ℕ) (i : ℕ) where
   pub left-three : i + 3 ≤ length t → publish (drop i t) ≡ be 2 (packedOf (valueOf (getD t i 0)) (valueOf (getD t (i + 1) 0)) (valueOf (getD t (i + 2) 0))) ++ publish (drop (i + 3) t)
@@ -79,15 +87,15 @@ module _ (t : List ℕ) (i : ℕ) where
       (at-place t (i + 1) 0 (omega arith) ∙ ap (λ s. getD t (i + 1) 0 ∷ s) (past-end t (i + 1 + 1) (omega arith))))
       ∙ publish-two (getD t i 0) (getD t (i + 1) 0)
 
-  pub left-one : i + 1 ≡ length t → getD t i 0 < 255 → publish (drop i t) ≡ be 2 (0xFE00 + getD t i 0 + 1)
+  pub left-one : i + 1 ≡ length t → getD t i 0 < 255 → publish (drop i t) ≡ be 2 (number 0xFE (getD t i 0 + 1))
   left-one h low =
       let c = getD t i 0 in
-      let high : 0xFE ≡ (0xFE00 + c + 1) / 256 = omega arith in
-      let code : c + 1 ≡ (0xFE00 + c + 1) % 256 = omega arith in
+      let high : 0xFE ≡ (number 0xFE (c + 1)) / 256 = omega arith in
+      let code : c + 1 ≡ (number 0xFE (c + 1)) % 256 = omega arith in
       ap publish (at-place t i 0 (omega arith) ∙ ap (λ s. c ∷ s) (past-end t (i + 1) (omega arith)))
       ∙ publish-one c
       ∙ (λ j. high j ∷ code j ∷ [])
-      ∙ sym (be-two (0xFE00 + c + 1) (omega arith))
+      ∙ sym (be-two (number 0xFE (c + 1)) (omega arith))
 
   pub left-none : length t ≤ i → publish (drop i t) ≡ []
   left-none h = ap publish (past-end t i h) ∙ publish-none

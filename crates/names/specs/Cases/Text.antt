@@ -14,7 +14,7 @@ use Rattle.format.specs.Places.{past-end}
 use Rattle.c40.specs.Decode.{Decoded, text, wrong, decode}
 use Rattle.c40.specs.Calls.{reading, readingOf}
 use Rattle.c40.specs.Calls.Laws.{reading-wrong, reading-no-room, reading-done}
-use Rattle.c40.specs.declared.decode.Fault.{Fault}
+use Rattle.pairs.specs.declared.decode.Fault.{Fault}
 use Rattle.c40.specs.declared.Reading.{Reading}
 use Rattle.c40.specs.declared.Reading.the-variants.{Done, WrongPair}
 use Rattle.c40.specs.Text.{width}

@@ -17,7 +17,7 @@ use Rattle.format.specs.Hex.{hexDigit, hexValue}
 use Rattle.format.specs.Hex.Laws.{digit-value}
 use Rattle.format.specs.Bytes.{All}
 use Rattle.format.specs.Bytes.Laws.{all-append}
-use Rattle.c40.specs.Chart.{InChart}
+use Rattle.pairs.specs.Chart.{InChart}
 use Rattle.c40.specs.Text.{TextOf, width, publish as c40}
 use Rattle.c40.specs.Text.Laws.{length-publish as length-c40}
 use Rattle.grammar.specs.Content.{Version, three, four}

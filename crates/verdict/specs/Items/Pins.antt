@@ -3,8 +3,8 @@
 use mathlib.Core.Path.{_≡_, refl}
 use mathlib.Core.List.{[], _∷_}
 use mathlib.Core.Option.{none, some}
-use Rattle.c40.specs.Chart.{theChart, valueOf}
-use Rattle.c40.specs.Pairs.{pairOf, single, values}
+use Rattle.pairs.specs.Chart.{theChart, valueOf}
+use Rattle.pairs.specs.Pairs.{pairOf, single, values}
 use Rattle.c40.specs.Decode.{text, decode}
 use Rattle.der.specs.Length.{readLength, longForm}
 use Rattle.dates.specs.Days.{isDay}

@@ -4,8 +4,8 @@ use mathlib.Core.Path.{_≡_, refl}
 use mathlib.Core.List.{[], _∷_, _++_}
 use lib.ListN.{take, replicate}
 use Rattle.format.specs.Numbers.{val}
-use Rattle.c40.specs.Chart.{theChart, valueOf}
-use Rattle.c40.specs.Pairs.{pairOf, single, values}
+use Rattle.pairs.specs.Chart.{theChart, valueOf}
+use Rattle.pairs.specs.Pairs.{pairOf, single, values}
 use Rattle.c40.specs.Decode.{decode}
 use Rattle.dates.specs.Days.{isDay}
 use Rattle.der.specs.Length.{readLength, longForm}

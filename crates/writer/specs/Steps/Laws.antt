@@ -11,8 +11,8 @@ use lib.ListN.{length, take, drop, take-append-drop}
 use Rattle.format.specs.Bytes.Laws.{all-append}
 use Rattle.format.specs.Choice.Laws.{by-test}
 use Rattle.format.specs.Table.{either}
-use Rattle.c40.specs.Chart.{InChart}
-use Rattle.c40.specs.Chart.Laws.{letter-in, digit-in, space-in}
+use Rattle.pairs.specs.Chart.{InChart}
+use Rattle.pairs.specs.Chart.Laws.{letter-in, digit-in, space-in}
 use Rattle.c40.specs.Text.{Text}
 use Rattle.der.specs.Length.{written}
 use Rattle.der.specs.Length.Written.{written-form}

@@ -8,14 +8,17 @@ use Prim.Native.Nat.{ℕ, _+_, _*_, _-_, _%_, _≤_, _<_}
 use mathlib.Core.List.{List, [], _∷_, _++_}
 use types.Run.{OneOf}
 use denote.Enum.Declared.{tagOf}
-use lib.ListN.{length, length-append}
-use Rattle.c40.specs.Pairs.{charsOf}
-use Rattle.c40.specs.Pairs.Laws.{chars-most}
+use denote.Ref.{now}
+use lib.Dec.{eqb}
+use lib.ListN.{length, getD, length-append}
+use Rattle.pairs.specs.Chart.{theChart}
+use Rattle.pairs.specs.Pairs.{pairOf, charsOf}
+use Rattle.pairs.specs.Pairs.Laws.{chars-most, by-chart}
 use Rattle.c40.specs.Decode.{judgedOf}
 use Rattle.c40.specs.Decode.Laws.{Sofar, sofar-start, sofar-more, sofar-wrong, sofar-end}
-use Rattle.c40.specs.declared.decode.Pair.{Pair}
-use Rattle.c40.specs.declared.decode.Pair.the-variants.{Three, Two, One, Wrong}
-use Rattle.c40.proofs.decode.Pair.{the-type}
+use Rattle.pairs.specs.declared.decode.Pair.{Pair}
+use Rattle.pairs.specs.declared.decode.Pair.the-variants.{Three, Two, One, Wrong}
+use Rattle.pairs.proofs.decode.Pair.{the-type}
 use Rattle.c40.specs.declared.decode.Judged.the-variants.{Text}
 use Rattle.c40.proofs.decode.judge.Statement.{statement}
 use Rattle.c40.proofs.decode.judge.Tie as tie
@@ -43,7 +46,14 @@ add-pair-of-2 : tie.Need-add-pair-of-2 Inv-loop μ-loop
 add-pair-of-2 c = omega arith
 
 pair-of-requires : tie.Need-pair-of-requires Inv-loop μ-loop
-pair-of-requires c κs = c .before .before .before .before .before .pre .is-chart
+pair-of-requires c κs = search needs
+
+-- what the pair carries, by the chart
+told-pair : (c : tie.After-pair-of Inv-loop μ-loop)
+    → let on = c .before .before .before .before in
+    let s = now (on .before .before .args .bytes) in
+    c .pair-of .result ≡ pairOf theChart (eqb (on .loop .i + 2) (length s)) (getD s (on .loop .i) 0) (getD s (on .loop .i + 1) 0)
+told-pair c = by-chart _ _ _ (c .before .before .before .before .before .before .pre .is-chart) (c .pair-of .ensures)
 
 enum-known-pair : tie.Need-enum-known-pair Inv-loop μ-loop
 enum-known-pair c = search needs
@@ -52,7 +62,7 @@ returns : tie.Need-returns Inv-loop μ-loop
 returns c =
     let told = c .before .before .before in
     let on = told .before .before .before .before in
-    ap judgedOf (sym (sofar-wrong _ _ _ (on .loop .inv .5) (omega arith) _ (told .pair-of .ensures) _ (c .before .pair .given .1)))
+    ap judgedOf (sym (sofar-wrong _ _ _ (on .loop .inv .5) (omega arith) _ (told-pair told) _ (c .before .pair .given .1)))
 
 carried-requires : tie.Need-carried-requires Inv-loop μ-loop
 carried-requires c κs = search needs
@@ -89,7 +99,7 @@ loop-again c =
       omega arith,
       on .loop .inv .3 ++ charsOf pair,
       many,
-      sofar-more _ _ _ (on .loop .inv .5) (omega arith) _ (told .pair-of .ensures) some,
+      sofar-more _ _ _ (on .loop .inv .5) (omega arith) _ (told-pair told) some,
     )
 
 returns-2 : tie.Need-returns-2 Inv-loop μ-loop

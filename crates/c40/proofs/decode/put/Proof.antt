@@ -9,7 +9,8 @@ use denote.Ref.{now}
 use lib.ListN.{length}
 use Rattle.format.specs.Buffer.{over}
 use Rattle.format.specs.Buffer.Laws.{Held, held-start, held-more, held-length}
-use Rattle.c40.specs.Pairs.{charsOf}
+use Rattle.pairs.specs.Pairs.{charsOf}
+use Rattle.pairs.specs.Pairs.Laws.{by-chart}
 use Rattle.c40.specs.Decode.{textOf, decode}
 use Rattle.c40.specs.Decode.Laws.{Sofar, Inner, Last, sofar-start, sofar-inner, sofar-last, sofar-end}
 use Rattle.c40.proofs.decode.put.Statement.{statement}
@@ -91,13 +92,14 @@ shared-slice-read-pair-of-2 : tie.Need-shared-slice-read-pair-of-2 Inv-loop μ-l
 shared-slice-read-pair-of-2 c = omega arith
 
 pair-of-requires : tie.Need-pair-of-requires Inv-loop μ-loop
-pair-of-requires c κs = c .before .before .before .before .before .before .before .pre .is-chart
+pair-of-requires c κs = search needs
 
 put-pair-requires-2 : tie.Need-put-pair-requires-2 Inv-loop μ-loop
 put-pair-requires-2 c κs =
     let on = c .before .before .before .before in
     let inv = on .before .before .loop .inv in
-    let many = ap (λ p. length (charsOf p)) (c .before .pair-of .ensures) in
+    let is = by-chart _ _ _ (on .before .before .before .before .before .pre .is-chart) (c .before .pair-of .ensures) in
+    let many = ap (λ p. length (charsOf p)) is in
     let room = last on .room in
     omega (arith, many, inv .5 .many, held-length _ _ _ _ (inv .5) (inv .2))
 
@@ -112,10 +114,11 @@ returns c =
     let on = c .before .before .before .before .before .before .before in
     let inv = on .before .before .loop .inv in
     let pair = c .before .before .before .before .pair-of in
-    let many = ap (λ p. length (charsOf p)) (pair .ensures) in
+    let is = by-chart _ _ _ (on .before .before .before .before .before .pre .is-chart) (pair .ensures) in
+    let many = ap (λ p. length (charsOf p)) is in
     let room = last on .room in
     let held = held-more _ _ _ _ (inv .5) (charsOf (pair .result)) _ _ (c .before .before .put-pair2 .ensures) refl (omega (arith, many, inv .5 .many)) in
-    held .is ∙ ap (λ p. over (now (on .before .before .before .before .before .args .out)) 0 (inv .3 ++ charsOf p)) (pair .ensures)
+    held .is ∙ ap (λ p. over (now (on .before .before .before .before .before .args .out)) 0 (inv .3 ++ charsOf p)) is
     ∙ ap (over (now (on .before .before .before .before .before .args .out)) 0) (sym (last on .whole))
 
 same-length-2 : tie.Need-same-length-2 Inv-loop μ-loop

@@ -8,7 +8,7 @@ use denote.Ref.{now}
 use lib.ListN.{length, length-set}
 use Rattle.format.specs.Buffer.{over}
 use Rattle.format.specs.Buffer.Laws.{over-none, set-over, over-two, over-three}
-use Rattle.c40.specs.Pairs.{charsOf}
+use Rattle.pairs.specs.Pairs.{charsOf}
 use Rattle.c40.proofs.decode.put_pair.Statement.{statement}
 use Rattle.c40.proofs.decode.put_pair.Tie as tie
 

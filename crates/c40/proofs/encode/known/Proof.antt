@@ -5,8 +5,8 @@ use native.Mathlib.Omega.{arith}
 use mathlib.Core.Path.{_≡_, _∙_, sym}
 use Prim.Native.Nat.{_+_, _-_, _≤_}
 use lib.ListN.{length, getD, drop}
-use Rattle.c40.specs.Chart.{char, valueOf}
-use Rattle.c40.specs.Chart.Laws.{entry}
+use Rattle.pairs.specs.Chart.{char, valueOf}
+use Rattle.pairs.specs.Chart.Laws.{entry}
 use Rattle.c40.specs.Calls.{known}
 use Rattle.c40.specs.Calls.Laws.{known-more, known-here, known-end}
 use Rattle.c40.proofs.encode.known.Statement.{statement}

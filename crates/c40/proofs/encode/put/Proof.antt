@@ -2,7 +2,7 @@
 -- Assumes nothing.
 use borrow.Author.Needs.{needs}
 use native.Mathlib.Omega.{arith}
-use mathlib.Core.Path.{_≡_, _∙_, refl, ap, sym, subst}
+use mathlib.Core.Path.{_≡_, _∙_, refl, ap, sym}
 use Prim.Native.Nat.{ℕ, _+_, _*_, _-_, _/_, _%_, _<_, _≤_}
 use mathlib.Core.List.{List, [], _∷_, _++_, append-assoc, append-nil}
 use denote.Ref.{now}
@@ -12,9 +12,9 @@ use Rattle.format.specs.Numbers.Laws.{length-be}
 use Rattle.format.specs.Bytes.Laws.{all-at}
 use Rattle.format.specs.Buffer.{over}
 use Rattle.format.specs.Buffer.Laws.{Held, held-start, held-more, held-length}
-use Rattle.c40.specs.Chart.{InChart, valueOf}
-use Rattle.c40.specs.Chart.Laws.{char-below}
-use Rattle.c40.specs.Text.{publish, width, packedOf}
+use Rattle.pairs.specs.Chart.{InChart}
+use Rattle.pairs.specs.Chart.Laws.{char-below}
+use Rattle.c40.specs.Text.{publish, width}
 use Rattle.c40.specs.Text.Laws.{left-three, left-two, left-one, left-none}
 use Rattle.c40.proofs.encode.put.Statement.{statement}
 use Rattle.c40.proofs.encode.put.Tie as tie
@@ -50,30 +50,27 @@ loop-holds c = (omega arith, omega arith, omega arith, [], refl, held-start _)
 add-loop : tie.Need-add-loop Inv-loop μ-loop
 add-loop c = omega arith
 
-shared-slice-read-packed : tie.Need-shared-slice-read-packed Inv-loop μ-loop
-shared-slice-read-packed c = omega arith
+shared-slice-read-number-of : tie.Need-shared-slice-read-number-of Inv-loop μ-loop
+shared-slice-read-number-of c = omega arith
 
-add-packed : tie.Need-add-packed Inv-loop μ-loop
-add-packed c = omega arith
+add-number-of : tie.Need-add-number-of Inv-loop μ-loop
+add-number-of c = omega arith
 
-shared-slice-read-packed-2 : tie.Need-shared-slice-read-packed-2 Inv-loop μ-loop
-shared-slice-read-packed-2 c = omega arith
+shared-slice-read-number-of-2 : tie.Need-shared-slice-read-number-of-2 Inv-loop μ-loop
+shared-slice-read-number-of-2 c = omega arith
 
-add-value-of : tie.Need-add-value-of Inv-loop μ-loop
-add-value-of c = omega arith
+add-number-of-2 : tie.Need-add-number-of-2 Inv-loop μ-loop
+add-number-of-2 c = omega arith
 
-shared-slice-read-value-of : tie.Need-shared-slice-read-value-of Inv-loop μ-loop
-shared-slice-read-value-of c = omega arith
+shared-slice-read-number-of-3 : tie.Need-shared-slice-read-number-of-3 Inv-loop μ-loop
+shared-slice-read-number-of-3 c = omega arith
 
-value-of-requires : tie.Need-value-of-requires Inv-loop μ-loop
-value-of-requires c κs = search needs
-
-packed-requires : tie.Need-packed-requires Inv-loop μ-loop
-packed-requires c κs = omega arith
+number-of-requires : tie.Need-number-of-requires Inv-loop μ-loop
+number-of-requires c κs = search needs
 
 put-number-requires : tie.Need-put-number-requires Inv-loop μ-loop
 put-number-requires c κs =
-    let on = c .before .before .before .before .before .before .before in
+    let on = c .before .before .before .before .before .before in
     let r = room on (omega arith) in
     (omega arith, omega arith)
 
@@ -88,35 +85,35 @@ loop-less c = omega arith
 
 loop-again : tie.Need-loop-again Inv-loop μ-loop
 loop-again c =
-    let packed = c .before .before .before .before .packed in
-    let value = c .before .before .before .before .before .value-of in
-    let on = c .before .before .before .before .before .before .before .before .before .before in
+    let packed = c .before .before .before .before .number-of in
+    let on = c .before .before .before .before .before .before .before .before .before in
     let text = now (on .before .before .before .args .text) in
-    let form : be 2 (packed .result) ≡ be 2 (packedOf (valueOf (getD text (on .loop .i) 0)) (valueOf (getD text (on .loop .i + 1) 0)) (valueOf (getD text (on .loop .i + 2) 0))) =
-    ap (be 2) (packed .ensures .0 ∙ ap (packedOf (valueOf (getD text (on .loop .i) 0)) (valueOf (getD text (on .loop .i + 1) 0))) (value .ensures .0)) in
+    let whole = left-three text (on .loop .i) (omega arith) in
     let rest = publish (drop (on .loop .i + 3) text) in (
       omega arith,
       omega arith,
       omega arith,
       on .loop .inv .3 ++ be 2 (packed .result),
-      on .loop .inv .4 ∙ ap (λ p. on .loop .inv .3 ++ p) (left-three text (on .loop .i) (omega arith) ∙ ap (λ p. p ++ rest) (sym form)) ∙ sym (append-assoc (on .loop .inv .3) (be 2 (packed .result)) rest),
+      on .loop .inv .4
+          ∙ ap (λ p. on .loop .inv .3 ++ p) (whole ∙ ap (λ p. be 2 p ++ rest) (sym (packed .ensures .0)))
+          ∙ sym (append-assoc (on .loop .inv .3) (be 2 (packed .result)) rest),
       more on (omega arith) (packed .result) _ (c .before .before .put-number .ensures),
     )
 
 add-if1 : tie.Need-add-if1 Inv-loop μ-loop
 add-if1 c = omega arith
 
-shared-slice-read-packed-3 : tie.Need-shared-slice-read-packed-3 Inv-loop μ-loop
-shared-slice-read-packed-3 c = omega arith
+shared-slice-read-number-of-two : tie.Need-shared-slice-read-number-of-two Inv-loop μ-loop
+shared-slice-read-number-of-two c = omega arith
 
-add-packed-2 : tie.Need-add-packed-2 Inv-loop μ-loop
-add-packed-2 c = omega arith
+add-number-of-two : tie.Need-add-number-of-two Inv-loop μ-loop
+add-number-of-two c = omega arith
 
-shared-slice-read-packed-4 : tie.Need-shared-slice-read-packed-4 Inv-loop μ-loop
-shared-slice-read-packed-4 c = omega arith
+shared-slice-read-number-of-two-2 : tie.Need-shared-slice-read-number-of-two-2 Inv-loop μ-loop
+shared-slice-read-number-of-two-2 c = omega arith
 
-packed-requires-2 : tie.Need-packed-requires-2 Inv-loop μ-loop
-packed-requires-2 c κs = omega arith
+number-of-two-requires : tie.Need-number-of-two-requires Inv-loop μ-loop
+number-of-two-requires c κs = search needs
 
 put-number-requires-2 : tie.Need-put-number-requires-2 Inv-loop μ-loop
 put-number-requires-2 c κs =
@@ -124,17 +121,11 @@ put-number-requires-2 c κs =
     let r = room on (omega arith) in
     (omega arith, omega arith)
 
-shared-slice-read-wide : tie.Need-shared-slice-read-wide Inv-loop μ-loop
-shared-slice-read-wide c = omega arith
+shared-slice-read-number-of-one : tie.Need-shared-slice-read-number-of-one Inv-loop μ-loop
+shared-slice-read-number-of-one c = omega arith
 
-wide-requires : tie.Need-wide-requires Inv-loop μ-loop
-wide-requires c κs = search needs
-
-add-put-number : tie.Need-add-put-number Inv-loop μ-loop
-add-put-number c = let code = low (c .before .before .before .before .before) (omega arith) in omega arith
-
-add-put-number-2 : tie.Need-add-put-number-2 Inv-loop μ-loop
-add-put-number-2 c = let code = low (c .before .before .before .before .before) (omega arith) in omega arith
+number-of-one-requires : tie.Need-number-of-one-requires Inv-loop μ-loop
+number-of-one-requires c κs = search needs
 
 put-number-requires-3 : tie.Need-put-number-requires-3 Inv-loop μ-loop
 put-number-requires-3 c κs =
@@ -152,7 +143,7 @@ returns : tie.Need-returns Inv-loop μ-loop
 returns c =
     let on = c .before .before .before .before .before .before .before .before .before in
     let text = now (on .before .before .before .args .text) in
-    let packed = c .before .before .before .before .packed2 in
+    let packed = c .before .before .before .before .number-of-two in
     ends on (omega arith) (packed .result) _ (c .before .before .put-number2 .ensures) (left-two text (on .loop .i) (omega arith) ∙ ap (be 2) (sym (packed .ensures .0)))
 
 same-length-2 : tie.Need-same-length-2 Inv-loop μ-loop
@@ -165,9 +156,9 @@ returns-2 c =
     let on = c .before .before .before .before .before .before .before .before .before in
     let text = now (on .before .before .before .args .text) in
     let code = low on (omega arith) in
-    let wide = c .before .before .before .before .wide in
-    ends on (omega arith) (0xFE00 + wide .result + 1) _ (c .before .before .put-number3 .ensures)
-    (left-one text (on .loop .i) (omega arith) (omega arith) ∙ ap (λ k. be 2 (0xFE00 + k + 1)) (sym (wide .ensures)))
+    let packed = c .before .before .before .before .number-of-one in
+    ends on (omega arith) (packed .result) _ (c .before .before .put-number3 .ensures)
+    (left-one text (on .loop .i) (omega arith) (omega arith) ∙ ap (be 2) (sym (packed .ensures)))
 
 same-length-3 : tie.Need-same-length-3 Inv-loop μ-loop
 same-length-3 c =
@@ -190,28 +181,25 @@ put-spec =
     μ-loop
     loop-holds
     add-loop
-    shared-slice-read-packed
-    add-packed
-    shared-slice-read-packed-2
-    add-value-of
-    shared-slice-read-value-of
-    value-of-requires
-    packed-requires
+    shared-slice-read-number-of
+    add-number-of
+    shared-slice-read-number-of-2
+    add-number-of-2
+    shared-slice-read-number-of-3
+    number-of-requires
     put-number-requires
     add-i
     add-at
     loop-less
     loop-again
     add-if1
-    shared-slice-read-packed-3
-    add-packed-2
-    shared-slice-read-packed-4
-    packed-requires-2
+    shared-slice-read-number-of-two
+    add-number-of-two
+    shared-slice-read-number-of-two-2
+    number-of-two-requires
     put-number-requires-2
-    shared-slice-read-wide
-    wide-requires
-    add-put-number
-    add-put-number-2
+    shared-slice-read-number-of-one
+    number-of-one-requires
     put-number-requires-3
     same-length
     returns

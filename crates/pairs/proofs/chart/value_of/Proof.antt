@@ -1,12 +1,12 @@
--- `c40::chart::value_of` meets its contract: each `return` is one range of the definition.
+-- `pairs::chart::value_of` meets its contract: each `return` is one range of the definition.
 -- Assumes nothing.
 use borrow.Author.Needs.{needs}
 use native.Mathlib.Omega.{arith}
 use Prim.Native.Nat.{_-_}
 use mathlib.Core.Path.{ap, _∙_}
-use Rattle.c40.specs.Chart.Laws.{value-space, value-digit, value-letter, value-other}
-use Rattle.c40.proofs.chart.value_of.Statement.{statement}
-use Rattle.c40.proofs.chart.value_of.Tie as tie
+use Rattle.pairs.specs.Chart.Laws.{value-space, value-digit, value-letter, value-other}
+use Rattle.pairs.proofs.chart.value_of.Statement.{statement}
+use Rattle.pairs.proofs.chart.value_of.Tie as tie
 
 wide-requires : tie.Need-wide-requires
 wide-requires c κs = search needs

@@ -11,7 +11,7 @@ use lib.ListN.{length, getD}
 use Rattle.format.specs.Choice.{pick}
 use Rattle.format.specs.Choice.Laws.{by-test}
 use Rattle.format.specs.Table.{both, every, at-entry}
-use Rattle.c40.specs.Chart.{theChart, char, valueOf, InChart}
+use Rattle.pairs.specs.Chart.{theChart, char, valueOf, InChart}
 
 pub length-chart : length theChart ≡ 40
 unfolding theChart

@@ -1,19 +1,19 @@
--- A pair carries exactly the characters whose published form it is: sound and complete.
+-- A pair carries exactly the characters whose form it is: sound and complete.
 -- Assumes nothing.
-use mathlib.Core.Path.{_≡_, refl, ap, ap₂, sym, subst, _∙_}
+use mathlib.Core.Path.{_≡_, refl, ap, sym, subst, _∙_}
 use mathlib.Core.Bool.{Bool, true, false}
 use Prim.Native.Nat.{ℕ, _+_, _-_, _/_, _%_, _<_, _≤_}
 use native.Mathlib.Omega.{arith}
-use mathlib.Core.List.{List, [], _∷_, _++_}
+use mathlib.Core.List.{[], _∷_}
 use lib.ListN.{length}
-use Rattle.c40.specs.Chart.{char, valueOf, InChart}
-use Rattle.c40.specs.Chart.Laws.{value-range, value-char, char-in}
-use Rattle.c40.specs.Text.{Text, packedOf, triple, publish}
-use Rattle.c40.specs.Text.Laws.{triple-is, publish-three, publish-two, publish-one, publish-none}
-use Rattle.c40.specs.Pairs.{number, first, second, third, pairOf, charsOf}
-use Rattle.c40.specs.Pairs.Laws.{pair-cases, pair-values, pair-single, values-three, values-two, single-one, apart}
-use Rattle.c40.specs.declared.decode.Fault.{Fault}
-use Rattle.c40.specs.declared.decode.Pair.the-variants.{Three, Two, One, Wrong}
+use Rattle.format.specs.Bytes.{All}
+use Rattle.pairs.specs.Chart.{theChart, char, valueOf, InChart}
+use Rattle.pairs.specs.Chart.Laws.{value-range, value-char, char-in}
+use Rattle.pairs.specs.Pairs.{packedOf, triple, number, first, second, third, pairOf, charsOf, formOf}
+use Rattle.pairs.specs.Pairs.Laws.{triple-is, pair-cases, pair-values, pair-single, values-three, values-two, single-one, apart}
+use Rattle.pairs.specs.declared.decode.Fault.{Fault}
+use Rattle.pairs.specs.declared.decode.Pair.{Pair}
+use Rattle.pairs.specs.declared.decode.Pair.the-variants.{Three, Two, One, Wrong}
 
 -- three values and their number, there and back
 module _ (a b c : ℕ) (ha : a < 40) (hb : b < 40) (hc : c < 40) where
@@ -42,9 +42,9 @@ packed-number n h = omega arith
 bytes-number : (x y : ℕ) → x < 256 → y < 256 → (number x y / 256 % 256 ≡ x) × (number x y % 256 ≡ y)
 bytes-number x y hx hy = (omega arith, omega arith)
 
--- complete: the published form of three characters, and at the end of two or one, carries them
+-- complete: the form of three characters, and at the end of two or one, carries them
 module _ (a b c : ℕ) (last : Bool) (ia : InChart a) (ib : InChart b) (ic : InChart c) where
-  pub pair-three : let n = packedOf (valueOf a) (valueOf b) (valueOf c) in pairOf last (n / 256 % 256) (n % 256) ≡ Three a b c
+  pub pair-three : let n = packedOf (valueOf a) (valueOf b) (valueOf c) in pairOf theChart last (n / 256 % 256) (n % 256) ≡ Three a b c
   pair-three =
       let va = value-range a in
       let vb = value-range b in
@@ -55,12 +55,12 @@ module _ (a b c : ℕ) (last : Bool) (ia : InChart a) (ib : InChart b) (ic : InC
       let fa : first m ≡ valueOf a = ap first e ∙ packed-first (valueOf a) (valueOf b) (valueOf c) (va .1) (vb .1) (vc .1) in
       let fb : second m ≡ valueOf b = ap second e ∙ packed-second (valueOf a) (valueOf b) (valueOf c) (va .1) (vb .1) (vc .1) in
       let fc : third m ≡ valueOf c = ap third e ∙ packed-third (valueOf a) (valueOf b) (valueOf c) (va .1) (vb .1) (vc .1) in
-      sym (pair-values last (n / 256 % 256) (n % 256) (omega arith) (omega arith))
-      ∙ sym (values-three last (first m) (second m) (third m) (omega arith) (omega arith) (omega arith))
+      sym (pair-values theChart last (n / 256 % 256) (n % 256) (omega arith) (omega arith))
+      ∙ sym (values-three theChart last (first m) (second m) (third m) (omega arith) (omega arith) (omega arith))
       ∙ (λ i. Three ((ap char fa ∙ ia) i) ((ap char fb ∙ ib) i) ((ap char fc ∙ ic) i))
 
 module _ (a b : ℕ) (ia : InChart a) (ib : InChart b) where
-  pub pair-two : let n = packedOf (valueOf a) (valueOf b) 0 in pairOf true (n / 256 % 256) (n % 256) ≡ Two a b
+  pub pair-two : let n = packedOf (valueOf a) (valueOf b) 0 in pairOf theChart true (n / 256 % 256) (n % 256) ≡ Two a b
   pair-two =
       let va = value-range a in
       let vb = value-range b in
@@ -70,29 +70,31 @@ module _ (a b : ℕ) (ia : InChart a) (ib : InChart b) where
       let fa : first m ≡ valueOf a = ap first e ∙ packed-first (valueOf a) (valueOf b) 0 (va .1) (vb .1) (omega arith) in
       let fb : second m ≡ valueOf b = ap second e ∙ packed-second (valueOf a) (valueOf b) 0 (va .1) (vb .1) (omega arith) in
       let fc : third m ≡ 0 = ap third e ∙ packed-third (valueOf a) (valueOf b) 0 (va .1) (vb .1) (omega arith) in
-      sym (pair-values true (n / 256 % 256) (n % 256) (omega arith) (omega arith))
-      ∙ sym (values-two true (first m) (second m) (third m) refl (omega arith) (omega arith) fc)
+      sym (pair-values theChart true (n / 256 % 256) (n % 256) (omega arith) (omega arith))
+      ∙ sym (values-two theChart true (first m) (second m) (third m) refl (omega arith) (omega arith) fc)
       ∙ (λ i. Two ((ap char fa ∙ ia) i) ((ap char fb ∙ ib) i))
 
-pub pair-one : (a : ℕ) → InChart a → pairOf true 0xFE (a + 1) ≡ One a
+pub pair-one : (a : ℕ) → InChart a → pairOf theChart true 0xFE (a + 1) ≡ One a
 pair-one a ia =
     let e : a + 1 - 1 ≡ a = omega arith in
-    sym (pair-single true 0xFE (a + 1) refl) ∙ sym (single-one (a + 1) true refl (omega arith) (ap (λ k. char (valueOf k)) e ∙ ia ∙ sym e)) ∙ ap One e
+    sym (pair-single theChart true 0xFE (a + 1) refl)
+    ∙ sym (single-one theChart (a + 1) true refl (omega arith) (ap (λ k. char (valueOf k)) e ∙ ia ∙ sym e))
+    ∙ ap One e
 
--- sound: what a pair carries is text whose published form it is; and all of three characters where it is not the last
-pub record Carries (last : Bool) (x y : ℕ) (p : List ℕ) : Type 0 where
-  pub is-text : Text p
-  pub form : publish p ≡ x ∷ y ∷ []
-  pub whole : last ≡ false → length p ≡ 3
+-- sound: what a pair carries is characters of the chart whose form it is; and three of them where it is not the last
+pub record Carries (last : Bool) (x y : ℕ) (p : Pair) : Type 0 where
+  pub is-text : All InChart (charsOf p)
+  pub form : formOf p ≡ x ∷ y ∷ []
+  pub whole : last ≡ false → length (charsOf p) ≡ 3
 
 module _ (last : Bool) (x y : ℕ) (hx : x < 256) (hy : y < 256) where
-  pub pair-sound : ((fault : Fault) → pairOf last x y ≡ Wrong fault → ⊥) → Carries last x y (charsOf (pairOf last x y))
+  pub pair-sound : ((fault : Fault) → pairOf theChart last x y ≡ Wrong fault → ⊥) → Carries last x y (pairOf theChart last x y)
   pair-sound good =
       pair-cases last x y
       (λ fault e. absurd (good fault e))
-      (λ h k a b c e. subst (λ p. Carries last x y (charsOf p)) (sym e) (three h k a b c))
-      (λ h k a b c l e. subst (λ p. Carries last x y (charsOf p)) (sym e) (two h k a b c l))
-      (λ f h i l e. subst (λ p. Carries last x y (charsOf p)) (sym e) (one f h i l))
+      (λ h k a b c e. subst (λ p. Carries last x y p) (sym e) (three h k a b c))
+      (λ h k a b c l e. subst (λ p. Carries last x y p) (sym e) (two h k a b c l))
+      (λ f h i l e. subst (λ p. Carries last x y p) (sym e) (one f h i l))
     where
       n : ℕ
       n = number x y
@@ -102,7 +104,8 @@ module _ (last : Bool) (x y : ℕ) (hx : x < 256) (hy : y < 256) where
           let z = bytes-number x y hx hy in
           triple-is a b c ∙ (λ i. (ap (λ m. m / 256 % 256) e ∙ z .0) i ∷ (ap (λ m. m % 256) e ∙ z .1) i ∷ [])
 
-      three : 0 < n → n ≤ 64000 → 3 ≤ first n → 3 ≤ second n → 3 ≤ third n → Carries last x y (char (first n) ∷ char (second n) ∷ char (third n) ∷ [])
+      three : 0 < n → n ≤ 64000 → 3 ≤ first n → 3 ≤ second n → 3 ≤ third n
+          → Carries last x y (Three (char (first n)) (char (second n)) (char (third n)))
       three h k a b c =
           let d = split-below n k in
           let va = value-char (first n) a (d .0) in
@@ -110,30 +113,27 @@ module _ (last : Bool) (x y : ℕ) (hx : x < 256) (hy : y < 256) where
           let vc = value-char (third n) c (d .2) in
           record {
             is-text = (char-in (first n) a (d .0), (char-in (second n) b (d .1), (char-in (third n) c (d .2), tt)));
-            form =
-                publish-three (char (first n)) (char (second n)) (char (third n)) []
-                ∙ ap₂ (λ p q. p ++ q) (form-of _ _ _ ((λ i. packedOf (va i) (vb i) (vc i)) ∙ split-packed n h k)) publish-none;
+            form = form-of _ _ _ ((λ i. packedOf (va i) (vb i) (vc i)) ∙ split-packed n h k);
             whole = λ _. refl;
           }
 
-      two : 0 < n → n ≤ 64000 → 3 ≤ first n → 3 ≤ second n → third n ≡ 0 → last ≡ true → Carries last x y (char (first n) ∷ char (second n) ∷ [])
+      two : 0 < n → n ≤ 64000 → 3 ≤ first n → 3 ≤ second n → third n ≡ 0 → last ≡ true
+          → Carries last x y (Two (char (first n)) (char (second n)))
       two h k a b c l =
           let d = split-below n k in
           let va = value-char (first n) a (d .0) in
           let vb = value-char (second n) b (d .1) in
           record {
             is-text = (char-in (first n) a (d .0), (char-in (second n) b (d .1), tt));
-            form =
-                publish-two (char (first n)) (char (second n))
-                ∙ form-of _ _ _ ((λ i. packedOf (va i) (vb i) (sym c i)) ∙ split-packed n h k);
+            form = form-of _ _ _ ((λ i. packedOf (va i) (vb i) (sym c i)) ∙ split-packed n h k);
             whole = λ l′. absurd (apart l′ l);
           }
 
-      one : x ≡ 0xFE → 0 < y → InChart (y - 1) → last ≡ true → Carries last x y ((y - 1) ∷ [])
+      one : x ≡ 0xFE → 0 < y → InChart (y - 1) → last ≡ true → Carries last x y (One (y - 1))
       one f h i l =
           let e : y - 1 + 1 ≡ y = omega arith in
           record {
             is-text = (i, tt);
-            form = publish-one (y - 1) ∙ (λ j. sym f j ∷ e j ∷ []);
+            form = λ j. sym f j ∷ e j ∷ [];
             whole = λ l′. absurd (apart l′ l);
           }

@@ -1,11 +1,11 @@
--- `c40::encode::packed` meets its contract: three values below 40 make at most 64,000.
+-- `pairs::encode::packed` meets its contract: three values below 40 make at most 64,000.
 -- Assumes nothing.
 use borrow.Author.Needs.{needs}
 use native.Mathlib.Omega.{arith}
 use mathlib.Core.Path.{ap₂}
 use Prim.Native.Nat.{_+_, _*_}
-use Rattle.c40.proofs.encode.packed.Statement.{statement}
-use Rattle.c40.proofs.encode.packed.Tie as tie
+use Rattle.pairs.proofs.encode.packed.Statement.{statement}
+use Rattle.pairs.proofs.encode.packed.Tie as tie
 
 value-of-requires : tie.Need-value-of-requires
 value-of-requires c κs = search needs

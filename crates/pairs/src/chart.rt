@@ -1,11 +1,11 @@
 // The chart of Doc 9303-13, 2.6, Table 2, and its inverse.
 ghost use mathlib.Core.Path.{_≡_};
 ghost use Prim.Native.Nat.{_<_};
-ghost use Rattle.c40.specs.Chart.{valueOf};
+ghost use Rattle.pairs.specs.Chart.{theChart, valueOf};
 use octets::wide;
 
 // From C40 value to character. The entries 0, 1 and 2 are shifts: no character, marked 0.
-pub const CHART: [u8; 40] = [
+const CHART: [u8; 40] = [
     0,
     0,
     0,
@@ -48,8 +48,15 @@ pub const CHART: [u8; 40] = [
     b'Z',
 ];
 
+// The chart under a promise: a call takes it once and lends it down, as taking an entry of a constant builds the table anew.
+pub fn the_chart() -> [u8; 40]
+    ensures { λ r. ⌜ r ≡ theChart ⌝ }
+{
+    CHART
+}
+
 // The value that a character has if it is in the chart: the chart's entry there is the character exactly then.
-pub(crate) fn value_of(c: u8) -> usize
+pub fn value_of(c: u8) -> usize
     ensures { λ r. ⌜ (r ≡ valueOf c) × (r < 40) ⌝ }
 {
     let n = wide(c);

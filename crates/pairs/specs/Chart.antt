@@ -13,9 +13,12 @@ unfoldable pub theChart : List ℕ
 theChart =
     0 ∷ 0 ∷ 0 ∷ 32 ∷ 48 ∷ 49 ∷ 50 ∷ 51 ∷ 52 ∷ 53 ∷ 54 ∷ 55 ∷ 56 ∷ 57 ∷ 65 ∷ 66 ∷ 67 ∷ 68 ∷ 69 ∷ 70 ∷ 71 ∷ 72 ∷ 73 ∷ 74 ∷ 75 ∷ 76 ∷ 77 ∷ 78 ∷ 79 ∷ 80 ∷ 81 ∷ 82 ∷ 83 ∷ 84 ∷ 85 ∷ 86 ∷ 87 ∷ 88 ∷ 89 ∷ 90 ∷ []
 
--- the character of a value
+-- the character of a value, in a chart and in the chart
+abbrev pub charIn : List ℕ → ℕ → ℕ
+charIn chart v = getD chart v 0
+
 abbrev pub char : ℕ → ℕ
-char v = getD theChart v 0
+char v = charIn theChart v
 
 -- a shift is no character
 abbrev pub shift : ℕ → Bool
@@ -25,9 +28,12 @@ shift v = ltb v 3
 unfoldable pub valueOf : ℕ → ℕ
 valueOf c = pick (ltb c 48) 3 (pick (ltb c 65) (c - 44) (pick (ltb c 91) (c - 51) 3))
 
--- the chart has the character at its value, as a test and as a fact
+-- a chart has the character at its value, as a test; and the chart, as a test and as a fact
+abbrev pub isIn : List ℕ → ℕ → Bool
+isIn chart c = eqb (charIn chart (valueOf c)) c
+
 abbrev pub inChart : ℕ → Bool
-inChart c = eqb (char (valueOf c)) c
+inChart c = isIn theChart c
 
 abbrev pub InChart : ℕ → Type 0
 InChart c = char (valueOf c) ≡ c
