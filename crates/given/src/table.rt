@@ -28,13 +28,13 @@ pub fn are_rows(table: &[usize], size: usize) -> bool
         if marks[tag] == 1 {
             return false;
         }
-        marks[tag] = 1;
         if size < row.place {
             return false;
         }
         if size - row.place < row.size {
             return false;
         }
+        marks[tag] = 1;
         at += WIDTH;
     }
 }

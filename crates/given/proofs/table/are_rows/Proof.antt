@@ -68,9 +68,6 @@ returns-4 c =
     let row = c .before .before in
     judged-used _ _ _ _ (row .before .before .before .before .loop .inv) (there row .0) _ (there row .1) (omega arith) (c .if3 .taken)
 
-array-write-marks : tie.Need-array-write-marks Inv-loop μ-loop
-array-write-marks c = omega arith
-
 returns-5 : tie.Need-returns-5 Inv-loop μ-loop
 returns-5 c =
     let new = c .before .before in
@@ -84,6 +81,9 @@ returns-6 c =
     let row = new .before .before in
     judged-outside _ _ _ _ (row .before .before .before .before .loop .inv) (there row .0) _ (there row .1) (omega arith)
     (new .if3 .left) (omega arith)
+
+array-write-marks : tie.Need-array-write-marks Inv-loop μ-loop
+array-write-marks c = omega arith
 
 add-at : tie.Need-add-at Inv-loop μ-loop
 add-at c = omega (arith, there (c .before .before .before .before .before .before .before) .0)
@@ -114,9 +114,9 @@ are-rows-spec =
     returns-3
     array-read-if3
     returns-4
-    array-write-marks
     returns-5
     returns-6
+    array-write-marks
     add-at
     loop-less
     loop-again)
