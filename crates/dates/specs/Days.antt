@@ -5,14 +5,9 @@ use mathlib.Core.Path.{_≡_}
 use mathlib.Core.Bool.{Bool, true}
 use Prim.Native.Nat.{ℕ, _+_, _*_, _/_, _%_, _<_, _≤_}
 use mathlib.Core.List.{List}
-use lib.Dec.{leb}
 use Rattle.format.specs.Numbers.{be}
-use Rattle.format.specs.Table.{both}
+use Rattle.format.specs.Choice.{both, within}
 use Rattle.dates.specs.declared.Date.{Date}
-
--- from the first to the last
-abbrev pub within : ℕ → ℕ → ℕ → Bool
-within low high n = both (leb low n) (leb n high)
 
 -- month 1 to 12, day 1 to 31, year 1 to 9999
 unfoldable pub isDay : Date → Bool

@@ -6,8 +6,7 @@ use Prim.Native.Nat.{ℕ}
 use mathlib.Core.List.{List, _∷_, _++_}
 use lib.Dec.{ltb, eqb}
 use lib.ListN.{getD, take, drop}
-use Rattle.format.specs.Choice.{pick}
-use Rattle.format.specs.Table.{either}
+use Rattle.format.specs.Choice.{pick, either}
 use Rattle.der.specs.Element.{element}
 use Rattle.der.specs.Content.{shortest, integer}
 

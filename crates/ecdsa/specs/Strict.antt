@@ -9,8 +9,7 @@ use mathlib.Core.Bool.{Bool, true, false}
 use mathlib.Core.List.{List, [], _++_}
 use lib.Dec.{ltb, eqb}
 use lib.ListN.{length, getD, take, drop, replicate}
-use Rattle.format.specs.Choice.{pick}
-use Rattle.format.specs.Table.{both}
+use Rattle.format.specs.Choice.{pick, both}
 use Rattle.der.specs.Element.{elementIn}
 use Rattle.der.specs.Content.{strict}
 use Rattle.der.specs.declared.Element.{Element}

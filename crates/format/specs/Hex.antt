@@ -3,8 +3,7 @@
 pub mod Laws
 use Prim.Native.Nat.{ℕ, _+_, _-_}
 use lib.Dec.{leb, ltb}
-use Rattle.format.specs.Choice.{pick}
-use Rattle.format.specs.Table.{both}
+use Rattle.format.specs.Choice.{pick, both}
 
 -- 0 to 9, then A to F
 abbrev pub hexDigit : ℕ → ℕ

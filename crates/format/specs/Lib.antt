@@ -5,7 +5,7 @@ pub mod Cut
 pub mod Buffer
 pub mod Places
 pub mod Hex
-pub mod Table
+pub mod Every
 pub mod Answers
 pub mod Order
 pub mod Pins

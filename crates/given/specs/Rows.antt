@@ -10,7 +10,7 @@ use lib.Dec.{leb, eqb}
 use lib.ListN.{length, getD, drop, set, replicate, length-set, length-replicate, getD-replicate}
 use lib.Seq.{getD-set-same, getD-set-other}
 use Rattle.format.specs.Choice.Laws.{by-test}
-use Rattle.format.specs.Table.{both, either}
+use Rattle.format.specs.Choice.{both, either}
 use Rattle.grammar.specs.Content.{Version, three, four}
 use Rattle.rows.specs.declared.Row.{Row}
 use Rattle.rows.specs.Rows.{width, rowAt, rowsOf, Whole, isWhole}

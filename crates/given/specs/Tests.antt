@@ -7,9 +7,8 @@ use Prim.Native.Nat.{ℕ, _+_}
 use mathlib.Core.List.{List, [], _∷_}
 use lib.Dec.{leb, eqb}
 use lib.ListN.{length, take, drop}
-use Rattle.format.specs.Choice.{pick}
-use Rattle.format.specs.Table.{both}
-use Rattle.dates.specs.Days.{within, isDay}
+use Rattle.format.specs.Choice.{pick, both, within}
+use Rattle.dates.specs.Days.{isDay}
 use Rattle.grammar.specs.Content.{Version, three, four}
 use Rattle.letters.specs.Characters.{isReference, all, isCountry, isSigner}
 use Rattle.rows.specs.declared.Row.{Row}

@@ -8,9 +8,8 @@ use borrow.Author.Tests.{ne-eqb, eqb-true, eqb-false}
 use mathlib.Core.List.{List, [], _∷_, _++_, map}
 use lib.Dec.{eqb}
 use lib.ListN.{length, length-append, length-map}
-use Rattle.format.specs.Choice.{pick}
+use Rattle.format.specs.Choice.{pick, either}
 use Rattle.format.specs.Choice.Laws.{by-test}
-use Rattle.format.specs.Table.{either}
 use Rattle.c40.specs.Text.{width, publish as c40}
 use Rattle.c40.specs.Text.Laws.{length-publish}
 use Rattle.dates.specs.Days.Laws.{length-publish as length-date}

@@ -8,9 +8,7 @@ use Prim.Native.Nat.{ℕ}
 use mathlib.Core.List.{List, [], _∷_}
 use lib.Dec.{eqb}
 use lib.ListN.{take, drop, getD}
-use Rattle.format.specs.Choice.{pick}
-use Rattle.format.specs.Table.{both, either}
-use Rattle.dates.specs.Days.{within}
+use Rattle.format.specs.Choice.{pick, both, either, within}
 
 abbrev pub isLetter : ℕ → Bool
 isLetter = within 65 90

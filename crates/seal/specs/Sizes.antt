@@ -7,7 +7,7 @@ use native.Mathlib.Omega.{arith}
 use borrow.Author.Tests.{eqb-true, eqb-false, eq-eqb, ne-eqb}
 use lib.Dec.{eqb}
 use Rattle.format.specs.Choice.Laws.{by-test}
-use Rattle.format.specs.Table.{either}
+use Rattle.format.specs.Choice.{either}
 use Rattle.grammar.specs.Legal.{SignatureSize}
 use Rattle.ecdsa.specs.Signature.{isSize}
 use Rattle.verdict.specs.Judge.{isSignature}

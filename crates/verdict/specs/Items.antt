@@ -12,14 +12,13 @@ use mathlib.Core.List.{List, map}
 use mathlib.Core.Option.{Option, none, some}
 use lib.Dec.{ltb, eqb}
 use lib.ListN.{length, take, drop, getD}
-use Rattle.format.specs.Choice.{pick}
-use Rattle.format.specs.Table.{both}
+use Rattle.format.specs.Choice.{pick, both, within}
 use Rattle.format.specs.Numbers.{val}
 use Rattle.format.specs.Hex.{hexValue}
 use Rattle.c40.specs.Text.{width}
 use Rattle.c40.specs.Decode.{Decoded, text, wrong, decode}
 use Rattle.dates.specs.declared.Date.{Date}
-use Rattle.dates.specs.Days.{within, isDay, dateOf}
+use Rattle.dates.specs.Days.{isDay, dateOf}
 use Rattle.versions.specs.Versions.{versionOfByte}
 use Rattle.der.specs.Length.{readLength}
 use Rattle.der.specs.declared.Length.{Length}

@@ -12,8 +12,7 @@ use Prim.Native.Nat.{ℕ, zero, suc, _+_}
 use mathlib.Core.List.{List, [], _∷_, _++_}
 use lib.Dec.{ltb, eqb}
 use lib.ListN.{length}
-use Rattle.format.specs.Choice.{pick}
-use Rattle.format.specs.Table.{either}
+use Rattle.format.specs.Choice.{pick, either}
 use Rattle.grammar.specs.Content.{Version, Header}
 pub use Rattle.rows.specs.declared.Row.{Row}
 use Rattle.causes.specs.Causes.{ruleNumber}

@@ -10,14 +10,14 @@ use mathlib.Core.Option.{some}
 use lib.ListN.{length}
 use Rattle.format.specs.Answers.{done}
 use Rattle.format.specs.Bytes.{Bytes, All}
-use Rattle.dates.specs.Days.{within, isDay}
+use Rattle.dates.specs.Days.{isDay}
+use Rattle.format.specs.Choice.{within}
 use Rattle.versions.specs.declared.Version.{Version}
 use Rattle.versions.specs.Versions.{versionOf}
 use Rattle.grammar.specs.Content.{Content}
 use Rattle.grammar.specs.Publish.{publish}
 use Rattle.grammar.specs.Legal.{Legal}
-use Rattle.dates.specs.Days.Laws.{within-true, within-both}
-use Rattle.format.specs.Table.Laws.{both-true, both-are}
+use Rattle.format.specs.Choice.Laws.{both-true, both-are, within-true, within-both}
 use Rattle.rows.specs.Rows.{rowsOf, Whole, isWhole}
 use Rattle.rows.specs.Rows.Laws.{whole-true, whole-is}
 use Rattle.given.specs.Tests.{areRows}

@@ -11,19 +11,18 @@ use lib.Dec.{eqb, leb}
 use lib.ListN.{length, take, drop, set, length-append, length-drop, length-set}
 use lib.Seq.{length-take-le}
 use Rattle.format.specs.Bytes.{All}
-use Rattle.format.specs.Choice.{pick}
-use Rattle.format.specs.Table.{both}
+use Rattle.format.specs.Choice.{pick, both}
 use Rattle.format.specs.Buffer.{over}
 use Rattle.format.specs.Buffer.Laws.{length-over, over-over, over-two, Held, held-more}
 use Rattle.c40.specs.Text.{publish as c40}
 use Rattle.c40.specs.Text.Laws.{length-publish}
 use Rattle.dates.specs.Days.{isDay, publish as date}
-use Rattle.dates.specs.Days.Laws.{length-publish as length-date, within-both}
+use Rattle.dates.specs.Days.Laws.{length-publish as length-date}
 use Rattle.der.specs.Length.{form}
 use Rattle.grammar.specs.Content.{Version, three, four}
 use Rattle.versions.specs.Versions.{versionByte}
 use Rattle.grammar.specs.Publish.{carried, names, lengthOf, feature, headerZone, messageZone, signatureZone, signedBytes, publish}
-use Rattle.format.specs.Table.Laws.{both-true}
+use Rattle.format.specs.Choice.Laws.{both-true, within-both}
 use Rattle.letters.specs.Characters.{isSigner, isCountry}
 use Rattle.verdict.specs.Report.{featureOf}
 use Rattle.rows.specs.declared.Row.{Row}

@@ -12,32 +12,12 @@ use lib.Dec.{leb}
 use lib.ListN.{length}
 use Rattle.format.specs.Numbers.{be, val}
 use Rattle.format.specs.Numbers.Laws.{length-be, val-be}
-use Rattle.format.specs.Table.{both}
-use Rattle.format.specs.Choice.Laws.{by-test}
+use Rattle.format.specs.Choice.{both, within}
+use Rattle.format.specs.Choice.Laws.{by-test, both-true, within-both}
 use Rattle.format.specs.Cut.{Cut}
 use Rattle.format.specs.Cut.Laws.{cut-be, cut-through}
-use Rattle.dates.specs.Days.{within, isDay, Day, NotAfter, by-year, by-month, by-day, numberOf, dateOf, publish}
+use Rattle.dates.specs.Days.{isDay, Day, NotAfter, by-year, by-month, by-day, numberOf, dateOf, publish}
 use Rattle.dates.specs.declared.Date.{Date}
-use Rattle.format.specs.Table.Laws.{both-true}
-
--- a range, by its tests
-pub within-both : (low high n : ℕ) → within low high n ≡ true → (low ≤ n) × (n ≤ high)
-within-both low high n e =
-    let t = both-true (leb low n) (leb n high) e in
-    (leb-true low n (t .0), leb-true n high (t .1))
-
-pub within-true : (low high n : ℕ) → low ≤ n → n ≤ high → within low high n ≡ true
-within-true low high n h g = rw (le-leb low n h, le-leb n high g) refl
-
-pub within-below : (low high n : ℕ) → n < low → within low high n ≡ false
-within-below low high n h = rw (lt-leb low n h) refl
-
-pub within-above : (low high n : ℕ) → low ≤ n → high < n → within low high n ≡ false
-within-above low high n h g = rw (le-leb low n h, lt-leb n high g) refl
-
--- the range's last test
-pub within-last : (low high n : ℕ) → low ≤ n → leb n high ≡ within low high n
-within-last low high n h = rw (le-leb low n h) refl
 
 -- what the test of a day says of its fields, as numbers
 pub record Bounds (d : Date) : Type 0 where

@@ -12,9 +12,8 @@ use lib.Seq.{length-take-le}
 use Rattle.format.specs.Bytes.{Bytes}
 use Rattle.format.specs.Buffer.{over}
 use Rattle.format.specs.Buffer.Laws.{over-set, over-over}
-use Rattle.format.specs.Choice.{pick}
+use Rattle.format.specs.Choice.{pick, both}
 use Rattle.format.specs.Choice.Laws.{by-test}
-use Rattle.format.specs.Table.{both}
 use Rattle.der.specs.Element.{elementIn}
 use Rattle.der.specs.Element.Exact.{element-whole}
 use Rattle.der.specs.Content.{strict}

@@ -4,7 +4,7 @@ use borrow.Author.Needs.{needs}
 use borrow.Author.Tests.{not-true, not-false}
 use mathlib.Core.Path.{_≡_, sym, ap, _∙_}
 use mathlib.Core.Bool.{true, false}
-use Rattle.format.specs.Table.{both}
+use Rattle.format.specs.Choice.{both}
 use Rattle.dates.specs.Days.{isDay}
 use Rattle.items.specs.declared.Header.{Header}
 use Rattle.given.specs.Tests.{areDays}

@@ -8,9 +8,8 @@ use borrow.Author.Tests.{eq-eqb, ne-eqb, eqb-true, leb-true, le-leb}
 use mathlib.Core.List.{List, [], _∷_}
 use lib.Dec.{leb, eqb}
 use lib.ListN.{length, take, drop}
-use Rattle.format.specs.Table.{both}
-use Rattle.format.specs.Table.Laws.{both-true, both-are}
-use Rattle.dates.specs.Days.Laws.{within-both}
+use Rattle.format.specs.Choice.{both}
+use Rattle.format.specs.Choice.Laws.{both-true, both-are, within-both}
 use Rattle.grammar.specs.Content.{Version, three, four}
 use Rattle.letters.specs.Characters.{isReference, all, isCountry, isSigner}
 use Rattle.grammar.specs.Legal.{ValueSize}

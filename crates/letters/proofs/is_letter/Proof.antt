@@ -2,7 +2,7 @@
 -- Assumes nothing.
 use native.Mathlib.Omega.{arith}
 use mathlib.Core.Path.{sym}
-use Rattle.dates.specs.Days.Laws.{within-below, within-last}
+use Rattle.format.specs.Choice.Laws.{within-below, within-last}
 use Rattle.letters.proofs.is_letter.Statement.{statement}
 use Rattle.letters.proofs.is_letter.Tie as tie
 

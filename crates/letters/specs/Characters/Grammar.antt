@@ -7,10 +7,9 @@ use Prim.Native.Nat.{ℕ}
 use native.Mathlib.Omega.{arith}
 use mathlib.Core.List.{List, [], _∷_}
 use lib.ListN.{length}
-use Rattle.format.specs.Table.{both, either}
-use Rattle.format.specs.Table.Laws.{both-true, either-true}
+use Rattle.format.specs.Choice.{both, either}
+use Rattle.format.specs.Choice.Laws.{both-true, either-true, within-true, within-below, within-both}
 use Rattle.format.specs.Bytes.{All}
-use Rattle.dates.specs.Days.Laws.{within-true, within-below, within-both}
 use Rattle.grammar.specs.Legal.{Letter, LetterOrDigit, ReferenceCharacter, Signer}
 use Rattle.letters.specs.Characters.{isLetter, isDigit, isLetterOrDigit, isReference, all, isSigner}
 

@@ -9,8 +9,8 @@ use mathlib.Core.List.{List, [], _∷_}
 use lib.Dec.{eqb}
 use lib.ListN.{length, drop, getD, take, length-drop}
 use lib.Seq.{take-all}
-use Rattle.format.specs.Table.{both}
-use Rattle.format.specs.Table.Laws.{both-true-right, either-absorbed}
+use Rattle.format.specs.Choice.{both}
+use Rattle.format.specs.Choice.Laws.{both-true-right, either-absorbed}
 use Rattle.format.specs.Places.{at-place, past-end}
 use Rattle.letters.specs.Characters.{isLetter, isDigit, isLetterOrDigit, isReference, all, isCountry, isSigner, shown}
 

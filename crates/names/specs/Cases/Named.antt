@@ -11,8 +11,7 @@ use lib.Dec.{ltb}
 use lib.ListN.{length, take, drop, getD, set, length-drop, length-append, List·getD-append}
 use lib.Seq.{take-append-le, drop-append-le, take-at, drop-at, length-take-le}
 use Rattle.grammar.specs.Content.{three, four}
-use Rattle.dates.specs.Days.Laws.{within-both}
-use Rattle.format.specs.Table.Laws.{both-true}
+use Rattle.format.specs.Choice.Laws.{both-true, within-both}
 use Rattle.format.specs.Hex.{hexValue}
 use Rattle.letters.specs.Characters.{isLetter, isSigner, isCountry, shown}
 use Rattle.causes.specs.declared.Item.the-variants as item

@@ -9,7 +9,7 @@ use borrow.Author.Tests.{lt-ltb, le-ltb}
 use mathlib.Core.List.{List, [], _∷_}
 use lib.Dec.{ltb}
 use lib.ListN.{length, take, getD}
-use Rattle.format.specs.Table.{both}
+use Rattle.format.specs.Choice.{both}
 use Rattle.format.specs.Hex.{hexValue}
 use Rattle.letters.specs.Characters.{isSigner}
 use Rattle.causes.specs.declared.Rule.{Rule}

@@ -8,9 +8,9 @@ use borrow.Author.Tests.{ltb-true, ltb-false, le-ltb, lt-ltb}
 use lib.Dec.{T, ltb, eqb, eqb→eq, ltb→lt}
 use mathlib.Core.List.{List}
 use lib.ListN.{length, getD}
-use Rattle.format.specs.Choice.{pick}
+use Rattle.format.specs.Choice.{pick, both}
 use Rattle.format.specs.Choice.Laws.{by-test}
-use Rattle.format.specs.Table.{both, every, at-entry}
+use Rattle.format.specs.Every.{every, at-entry}
 use Rattle.pairs.specs.Chart.{theChart, char, valueOf, InChart}
 
 pub length-chart : length theChart ≡ 40

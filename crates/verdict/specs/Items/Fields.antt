@@ -11,8 +11,7 @@ use mathlib.Core.List.{List, [], _∷_, _++_, map, append-assoc}
 use lib.Dec.{ltb, eqb}
 use lib.ListN.{length, take, drop, getD, length-append}
 use lib.Seq.{take-at, drop-at}
-use Rattle.format.specs.Choice.{pick}
-use Rattle.format.specs.Table.{both, either}
+use Rattle.format.specs.Choice.{pick, both, either}
 use Rattle.format.specs.Hex.{hexDigit, hexValue}
 use Rattle.format.specs.Hex.Laws.{digit-value}
 use Rattle.format.specs.Bytes.{All}

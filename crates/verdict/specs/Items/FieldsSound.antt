@@ -11,9 +11,8 @@ use mathlib.Core.List.{List, [], _∷_, _++_, map}
 use lib.Dec.{ltb, eqb}
 use lib.ListN.{length, take, drop, take-append-drop, length-drop}
 use lib.Seq.{length-take-le}
-use Rattle.format.specs.Choice.{pick}
-use Rattle.format.specs.Choice.Laws.{by-test}
-use Rattle.format.specs.Table.{both, either}
+use Rattle.format.specs.Choice.{pick, both, either}
+use Rattle.format.specs.Choice.Laws.{by-test, both-true, either-true, within-both}
 use Rattle.format.specs.Hex.{hexDigit, hexValue}
 use Rattle.format.specs.Hex.Laws.{value-digit}
 use Rattle.format.specs.Bytes.{Bytes}
@@ -27,8 +26,6 @@ use Rattle.grammar.specs.Publish as form
 use Rattle.grammar.specs.Legal.{Letter, Filler, Country, Signer, ReferenceCharacter}
 use Rattle.grammar.specs.Parts.{Names as LegalNames, four-form}
 use Rattle.grammar.specs.Pins.{filled-three}
-use Rattle.format.specs.Table.Laws.{both-true, either-true}
-use Rattle.dates.specs.Days.Laws.{within-both}
 use Rattle.letters.specs.Characters.Grammar.{reference-of, all-of, signer-of}
 use Rattle.letters.specs.Characters.{isLetter, isReference, all, isCountry, isSigner, shown}
 use Rattle.causes.specs.declared.Rule.{Rule}

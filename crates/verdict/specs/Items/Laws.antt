@@ -12,7 +12,7 @@ use lib.Dec.{ltb}
 use lib.ListN.{length, take, drop, getD, length-append}
 use lib.Seq.{take-at, drop-at}
 use Rattle.format.specs.Choice.{pick}
-use Rattle.format.specs.Choice.Laws.{by-test}
+use Rattle.format.specs.Choice.Laws.{by-test, within-true}
 use Rattle.format.specs.Numbers.{val}
 use Rattle.c40.specs.Text.{TextOf, width, publish as c40}
 use Rattle.c40.specs.Text.Laws.{length-publish as length-c40}
@@ -20,7 +20,7 @@ use Rattle.c40.specs.Decode.{decode}
 use Rattle.c40.specs.Exact.{published-decodes}
 use Rattle.dates.specs.declared.Date.{Date}
 use Rattle.dates.specs.Days.{Day, dateOf, publish}
-use Rattle.dates.specs.Days.Laws.{length-publish, val-publish, number-date, within-true}
+use Rattle.dates.specs.Days.Laws.{length-publish, val-publish, number-date}
 use Rattle.der.specs.Length.{Sized, form}
 use Rattle.der.specs.Length.Exact.{form-reads}
 use Rattle.grammar.specs.Content.{Version, three, four}

@@ -10,14 +10,15 @@ use mathlib.Core.Option.{Option, none, some}
 use lib.Dec.{eqb}
 use lib.ListN.{length, take, drop, getD, take-append-drop, length-drop, length-append}
 use lib.Seq.{length-take-le, drop-drop, take-all}
-use Rattle.format.specs.Choice.{pick}
+use Rattle.format.specs.Choice.{pick, within}
 use Rattle.format.specs.Bytes.{Bytes}
 use Rattle.format.specs.Bytes.Laws.{bytes-drop, bytes-take}
 use Rattle.format.specs.Numbers.{val}
 use Rattle.format.specs.Answers.{given}
 use Rattle.dates.specs.declared.Date.{Date}
-use Rattle.dates.specs.Days.{within, isDay, Day, dateOf, publish}
-use Rattle.dates.specs.Days.Laws.{length-publish, within-both}
+use Rattle.dates.specs.Days.{isDay, Day, dateOf, publish}
+use Rattle.dates.specs.Days.Laws.{length-publish}
+use Rattle.format.specs.Choice.Laws.{within-both}
 use Rattle.dates.specs.Exact.{from-day, taken-published}
 use Rattle.der.specs.Length.{Sized, form, readLength}
 use Rattle.der.specs.Length.Exact.{read-is-form}

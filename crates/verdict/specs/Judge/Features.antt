@@ -8,9 +8,8 @@ use borrow.Author.Tests.{ne-eqb}
 use mathlib.Core.List.{List, [], _∷_, _++_, append-assoc, append-nil}
 use lib.Dec.{eqb}
 use lib.ListN.{length, length-append}
-use Rattle.format.specs.Choice.{pick}
+use Rattle.format.specs.Choice.{pick, either}
 use Rattle.format.specs.Choice.Laws.{by-test}
-use Rattle.format.specs.Table.{either}
 use Rattle.grammar.specs.Content.{Version, Feature}
 use Rattle.grammar.specs.Publish.{lengthOf, messageZone}
 use Rattle.grammar.specs.Legal.{Unused, LegalFeatures}

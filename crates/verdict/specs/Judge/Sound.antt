@@ -9,9 +9,8 @@ use borrow.Author.Tests.{eqb-true, eqb-false, ltb-false}
 use mathlib.Core.List.{List, [], _∷_, _++_, append-assoc, append-nil}
 use lib.Dec.{ltb, eqb}
 use lib.ListN.{length, take, drop, getD, drop-of-length-le}
-use Rattle.format.specs.Choice.{pick}
-use Rattle.format.specs.Choice.Laws.{by-test}
-use Rattle.format.specs.Table.{either}
+use Rattle.format.specs.Choice.{pick, either}
+use Rattle.format.specs.Choice.Laws.{by-test, not-true}
 use Rattle.format.specs.Bytes.{Bytes}
 use Rattle.format.specs.Bytes.Laws.{bytes-drop, bytes-take}
 use Rattle.der.specs.Length.{form as derForm}
@@ -19,7 +18,6 @@ use Rattle.grammar.specs.Content.{Version, Header, Feature, Content}
 use Rattle.grammar.specs.Publish.{lengthOf, headerZone, messageZone, signatureZone, signedBytes, publish}
 use Rattle.grammar.specs.Legal.{LegalHeader, Unused, ValueSize, LegalFeatures, SignatureSize, n28, n32, n48, n64, n66, Legal}
 use Rattle.grammar.specs.Zones.{header-parts}
-use Rattle.format.specs.Table.Laws.{not-true}
 use Rattle.causes.specs.Causes.{ruleNumber}
 use Rattle.causes.specs.declared.Rule.the-variants as rule
 use Rattle.causes.specs.declared.Item.the-variants as item

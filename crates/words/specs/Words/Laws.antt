@@ -8,9 +8,8 @@ use native.Mathlib.Omega.{arith}
 use mathlib.Core.List.{List, [], _∷_, _++_}
 use lib.Dec.{T, leb, eqb}
 use lib.ListN.{length}
-use Rattle.format.specs.Choice.{pick}
-use Rattle.format.specs.Table.{both}
-use Rattle.format.specs.Table.Laws.{both-true}
+use Rattle.format.specs.Choice.{pick, both}
+use Rattle.format.specs.Choice.Laws.{both-true}
 use Rattle.lines.specs.Line.{ascii}
 use Rattle.words.specs.Words.{Row, sought}
 

@@ -10,13 +10,12 @@ use mathlib.Core.List.{List, [], _∷_}
 use lib.Dec.{eqb}
 use lib.ListN.{length, take, drop, length-drop}
 use lib.Seq.{length-take-le}
-use Rattle.format.specs.Table.{both, either}
+use Rattle.format.specs.Choice.{both, either}
 use Rattle.format.specs.Bytes.{All}
 use Rattle.grammar.specs.Content.{Version, three, four}
 use Rattle.grammar.specs.Legal.{Letter, Filler, Country, Signer, ReferenceCharacter, ReferenceSize}
 use Rattle.grammar.specs.Pins.{filled-three}
-use Rattle.dates.specs.Days.Laws.{within-true, within-both}
-use Rattle.format.specs.Table.Laws.{both-true, both-are, either-true, either-left, either-right}
+use Rattle.format.specs.Choice.Laws.{both-true, both-are, either-true, either-left, either-right, within-true, within-both}
 use Rattle.letters.specs.Characters.Grammar.{letter, reference-passes, all-pass, signer-passes, reference-of, all-of, signer-of}
 use Rattle.letters.specs.Characters.{isLetter, isReference, all, isSigner, isCountry}
 use Rattle.items.specs.declared.Header.{Header}

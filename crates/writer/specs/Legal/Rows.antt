@@ -7,14 +7,12 @@ use borrow.Author.Tests.{leb-true, le-leb, ne-eqb, eqb-false}
 use mathlib.Core.List.{List, [], _∷_, map}
 use lib.Dec.{leb, eqb}
 use lib.ListN.{length, drop}
-use Rattle.format.specs.Choice.{pick}
-use Rattle.format.specs.Choice.Laws.{by-test}
-use Rattle.format.specs.Table.{both, either}
+use Rattle.format.specs.Choice.{pick, both, either}
+use Rattle.format.specs.Choice.Laws.{by-test, not-true, both-true, both-are}
 use Rattle.format.specs.Bytes.{Bytes, All}
 use Rattle.format.specs.Bytes.Laws.{bytes-take, bytes-drop}
 use Rattle.grammar.specs.Content.{Version}
 use Rattle.grammar.specs.Legal.{ValueSize, Unused, LegalFeatures}
-use Rattle.format.specs.Table.Laws.{not-true, both-true, both-are}
 use Rattle.verdict.specs.Report.{featureOf}
 use Rattle.rows.specs.declared.Row.{Row}
 use Rattle.verdict.specs.Judge.{used}

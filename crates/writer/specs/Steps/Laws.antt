@@ -9,8 +9,8 @@ use mathlib.Core.List.{List, [], _∷_, _++_}
 use lib.Dec.{eqb}
 use lib.ListN.{length, take, drop, take-append-drop}
 use Rattle.format.specs.Bytes.Laws.{all-append}
-use Rattle.format.specs.Choice.Laws.{by-test}
-use Rattle.format.specs.Table.{either}
+use Rattle.format.specs.Choice.Laws.{by-test, both-true, within-both}
+use Rattle.format.specs.Choice.{either}
 use Rattle.pairs.specs.Chart.{InChart}
 use Rattle.pairs.specs.Chart.Laws.{letter-in, digit-in, space-in}
 use Rattle.c40.specs.Text.{Text}
@@ -18,8 +18,6 @@ use Rattle.der.specs.Length.{written}
 use Rattle.der.specs.Length.Written.{written-form}
 use Rattle.grammar.specs.Content.{Version, three, four}
 use Rattle.grammar.specs.Publish.{carried, hexDigits, lengthOf}
-use Rattle.dates.specs.Days.Laws.{within-both}
-use Rattle.format.specs.Table.Laws.{both-true}
 use Rattle.grammar.specs.Legal.{ReferenceCharacter}
 use Rattle.grammar.specs.Parts.{hex-text, reference-text as text-of}
 use Rattle.letters.specs.Characters.{isLetter, isDigit, isLetterOrDigit, isReference, isSigner, all, isCountry}

@@ -11,7 +11,7 @@ use lib.Dec.{eqb}
 use lib.ListN.{length, length-append, length-set, take, getD, set}
 use lib.Seq.{getD-take, take-suc-set}
 use Rattle.format.specs.Choice.Laws.{by-test}
-use Rattle.format.specs.Table.{either}
+use Rattle.format.specs.Choice.{either}
 use Rattle.format.specs.Bytes.{Bytes}
 use Rattle.grammar.specs.Content.{Version}
 use Rattle.grammar.specs.Sizes.{has, free, free-less}

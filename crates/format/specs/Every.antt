@@ -1,6 +1,5 @@
 -- A rule of a table, proved at all of its entries by one test that the checker computes, one entry after the other.
 -- Assumes nothing.
-pub mod Laws
 use mathlib.Core.Bool.{Bool, true, false}
 use mathlib.Core.List.{List, [], _∷_}
 use Prim.Native.Nat.{ℕ, zero, suc, _+_, _<_}
@@ -8,14 +7,7 @@ use native.Mathlib.Nat.{add-zero, zero-add, add-suc, suc-add}
 use native.Mathlib.Omega.{arith}
 use lib.Dec.{T}
 use lib.ListN.{length, getD}
-
-abbrev pub both : Bool → Bool → Bool
-both true b = b
-both false b = false
-
-abbrev pub either : Bool → Bool → Bool
-either true b = true
-either false b = b
+use Rattle.format.specs.Choice.{both}
 
 both-left : (a b : Bool) → T (both a b) → T a
 both-left true b t = tt
