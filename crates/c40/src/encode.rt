@@ -2,7 +2,7 @@
 ghost use mathlib.Core.Path.{_≡_};
 ghost use Prim.Native.Nat.{_+_, _<_, _≤_};
 ghost use lib.ListN.{length};
-ghost use Rattle.format.specs.Numbers.{be};
+ghost use Rattle.format.specs.BigEndian.{be};
 ghost use Rattle.format.specs.Buffer.{over};
 ghost use Rattle.pairs.specs.Chart.{theChart};
 ghost use Rattle.c40.specs.Text.{Text, publish, width};

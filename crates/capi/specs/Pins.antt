@@ -4,7 +4,7 @@ use mathlib.Core.Path.{_≡_, refl}
 use mathlib.Core.List.{[], _∷_}
 use lib.IntN.{pos, negsuc}
 use lib.ListN.{replicate}
-use Rattle.format.specs.Numbers.{val}
+use Rattle.format.specs.BigEndian.{val}
 use Rattle.format.specs.Answers.{told}
 use Rattle.dates.specs.Days.{isDay}
 use Rattle.dates.specs.Calls.{fromNumber, toNumber}

@@ -3,7 +3,7 @@
 use mathlib.Core.Path.{_≡_, refl}
 use mathlib.Core.List.{List, _++_, map}
 use Rattle.format.specs.Order.{inRoom}
-use Rattle.format.specs.Numbers.{be, val}
+use Rattle.format.specs.BigEndian.{be, val}
 use Rattle.pairs.specs.Chart.{theChart, valueOf}
 use Rattle.c40.specs.Text.{publish}
 use Rattle.pairs.specs.Pairs.{single, values, pairOf, triple}

@@ -3,8 +3,8 @@
 use mathlib.Core.List.{List, [], _∷_}
 use Prim.Native.Nat.{ℕ, suc}
 use lib.IntN.{ℤ, pos, negsuc}
-use Rattle.format.specs.Numbers.{val}
-use Rattle.format.specs.Answers.{Outcome, Given, done}
+use Rattle.format.specs.BigEndian.{val}
+use Rattle.format.specs.Answers.{Outcome, Result, done}
 use Rattle.dates.specs.Days.{publish}
 use Rattle.dates.specs.Calls.{fromNumber}
 use Rattle.dates.specs.declared.Date.{Date}
@@ -12,14 +12,14 @@ use Rattle.integers.specs.Calls.{reading, writing}
 use Rattle.cases.specs.Case.{Case}
 
 -- a number that is given, shown as its date's fields; and an INTEGER, shown as its sign (1 for a number below 0) and how far it is from 0
-abbrev pub fields : Given Date → Outcome
+abbrev pub fields : Result Date → Outcome
 fields g = record { number = g .number; place = g .place; written = g .value .month ∷ g .value .day ∷ g .value .year ∷ [] }
 
 abbrev pub signed : ℤ → List ℕ
 signed (pos n) = 0 ∷ n ∷ []
 signed (negsuc n) = 1 ∷ suc n ∷ []
 
-abbrev pub value : Given ℤ → Outcome
+abbrev pub value : Result ℤ → Outcome
 value g = record { number = g .number; place = g .place; written = signed (g .value) }
 
 -- 25 March 1957

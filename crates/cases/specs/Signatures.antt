@@ -2,7 +2,7 @@
 -- Assumes nothing.
 use mathlib.Core.List.{List, [], _∷_, _++_}
 use Prim.Native.Nat.{ℕ}
-use Rattle.format.specs.Numbers.{be}
+use Rattle.format.specs.BigEndian.{be}
 use Rattle.format.specs.Answers.{done}
 use Rattle.ecdsa.specs.Calls.{toDer, toRaw}
 use Rattle.cases.specs.Case.{Case}

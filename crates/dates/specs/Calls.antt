@@ -2,7 +2,7 @@
 -- Assumes nothing.
 use Prim.Native.Nat.{ℕ}
 use Rattle.format.specs.Choice.{pick}
-use Rattle.format.specs.Answers.{Given, given, refusal}
+use Rattle.format.specs.Answers.{Result, result, refusal}
 use Rattle.dates.specs.Days.{isDay, numberOf, dateOf}
 use Rattle.dates.specs.declared.Date.{Date}
 use Rattle.dates.specs.declared.Taken.{Taken}
@@ -14,16 +14,16 @@ use Rattle.dates.specs.declared.Numbered.the-variants as numbered
 abbrev pub no-date : Date
 no-date = record { month = 0; day = 0; year = 0 }
 
-unfoldable pub fromNumber : ℕ → Given Date
-fromNumber n = pick (isDay (dateOf n)) (given (dateOf n)) (refusal no-date 6)
+unfoldable pub fromNumber : ℕ → Result Date
+fromNumber n = pick (isDay (dateOf n)) (result (dateOf n)) (refusal no-date 6)
 
-unfoldable pub toNumber : Date → Given ℕ
-toNumber d = pick (isDay d) (given (numberOf d)) (refusal 0 22)
+unfoldable pub toNumber : Date → Result ℕ
+toNumber d = pick (isDay d) (result (numberOf d)) (refusal 0 22)
 
-abbrev pub takenOf : Taken → Given Date
-takenOf (taken.Day d) = given d
+abbrev pub takenOf : Taken → Result Date
+takenOf (taken.Day d) = result d
 takenOf taken.NoSuchDate = refusal no-date 6
 
-abbrev pub numberedOf : Numbered → Given ℕ
-numberedOf (numbered.Number n) = given n
+abbrev pub numberedOf : Numbered → Result ℕ
+numberedOf (numbered.Number n) = result n
 numberedOf numbered.NoSuchDate = refusal 0 22

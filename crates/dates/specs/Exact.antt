@@ -8,10 +8,10 @@ use native.Mathlib.Omega.{arith}
 use mathlib.Core.List.{List}
 use lib.ListN.{length, take}
 use Rattle.format.specs.Bytes.{Bytes}
-use Rattle.format.specs.Numbers.{be, val}
-use Rattle.format.specs.Numbers.Laws.{be-val}
+use Rattle.format.specs.BigEndian.{be, val}
+use Rattle.format.specs.BigEndian.Laws.{be-val}
 use Rattle.format.specs.Choice.Laws.{by-test}
-use Rattle.format.specs.Answers.{given, refusal}
+use Rattle.format.specs.Answers.{result, refusal}
 use Rattle.dates.specs.Days.{isDay, Day, firstDay, lastDay, NotAfter, numberOf, dateOf, publish}
 use Rattle.dates.specs.Days.Laws.{day-bounds, number-above, number-below, fields-not-after, number-date, date-number, val-publish}
 use Rattle.dates.specs.Calls.{no-date, fromNumber, toNumber}
@@ -37,7 +37,7 @@ last-day = (
 )
 
 -- what each call answers, by the test of the day
-pub from-day : (n : ℕ) → Day (dateOf n) → fromNumber n ≡ given (dateOf n)
+pub from-day : (n : ℕ) → Day (dateOf n) → fromNumber n ≡ result (dateOf n)
 unfolding fromNumber
 from-day n h = simp h
 
@@ -45,7 +45,7 @@ pub from-none : (n : ℕ) → isDay (dateOf n) ≡ false → fromNumber n ≡ re
 unfolding fromNumber
 from-none n h = simp h
 
-pub to-day : (d : Date) → Day d → toNumber d ≡ given (numberOf d)
+pub to-day : (d : Date) → Day d → toNumber d ≡ result (numberOf d)
 unfolding toNumber
 to-day d h = simp h
 
@@ -54,40 +54,40 @@ unfolding toNumber
 to-none d h = simp h
 
 -- a call that answers 0 was given a day, and its value is the day, or the number, that belongs to it
-pub from-given : (n : ℕ) (d : Date) → fromNumber n ≡ given d → Day (dateOf n) × (dateOf n ≡ d)
+pub from-given : (n : ℕ) (d : Date) → fromNumber n ≡ result d → Day (dateOf n) × (dateOf n ≡ d)
 from-given n d e =
     by-test (isDay (dateOf n))
     (λ h. (h, ap (λ g. g .value) (sym (from-day n h) ∙ e)))
     (λ h. absurd (omega (arith, ap (λ g. g .number) (sym (from-none n h) ∙ e))))
 
-pub to-given : (d : Date) (n : ℕ) → toNumber d ≡ given n → Day d × (numberOf d ≡ n)
+pub to-given : (d : Date) (n : ℕ) → toNumber d ≡ result n → Day d × (numberOf d ≡ n)
 to-given d n e =
     by-test (isDay d)
     (λ h. (h, ap (λ g. g .value) (sym (to-day d h) ∙ e)))
     (λ h. absurd (omega (arith, ap (λ g. g .number) (sym (to-none d h) ∙ e))))
 
 -- a day comes back from its number
-day-taken : (d : Date) → Day d → fromNumber (numberOf d) ≡ given d
+day-taken : (d : Date) → Day d → fromNumber (numberOf d) ≡ result d
 day-taken d h =
     let same = number-date d h in
-    from-day (numberOf d) (ap isDay same ∙ h) ∙ ap given same
+    from-day (numberOf d) (ap isDay same ∙ h) ∙ ap result same
 
 -- There and back: the number of what is taken is the number given, and what its number gives is the day.
-pub taken-numbered : (n : ℕ) (d : Date) → fromNumber n ≡ given d → toNumber d ≡ given n
+pub taken-numbered : (n : ℕ) (d : Date) → fromNumber n ≡ result d → toNumber d ≡ result n
 taken-numbered n d e =
     let g = from-given n d e in
-    ap toNumber (sym (g .1)) ∙ to-day (dateOf n) (g .0) ∙ ap given (date-number n (g .0))
+    ap toNumber (sym (g .1)) ∙ to-day (dateOf n) (g .0) ∙ ap result (date-number n (g .0))
 
-pub numbered-taken : (d : Date) (n : ℕ) → toNumber d ≡ given n → fromNumber n ≡ given d
+pub numbered-taken : (d : Date) (n : ℕ) → toNumber d ≡ result n → fromNumber n ≡ result d
 numbered-taken d n e =
     let g = to-given d n e in
     ap fromNumber (sym (g .1)) ∙ day-taken d (g .0)
 
 -- Three bytes give a day exactly when they are its published form.
-pub published-taken : (d : Date) → Day d → fromNumber (val (publish d) 3) ≡ given d
+pub published-taken : (d : Date) → Day d → fromNumber (val (publish d) 3) ≡ result d
 published-taken d h = ap fromNumber (val-publish d h) ∙ day-taken d h
 
-pub taken-published : (s : List ℕ) → Bytes s → 3 ≤ length s → (d : Date) → fromNumber (val s 3) ≡ given d → Day d × (publish d ≡ take 3 s)
+pub taken-published : (s : List ℕ) → Bytes s → 3 ≤ length s → (d : Date) → fromNumber (val s 3) ≡ result d → Day d × (publish d ≡ take 3 s)
 unfolding publish
 taken-published s bytes long d e =
     let g = from-given (val s 3) d e in

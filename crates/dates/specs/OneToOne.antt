@@ -4,7 +4,7 @@ use mathlib.Core.Path.{_≡_, refl}
 use Prim.Native.Nat.{ℕ}
 use lib.Dec.{eqb}
 use Rattle.format.specs.Choice.{pick}
-use Rattle.format.specs.Answers.{Given}
+use Rattle.format.specs.Answers.{Result}
 use Rattle.format.specs.OneToOne.{OneToOne, one-back}
 use Rattle.dates.specs.Calls.{takenOf, numberedOf}
 use Rattle.dates.specs.declared.Date.{Date}
@@ -13,7 +13,7 @@ use Rattle.dates.specs.declared.Taken.the-variants as taken
 use Rattle.dates.specs.declared.Numbered.{Numbered}
 use Rattle.dates.specs.declared.Numbered.the-variants as numbered
 
-takenBack : Given Date → Taken
+takenBack : Result Date → Taken
 takenBack g = pick (eqb (g .number) 0) (taken.Day (g .value)) taken.NoSuchDate
 
 taken-back : (a : Taken) → takenBack (takenOf a) ≡ a
@@ -24,7 +24,7 @@ taken-back taken.NoSuchDate = refl
 pub taken-one : OneToOne takenOf
 taken-one = one-back takenOf takenBack taken-back
 
-numberedBack : Given ℕ → Numbered
+numberedBack : Result ℕ → Numbered
 numberedBack g = pick (eqb (g .number) 0) (numbered.Number (g .value)) numbered.NoSuchDate
 
 numbered-back : (a : Numbered) → numberedBack (numberedOf a) ≡ a

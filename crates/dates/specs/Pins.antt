@@ -2,8 +2,8 @@
 -- Assumes nothing.
 use mathlib.Core.Path.{_≡_, refl}
 use mathlib.Core.List.{[], _∷_}
-use Rattle.format.specs.Numbers.{be}
-use Rattle.format.specs.Answers.{given, refusal}
+use Rattle.format.specs.BigEndian.{be}
+use Rattle.format.specs.Answers.{result, refusal}
 use Rattle.dates.specs.Days.{isDay, publish}
 use Rattle.dates.specs.Calls.{no-date, fromNumber, toNumber}
 
@@ -13,11 +13,11 @@ unfolding publish be
 bytes = refl
 
 -- 1 January of year 1 and 31 December of year 9999
-first : fromNumber 1010001 ≡ given (record { month = 1; day = 1; year = 1 })
+first : fromNumber 1010001 ≡ result (record { month = 1; day = 1; year = 1 })
 unfolding fromNumber isDay
 first = refl
 
-last : fromNumber 12319999 ≡ given (record { month = 12; day = 31; year = 9999 })
+last : fromNumber 12319999 ≡ result (record { month = 12; day = 31; year = 9999 })
 unfolding fromNumber isDay
 last = refl
 
@@ -35,7 +35,7 @@ day-0 : fromNumber 1002000 ≡ refusal no-date 6
 unfolding fromNumber isDay
 day-0 = refl
 
-day-31 : fromNumber 1312000 ≡ given (record { month = 1; day = 31; year = 2000 })
+day-31 : fromNumber 1312000 ≡ result (record { month = 1; day = 31; year = 2000 })
 unfolding fromNumber isDay
 day-31 = refl
 

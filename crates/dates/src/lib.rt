@@ -1,7 +1,7 @@
 // Dates of a seal (document 01, Dates; Doc 9303-13, 2.3.1): month, day and year as one number MMDDYYYY, big-endian in three bytes.
 ghost use mathlib.Core.Path.{_≡_};
 ghost use mathlib.Core.List.{[], _∷_};
-ghost use Rattle.format.specs.Numbers.{val};
+ghost use Rattle.format.specs.BigEndian.{val};
 ghost use Rattle.dates.specs.Days.{isDay, dated, firstDay, lastDay};
 ghost use Rattle.dates.specs.Calls.{takenOf, numberedOf, fromNumber, toNumber};
 

@@ -8,7 +8,7 @@ use mathlib.Core.List.{List, [], _∷_}
 use lib.Dec.{ltb, eqb}
 use lib.ListN.{length}
 use Rattle.format.specs.Choice.{pick}
-use Rattle.format.specs.Numbers.{be, val}
+use Rattle.format.specs.BigEndian.{be, val}
 use Rattle.der.specs.declared.Form.{Form}
 use Rattle.der.specs.declared.Form.the-variants.{One, Two, Three, Longer}
 use Rattle.der.specs.declared.Fault.the-variants.{NoByte, FirstByte, Cut, NotShortest}

@@ -6,7 +6,7 @@ use mathlib.Core.List.{List, [], _∷_}
 use lib.Dec.{leb, eqb}
 use lib.ListN.{length, take, drop}
 use Rattle.format.specs.Choice.{pick}
-use Rattle.format.specs.Answers.{Outcome, Answer, Given, done, given, refusal}
+use Rattle.format.specs.Answers.{Outcome, Answer, Result, done, result, refusal}
 use Rattle.format.specs.Order.{Test, test, inOrder}
 use Rattle.ecdsa.specs.Signature.{isSize, integers, signature}
 use Rattle.ecdsa.specs.Strict.{rawOf, isRaw, bytesIn}
@@ -40,13 +40,13 @@ unfoldable pub toRaw : ℕ → List ℕ → ℕ → Outcome
 toRaw n bytes room = inOrder (toRawTests n bytes room) (done (bytesIn (rawOf n bytes)))
 
 -- the hash by n, as its size in bits: 28 SHA-224, 32 SHA-256, 48 SHA-384, 64 and 66 SHA-512
-unfoldable pub hashFor : ℕ → Given ℕ
+unfoldable pub hashFor : ℕ → Result ℕ
 hashFor n =
-    pick (eqb n 28) (given 224)
-    (pick (eqb n 32) (given 256)
-    (pick (eqb n 48) (given 384)
-    (pick (eqb n 64) (given 512)
-    (pick (eqb n 66) (given 512)
+    pick (eqb n 28) (result 224)
+    (pick (eqb n 32) (result 256)
+    (pick (eqb n 48) (result 384)
+    (pick (eqb n 64) (result 512)
+    (pick (eqb n 66) (result 512)
     (refusal 0 60)))))
 
 -- number and count of each case
@@ -63,9 +63,9 @@ toRawOf raw.NoSize = record { number = 60; place = 0; count = 0 }
 toRawOf raw.NotStrict = record { number = 62; place = 0; count = 0 }
 toRawOf raw.NoRoom = record { number = 63; place = 0; count = 0 }
 
-abbrev pub hashOf : Hash → Given ℕ
-hashOf hash.Sha224 = given 224
-hashOf hash.Sha256 = given 256
-hashOf hash.Sha384 = given 384
-hashOf hash.Sha512 = given 512
+abbrev pub hashOf : Hash → Result ℕ
+hashOf hash.Sha224 = result 224
+hashOf hash.Sha256 = result 256
+hashOf hash.Sha384 = result 384
+hashOf hash.Sha512 = result 512
 hashOf hash.NoSize = refusal 0 60

@@ -13,7 +13,7 @@ use Rattle.format.specs.Choice.Laws.{by-test}
 use Rattle.format.specs.Answers.{done, refused}
 use Rattle.ecdsa.specs.Signature.{isSize, pairOf, derOf}
 use Rattle.ecdsa.specs.Signature.Laws.{size-bounds}
-use Rattle.ecdsa.specs.Sizes.{content-most}
+use Rattle.ecdsa.specs.FormSize.{content-most}
 use Rattle.ecdsa.specs.Strict.{Raw, raw, none, rawOf}
 use Rattle.ecdsa.specs.Strict.ToRaw.{toRaw-no-size, toRaw-not-strict, toRaw-no-room, toRaw-done}
 use Rattle.ecdsa.specs.Strict.Exact.{raw-found, raw-sound}

@@ -1,6 +1,6 @@
 pub mod Signature
 pub mod Places
-pub mod Sizes
+pub mod FormSize
 pub mod Strict
 pub mod Calls
 pub mod Exact

@@ -4,7 +4,7 @@ use mathlib.Core.Path.{_≡_, refl}
 use Prim.Native.Nat.{ℕ}
 use lib.Dec.{eqb}
 use Rattle.format.specs.Choice.{pick}
-use Rattle.format.specs.Answers.{Answer, Given}
+use Rattle.format.specs.Answers.{Answer, Result}
 use Rattle.format.specs.OneToOne.{OneToOne, one-back}
 use Rattle.ecdsa.specs.Calls.{toDerOf, toRawOf, hashOf}
 use Rattle.ecdsa.specs.declared.ToDer.{ToDer}
@@ -50,7 +50,7 @@ raw-back raw.NoRoom = refl
 pub raw-one : OneToOne toRawOf
 raw-one = one-back toRawOf rawBack raw-back
 
-hashBack : Given ℕ → Hash
+hashBack : Result ℕ → Hash
 hashBack a =
     pick (eqb (a .value) 224) hash.Sha224
     (pick (eqb (a .value) 256) hash.Sha256

@@ -2,7 +2,7 @@
 -- Assumes nothing.
 use Prim.Native.Nat.{ℕ}
 use lib.IntN.{ℤ}
-use Rattle.format.specs.Answers.{Answer, Given}
+use Rattle.format.specs.Answers.{Answer, Result}
 use Rattle.dates.specs.declared.Date.{Date}
 use Rattle.items.specs.declared.Header.{Header}
 use Rattle.reader.specs.declared.Ends.{Ends}
@@ -60,16 +60,16 @@ abbrev pub filledOf : Answer → FrFilled
 filledOf a = filledWith (a .number) (a .place) (a .count)
 
 -- number, place and the value
-abbrev pub datedOf : Given Date → FrDated
+abbrev pub datedOf : Result Date → FrDated
 datedOf g = record { number = g .number; place = g .place; date = dateOf (g .value) }
 
-abbrev pub numberedOf : Given ℕ → FrNumbered
+abbrev pub numberedOf : Result ℕ → FrNumbered
 numberedOf g = record { number = g .number; place = g .place; value = g .value }
 
-abbrev pub integerOf : Given ℤ → FrInteger
+abbrev pub integerOf : Result ℤ → FrInteger
 integerOf g = record { number = g .number; place = g .place; value = g .value }
 
-abbrev pub hashedOf : Given ℕ → FrHashed
+abbrev pub hashedOf : Result ℕ → FrHashed
 hashedOf g = record { number = g .number; place = g .place; bits = g .value }
 
 -- inwards: what the face is given, as the call beneath takes it

@@ -3,7 +3,7 @@
 use mathlib.Core.Path.{_≡_, refl}
 use Prim.Native.Nat.{ℕ}
 use lib.IntN.{ℤ}
-use Rattle.format.specs.Answers.{Answer, Given}
+use Rattle.format.specs.Answers.{Answer, Result}
 use Rattle.dates.specs.declared.Date.{Date}
 use Rattle.items.specs.declared.Header.{Header}
 use Rattle.reader.specs.declared.Reading.{Reading}
@@ -52,26 +52,26 @@ answerIn f = record { number = f .number; place = f .place; count = f .count }
 pub answer-kept : (a : Answer) → answerIn (filledOf a) ≡ a
 answer-kept a = refl
 
-abbrev pub datedIn : FrDated → Given Date
+abbrev pub datedIn : FrDated → Result Date
 datedIn f = record { number = f .number; place = f .place; value = innerDate (f .date) }
 
-pub dated-kept : (g : Given Date) → datedIn (datedOf g) ≡ g
+pub dated-kept : (g : Result Date) → datedIn (datedOf g) ≡ g
 dated-kept g = refl
 
-abbrev pub numberedIn : FrNumbered → Given ℕ
+abbrev pub numberedIn : FrNumbered → Result ℕ
 numberedIn f = record { number = f .number; place = f .place; value = f .value }
 
-pub numbered-kept : (g : Given ℕ) → numberedIn (numberedOf g) ≡ g
+pub numbered-kept : (g : Result ℕ) → numberedIn (numberedOf g) ≡ g
 numbered-kept g = refl
 
-abbrev pub integerIn : FrInteger → Given ℤ
+abbrev pub integerIn : FrInteger → Result ℤ
 integerIn f = record { number = f .number; place = f .place; value = f .value }
 
-pub integer-kept : (g : Given ℤ) → integerIn (integerOf g) ≡ g
+pub integer-kept : (g : Result ℤ) → integerIn (integerOf g) ≡ g
 integer-kept g = refl
 
-abbrev pub hashedIn : FrHashed → Given ℕ
+abbrev pub hashedIn : FrHashed → Result ℕ
 hashedIn f = record { number = f .number; place = f .place; value = f .bits }
 
-pub hashed-kept : (g : Given ℕ) → hashedIn (hashedOf g) ≡ g
+pub hashed-kept : (g : Result ℕ) → hashedIn (hashedOf g) ≡ g
 hashed-kept g = refl

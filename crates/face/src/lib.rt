@@ -2,7 +2,7 @@
 // The exported calls, in the crate `capi`, give them and take them.
 ghost use mathlib.Core.Path.{_≡_};
 ghost use Rattle.face.specs.Face.{dateOf, headerOf, readingOf, filledWith, hashedOf, innerDate, innerHeader};
-ghost use Rattle.format.specs.Answers.{given};
+ghost use Rattle.format.specs.Answers.{result};
 use dates::Date;
 use reader::Ends;
 use reader::Header;
@@ -209,7 +209,7 @@ impl FrFilled {
 impl FrHashed {
     // The hash of so many bits.
     pub fn of_bits(bits: usize) -> FrHashed
-        ensures { λ r. ⌜ r ≡ hashedOf (given bits) ⌝ }
+        ensures { λ r. ⌜ r ≡ hashedOf (result bits) ⌝ }
     {
         FrHashed {
             number: 0,

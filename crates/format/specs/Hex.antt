@@ -2,8 +2,8 @@
 -- Assumes nothing.
 pub mod Laws
 use Prim.Native.Nat.{ℕ, _+_, _-_}
-use lib.Dec.{leb, ltb}
-use Rattle.format.specs.Choice.{pick, both}
+use lib.Dec.{ltb}
+use Rattle.format.specs.Choice.{pick, within}
 
 -- 0 to 9, then A to F
 abbrev pub hexDigit : ℕ → ℕ
@@ -11,4 +11,4 @@ hexDigit n = pick (ltb n 10) (48 + n) (55 + n)
 
 -- 16 for any character that is no such digit
 abbrev pub hexValue : ℕ → ℕ
-hexValue c = pick (both (leb 48 c) (leb c 57)) (c - 48) (pick (both (leb 65 c) (leb c 70)) (c - 55) 16)
+hexValue c = pick (within 48 57 c) (c - 48) (pick (within 65 70 c) (c - 55) 16)

@@ -1,6 +1,6 @@
 pub mod Choice
 pub mod Bytes
-pub mod Numbers
+pub mod BigEndian
 pub mod Cut
 pub mod Buffer
 pub mod Places

@@ -9,7 +9,7 @@ use mathlib.Core.List.{List, [], _∷_}
 use lib.Dec.{leb}
 use lib.ListN.{length}
 use Rattle.format.specs.Choice.{pick}
-use Rattle.format.specs.Answers.{Outcome, Given, done, refused, refusal}
+use Rattle.format.specs.Answers.{Outcome, Result, done, refused, refusal}
 
 pub record Test : Type 0 where
   pub number : ℕ
@@ -33,7 +33,7 @@ unfoldable pub inRoom : ℕ → List ℕ → ℕ → Outcome
 inRoom number bytes room = inOrder (test number 0 (leb (length bytes) room) ∷ []) (done bytes)
 
 -- of a call that gives a value, with the zero of the value's type
-abbrev pub valueInOrder : {A : Type 0} → A → List Test → Given A → Given A
+abbrev pub valueInOrder : {A : Type 0} → A → List Test → Result A → Result A
 valueInOrder zero tests g = firstFailed (λ number place. refusal zero number) tests g
 
 -- the number of the first test that is not passed, and 0 where all are

@@ -2,7 +2,7 @@
 -- Assumes nothing.
 use mathlib.Core.Path.{_≡_, refl}
 use mathlib.Core.List.{[], _∷_}
-use Rattle.format.specs.Numbers.{be, val}
+use Rattle.format.specs.BigEndian.{be, val}
 use Rattle.format.specs.Buffer.{over}
 use Rattle.format.specs.Hex.{hexDigit, hexValue}
 

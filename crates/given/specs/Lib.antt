@@ -1,4 +1,4 @@
 pub mod Given
 pub mod Tests
-pub mod Rows
+pub mod Table
 pub mod Pins

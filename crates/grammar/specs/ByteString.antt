@@ -7,8 +7,8 @@ use borrow.Author.Tests.{ltb-true}
 use mathlib.Core.List.{List, [], _∷_, _++_, map, append-nil}
 use lib.Dec.{ltb}
 use lib.ListN.{length}
-use Rattle.format.specs.Numbers.{be}
-use Rattle.format.specs.Numbers.Laws.{be-bytes}
+use Rattle.format.specs.BigEndian.{be}
+use Rattle.format.specs.BigEndian.Laws.{be-bytes}
 use Rattle.format.specs.Bytes.{Byte, Bytes}
 use Rattle.format.specs.Bytes.Laws.{bytes-nil, bytes-cons, bytes-append, all-append}
 use Rattle.format.specs.Choice.Laws.{by-test}

@@ -6,7 +6,7 @@ use Prim.Native.Nat.{ℕ, zero, suc, _+_, _*_, _<_}
 use native.Mathlib.Omega.{arith}
 use mathlib.Core.List.{[], _∷_, _++_, map}
 use lib.ListN.{length, getD, replicate}
-use Rattle.format.specs.Numbers.{be}
+use Rattle.format.specs.BigEndian.{be}
 use Rattle.format.specs.Bytes.{Bytes}
 use Rattle.format.specs.Bytes.Laws.{bytes-nil, bytes-cons, bytes-replicate}
 use Rattle.pairs.specs.Chart.{theChart, valueOf}

@@ -6,7 +6,7 @@ use Prim.Native.Nat.{ℕ, zero, suc, _≤_}
 use native.Mathlib.Omega.{arith}
 use mathlib.Core.List.{List, [], _∷_, _++_}
 use lib.ListN.{length, replicate}
-use Rattle.format.specs.Numbers.{be}
+use Rattle.format.specs.BigEndian.{be}
 use Rattle.format.specs.Bytes.{All}
 use Rattle.format.specs.Bytes.Laws.{bytes-nil, bytes-replicate}
 use Rattle.pairs.specs.Chart.{theChart, valueOf}

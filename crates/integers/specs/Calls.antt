@@ -7,7 +7,7 @@ use lib.Dec.{ltb, eqb}
 use lib.IntN.{ℤ, pos}
 use lib.ListN.{length, take, drop}
 use Rattle.format.specs.Choice.{pick}
-use Rattle.format.specs.Answers.{Outcome, Answer, Given, given, refusal}
+use Rattle.format.specs.Answers.{Outcome, Answer, Result, result, refusal}
 use Rattle.format.specs.Order.{inRoom}
 use Rattle.der.specs.Element.{elementIn}
 use Rattle.der.specs.Content.{strict}
@@ -20,23 +20,23 @@ use Rattle.integers.specs.declared.Writing.{Writing}
 use Rattle.integers.specs.declared.Writing.the-variants as write
 
 -- content of 1 to 8 bytes, of the shortest form
-abbrev pub content : List ℕ → Given ℤ
-content c = pick (strict c) (pick (ltb 8 (length c)) (refusal (pos 0) 65) (given (valueOf c))) (refusal (pos 0) 65)
+abbrev pub content : List ℕ → Result ℤ
+content c = pick (strict c) (pick (ltb 8 (length c)) (refusal (pos 0) 65) (result (valueOf c))) (refusal (pos 0) 65)
 
 -- one whole INTEGER, and nothing left over
-abbrev pub whole : List ℕ → Element → Given ℤ
+abbrev pub whole : List ℕ → Element → Result ℤ
 whole s (Body start end) = pick (eqb end (length s)) (content (take (end - start) (drop start s))) (refusal (pos 0) 65)
 whole s Nothing = refusal (pos 0) 65
 
-unfoldable pub reading : List ℕ → Given ℤ
+unfoldable pub reading : List ℕ → Result ℤ
 reading s = whole s (elementIn 0x02 s)
 
 unfoldable pub writing : ℤ → ℕ → Outcome
 writing v room = inRoom 63 (integerOf v) room
 
 -- number and value of each case
-abbrev pub readingOf : Reading → Given ℤ
-readingOf (read.Value v) = given v
+abbrev pub readingOf : Reading → Result ℤ
+readingOf (read.Value v) = result v
 readingOf read.NotOne = refusal (pos 0) 65
 
 abbrev pub writingOf : Writing → Answer

@@ -12,12 +12,12 @@ use lib.IntN.{ℤ, pos}
 use lib.ListN.{length, drop}
 use mir.Syntax.{w64}
 use mir.Val.{SFits}
-use Rattle.format.specs.Answers.{Outcome, Given, done, refused, given, refusal}
+use Rattle.format.specs.Answers.{Outcome, Result, done, refused, result, refusal}
 use Rattle.format.specs.Bytes.{Bytes}
 use Rattle.format.specs.Bytes.Laws.{bytes-drop, bytes-take}
 use Rattle.format.specs.Choice.Laws.{by-test}
-use Rattle.format.specs.Numbers.{be}
-use Rattle.format.specs.Numbers.Laws.{length-be}
+use Rattle.format.specs.BigEndian.{be}
+use Rattle.format.specs.BigEndian.Laws.{length-be}
 use Rattle.der.specs.Element.{elementIn}
 use Rattle.der.specs.declared.Element.{Element}
 use Rattle.der.specs.declared.Element.the-variants.{Body, Nothing}
@@ -25,12 +25,12 @@ use Rattle.der.specs.Content.{shortest, strict, integer}
 use Rattle.integers.specs.Integer.{word, valueOf, integerOf}
 use Rattle.integers.specs.Integer.Laws.{shortest-size, shortest-is-strict}
 use Rattle.integers.specs.Integer.Values.{value-shortest, value-be, value-fits, strict-back}
-use Rattle.integers.specs.Whole.{part, element-reads, element-part, element-is}
+use Rattle.integers.specs.OneElement.{part, element-reads, element-part, element-is}
 use Rattle.integers.specs.Calls.{content, reading, writing}
 use Rattle.integers.specs.Calls.Laws.{content-loose, content-long, content-is, reading-none, reading-more, reading-all, writing-not, writing-done}
 
 -- what is written for a number reads as that number
-pub written-reads : (v : ℤ) → SFits w64 v → reading (integerOf v) ≡ given v
+pub written-reads : (v : ℤ) → SFits w64 v → reading (integerOf v) ≡ result v
 written-reads v f =
     let s = be 8 (word v) in
     let c = shortest s in
@@ -39,10 +39,10 @@ written-reads v f =
     reading-all (integer c) _ _ (element-reads 0x02 c (omega arith)) refl
     ∙ ap content (element-part 0x02 c)
     ∙ content-is c (shortest-is-strict s (omega arith)) few
-    ∙ ap given (value-shortest s ∙ value-be v f)
+    ∙ ap result (value-shortest s ∙ value-be v f)
 
 -- what is read is refused, or is an INTEGER of strict content of eight bytes at most
-module _ {C : Type 0} (s : List ℕ) (bytes : Bytes s) (not-one : reading s ≡ refusal (pos 0) 65 → C) (one : (c : List ℕ) → Bytes c → s ≡ integer c → strict c ≡ true → length c ≤ 8 → reading s ≡ given (valueOf c) → C) where
+module _ {C : Type 0} (s : List ℕ) (bytes : Bytes s) (not-one : reading s ≡ refusal (pos 0) 65 → C) (one : (c : List ℕ) → Bytes c → s ≡ integer c → strict c ≡ true → length c ≤ 8 → reading s ≡ result (valueOf c) → C) where
   by-content : (c : List ℕ) → Bytes c → s ≡ integer c → reading s ≡ content c → C
   by-content c b is e =
       by-test (strict c)
@@ -64,21 +64,21 @@ module _ {C : Type 0} (s : List ℕ) (bytes : Bytes s) (not-one : reading s ≡ 
   pub read-cases : C
   read-cases = by-element (elementIn 0x02 s) refl
 
-not-both : {r : Given ℤ} {v : ℤ} → r ≡ refusal (pos 0) 65 → r ≡ given v → ⊥
-not-both {r} e f = omega (arith, ap (λ (g : Given ℤ). g .number) e, ap (λ (g : Given ℤ). g .number) f)
+not-both : {r : Result ℤ} {v : ℤ} → r ≡ refusal (pos 0) 65 → r ≡ result v → ⊥
+not-both {r} e f = omega (arith, ap (λ (g : Result ℤ). g .number) e, ap (λ (g : Result ℤ). g .number) f)
 
 -- what reads as a number is what is written for it, and the number is of the range
-pub read-written : (s : List ℕ) → Bytes s → (v : ℤ) → reading s ≡ given v → s ≡ integerOf v
+pub read-written : (s : List ℕ) → Bytes s → (v : ℤ) → reading s ≡ result v → s ≡ integerOf v
 read-written s bytes v e =
     read-cases s bytes (λ r. absurd (not-both r e))
     (λ c b is t few r.
-    let same : valueOf c ≡ v = ap (λ (g : Given ℤ). g .value) (sym r ∙ e) in
+    let same : valueOf c ≡ v = ap (λ (g : Result ℤ). g .value) (sym r ∙ e) in
     is ∙ ap integer (sym (strict-back c b few t)) ∙ ap integerOf same)
 
-pub read-fits : (s : List ℕ) → Bytes s → (v : ℤ) → reading s ≡ given v → SFits w64 v
+pub read-fits : (s : List ℕ) → Bytes s → (v : ℤ) → reading s ≡ result v → SFits w64 v
 read-fits s bytes v e =
     read-cases s bytes (λ r. absurd (not-both r e))
-    (λ c b is t few r. subst (SFits w64) (ap (λ (g : Given ℤ). g .value) (sym r ∙ e)) (value-fits c b few))
+    (λ c b is t few r. subst (SFits w64) (ap (λ (g : Result ℤ). g .value) (sym r ∙ e)) (value-fits c b few))
 
 -- everything else is refused
 pub else-refused : (s : List ℕ) → Bytes s → ((v : ℤ) → SFits w64 v → s ≡ integerOf v → ⊥) → reading s ≡ refusal (pos 0) 65
@@ -87,13 +87,13 @@ else-refused s bytes none =
     (λ c b is t few r. absurd (none (valueOf c) (value-fits c b few) (is ∙ ap integer (sym (strict-back c b few t)))))
 
 -- the calls: what was written reads as the number, and what was read is written again wherever there is room
-pub writing-reads : (v : ℤ) → SFits w64 v → (room : ℕ) (s : List ℕ) → writing v room ≡ done s → reading s ≡ given v
+pub writing-reads : (v : ℤ) → SFits w64 v → (room : ℕ) (s : List ℕ) → writing v room ≡ done s → reading s ≡ result v
 writing-reads v f room s e =
     by-test (ltb room (length (integerOf v)))
     (λ t. absurd (omega (arith, ap (λ (o : Outcome). o .number) (sym (writing-not v room (ltb-true room (length (integerOf v)) t)) ∙ e))))
     (λ t. ap reading (sym (ap (λ (o : Outcome). o .written) (sym (writing-done v room (ltb-false room (length (integerOf v)) t)) ∙ e))) ∙ written-reads v f)
 
-module _ (s : List ℕ) (bytes : Bytes s) (v : ℤ) (e : reading s ≡ given v) (room : ℕ) where
+module _ (s : List ℕ) (bytes : Bytes s) (v : ℤ) (e : reading s ≡ result v) (room : ℕ) where
   pub reading-writes : length s ≤ room → writing v room ≡ done s
   reading-writes h =
       let is = read-written s bytes v e in

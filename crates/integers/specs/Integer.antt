@@ -1,7 +1,7 @@
 -- DER INTEGERs (document 01, Signatures; X.690, 8.3; Doc 9303-13, B.1): two's complement, the shortest form.
 -- Assumes nothing.
 pub mod Laws
-pub mod Numbers
+pub mod FirstByte
 pub mod Signed
 pub mod Values
 use Prim.Native.Nat.{ℕ, suc, _-_, _^_}
@@ -10,7 +10,7 @@ use lib.Dec.{ltb}
 use lib.IntN.{ℤ, pos, negsuc}
 use lib.ListN.{length, getD}
 use Rattle.format.specs.Choice.{pick}
-use Rattle.format.specs.Numbers.{be, val}
+use Rattle.format.specs.BigEndian.{be, val}
 use Rattle.der.specs.Content.{shortest, integer}
 
 -- two's complement in 64 bits, and the number that content of any size carries

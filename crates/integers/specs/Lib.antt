@@ -1,5 +1,5 @@
 pub mod Integer
-pub mod Whole
+pub mod OneElement
 pub mod Calls
 pub mod Exact
 pub mod Pins

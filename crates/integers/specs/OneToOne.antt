@@ -4,7 +4,7 @@ use mathlib.Core.Path.{_≡_, refl}
 use lib.Dec.{eqb}
 use lib.IntN.{ℤ}
 use Rattle.format.specs.Choice.{pick}
-use Rattle.format.specs.Answers.{Answer, Given}
+use Rattle.format.specs.Answers.{Answer, Result}
 use Rattle.format.specs.OneToOne.{OneToOne, one-back}
 use Rattle.integers.specs.Calls.{readingOf, writingOf}
 use Rattle.integers.specs.declared.Reading.{Reading}
@@ -12,7 +12,7 @@ use Rattle.integers.specs.declared.Reading.the-variants as read
 use Rattle.integers.specs.declared.Writing.{Writing}
 use Rattle.integers.specs.declared.Writing.the-variants as write
 
-readingBack : Given ℤ → Reading
+readingBack : Result ℤ → Reading
 readingBack a =
     pick (eqb (a .number) 0) (read.Value (a .value))
     read.NotOne

@@ -3,8 +3,8 @@
 use mathlib.Core.Path.{_≡_, refl}
 use mathlib.Core.List.{[], _∷_}
 use lib.IntN.{pos, negsuc}
-use Rattle.format.specs.Answers.{given, refusal}
-use Rattle.format.specs.Numbers.{be, val}
+use Rattle.format.specs.Answers.{result, refusal}
+use Rattle.format.specs.BigEndian.{be, val}
 use Rattle.der.specs.Length.{form, longForm, readLength}
 use Rattle.der.specs.Element.{elementIn}
 use Rattle.der.specs.Content.{shortest, strict}
@@ -31,7 +31,7 @@ minus-25357 : integerOf (negsuc 25356) ≡ 0x02 ∷ 0x02 ∷ 0x9C ∷ 0xF3 ∷ [
 unfolding be form shortest
 minus-25357 = refl
 
-minus-25357-read : reading (0x02 ∷ 0x02 ∷ 0x9C ∷ 0xF3 ∷ []) ≡ given (negsuc 25356)
+minus-25357-read : reading (0x02 ∷ 0x02 ∷ 0x9C ∷ 0xF3 ∷ []) ≡ result (negsuc 25356)
 unfolding reading elementIn readLength longForm strict val
 minus-25357-read = refl
 

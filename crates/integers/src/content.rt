@@ -2,7 +2,7 @@
 ghost use mathlib.Core.Path.{_≡_};
 ghost use Prim.Native.Nat.{_-_, _^_, _<_, _≤_, suc};
 ghost use lib.ListN.{length, drop};
-ghost use Rattle.format.specs.Numbers.{be, val};
+ghost use Rattle.format.specs.BigEndian.{be, val};
 ghost use Rattle.der.specs.Content.{shortest};
 ghost use Rattle.integers.specs.Integer.{word as wordOf};
 ghost use Rattle.integers.specs.Calls.{content as contentOf, readingOf};

@@ -6,7 +6,7 @@ use Rattle.format.specs.OneToOne.{OneToOne, by-way-back, one-back}
 use Rattle.dates.specs.declared.Date.{Date}
 use Rattle.versions.specs.declared.Version.{Version}
 use Rattle.verdict.specs.Items.{Item, is, not}
-use Rattle.items.specs.Cases.{byteOf, wholeOf, stepOf, numberOf, editionOf, dayOf}
+use Rattle.items.specs.Meaning.{byteOf, wholeOf, stepOf, numberOf, editionOf, dayOf}
 use Rattle.items.specs.declared.cursor.Byte.{Byte}
 use Rattle.items.specs.declared.cursor.Byte.the-variants as byte
 use Rattle.items.specs.declared.cursor.Whole.{Whole}

@@ -1,7 +1,7 @@
 // The items of a seal, each read at a place: a cursor goes in, and the item comes out with the next cursor (document 01, "Reader").
 ghost use mathlib.Core.Path.{_≡_};
 ghost use Rattle.verdict.specs.Items as read;
-ghost use Rattle.items.specs.Cases.{byteOf, wholeOf, stepOf, numberOf, editionOf, dayOf, because, refused, past};
+ghost use Rattle.items.specs.Meaning.{byteOf, wholeOf, stepOf, numberOf, editionOf, dayOf, because, refused, past};
 use causes::Item;
 use causes::Rule;
 use causes::Why;

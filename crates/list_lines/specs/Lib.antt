@@ -2,4 +2,4 @@
 -- Assumes nothing.
 pub mod ListLine
 pub mod Pins
-pub mod Sizes
+pub mod LineSize

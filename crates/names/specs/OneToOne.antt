@@ -5,7 +5,7 @@ use Prim.Native.Nat.{ℕ}
 use mathlib.Core.List.{List}
 use Rattle.format.specs.OneToOne.{by-way-back}
 use Rattle.verdict.specs.Items.{Way, is, not}
-use Rattle.names.specs.Cases.{Measured, namesOf}
+use Rattle.names.specs.Meaning.{Measured, namesOf}
 use Rattle.names.specs.declared.Names.{Names}
 use Rattle.names.specs.declared.Names.the-variants as names
 

@@ -3,8 +3,8 @@ ghost use mathlib.Core.Path.{_≡_};
 ghost use lib.ListN.{length};
 ghost use mathlib.Core.List.{[]};
 ghost use Rattle.verdict.specs.Items as read;
-ghost use Rattle.items.specs.Cases.{stepOf, whyOf, through, valueOr};
-ghost use Rattle.names.specs.Cases.{namesOf, measured, textOver};
+ghost use Rattle.items.specs.Meaning.{stepOf, whyOf, through, valueOr};
+ghost use Rattle.names.specs.Meaning.{namesOf, measured, textOver};
 
 mod rules;
 mod text;

@@ -2,7 +2,7 @@
 ghost use mathlib.Core.Path.{_≡_};
 ghost use lib.ListN.{length};
 ghost use Rattle.verdict.specs.Items as read;
-ghost use Rattle.names.specs.Cases.{Fits, keptOf, rulesOf};
+ghost use Rattle.names.specs.Meaning.{Fits, keptOf, rulesOf};
 use causes::Rule;
 
 // The texts of a header.

@@ -3,7 +3,7 @@ ghost use mathlib.Core.Path.{_≡_};
 ghost use Prim.Native.Nat.{_%_, min};
 ghost use lib.ListN.{length};
 ghost use Rattle.format.specs.Hex.{hexDigit, hexValue};
-ghost use Rattle.format.specs.Numbers.{val};
+ghost use Rattle.format.specs.BigEndian.{val};
 ghost use Rattle.octets.specs.Copy.{copied, reached};
 
 // A byte as a number to reckon with.

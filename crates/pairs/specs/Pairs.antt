@@ -7,7 +7,7 @@ use Prim.Native.Nat.{ℕ, _+_, _-_, _*_, _/_, _%_}
 use mathlib.Core.List.{List, [], _∷_}
 use lib.Dec.{ltb, eqb}
 use Rattle.format.specs.Choice.{pick}
-use Rattle.format.specs.Numbers.{be}
+use Rattle.format.specs.BigEndian.{be}
 use Rattle.pairs.specs.Chart.{charIn, isIn, shift, valueOf}
 use Rattle.pairs.specs.declared.decode.Fault.the-variants.{WronglyCoded}
 use Rattle.pairs.specs.declared.decode.Pair.{Pair}

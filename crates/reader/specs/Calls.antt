@@ -2,7 +2,7 @@
 -- Assumes nothing.
 pub mod Laws
 pub mod Reads
-pub mod Given
+pub mod Rooms
 use mathlib.Core.Path.{_≡_}
 use Prim.Native.Nat.{ℕ, _+_, _*_}
 use mathlib.Core.List.{List, [], _∷_, _++_}

@@ -1,4 +1,4 @@
-pub mod Rows
+pub mod FeatureRows
 pub mod Judged
 pub mod Calls
 pub mod Answer

@@ -4,7 +4,7 @@ use mathlib.Core.Path.{_≡_, refl, ap}
 use Prim.Native.Nat.{ℕ, _-_}
 use mathlib.Core.List.{List, [], _∷_}
 use mathlib.Core.Option.{none, Option·map}
-use Rattle.format.specs.Numbers.{val}
+use Rattle.format.specs.BigEndian.{val}
 use Rattle.pairs.specs.Chart.{theChart, valueOf}
 use Rattle.pairs.specs.Pairs.{pairOf, single, values}
 use Rattle.c40.specs.Decode.{decode}

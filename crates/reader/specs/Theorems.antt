@@ -14,12 +14,12 @@ use Rattle.grammar.specs.Legal.{Legal}
 use Rattle.grammar.specs.Theorems.{one-content, no-front-part, zones-add-up, signed-front}
 use Rattle.verdict.specs.Report.{part, contentOf}
 use Rattle.verdict.specs.Judge.{Report, accepted, refused, judge}
-use Rattle.verdict.specs.Judge.Numbers.{from-list}
+use Rattle.verdict.specs.Judge.Listed.{from-list}
 use Rattle.verdict.specs.Judge.Complete.{reportOf}
 use Rattle.verdict.specs.Judge.Seals.{accepted-only}
 use Rattle.rows.specs.Rows.{width, table}
 use Rattle.reader.specs.Calls.{answerOf, text, reading, rowsIn, textIn, then}
-use Rattle.reader.specs.Calls.Given.{room-enough, given-accepted, given-listed}
+use Rattle.reader.specs.Calls.Rooms.{room-enough, given-accepted, given-listed}
 use Rattle.reader.specs.Answer.{contentIn}
 use Rattle.reader.specs.Answer.Laws.{held}
 use Rattle.reader.specs.declared.Reading.{Reading}

@@ -4,7 +4,7 @@ ghost use Prim.Native.Nat.{_*_, _≤_};
 ghost use lib.ListN.{length};
 ghost use Rattle.rows.specs.Rows.{width, table as tableOf};
 ghost use Rattle.reader.specs.Calls.{then};
-ghost use Rattle.reader.specs.Rows.{rowsAt, rowsRead, AreRead};
+ghost use Rattle.reader.specs.FeatureRows.{rowsAt, rowsRead, AreRead};
 use items::Byte;
 use items::Cursor;
 use items::Number;

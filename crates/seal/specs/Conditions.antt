@@ -24,11 +24,11 @@ use Rattle.grammar.specs.Legal.{Legal}
 use Rattle.grammar.specs.Theorems as grammar
 use Rattle.rows.specs.Rows.{width}
 use Rattle.verdict.specs.Judge.{accepted, refused, judge}
-use Rattle.verdict.specs.Judge.Numbers.{from-list}
+use Rattle.verdict.specs.Judge.Listed.{from-list}
 use Rattle.verdict.specs.Judge.Complete.{published-accepted as legal-accepted}
 use Rattle.verdict.specs.Judge.Seals.{accepted-only}
 use Rattle.reader.specs.Calls.{answerOf, reading, rowsIn, textIn, then}
-use Rattle.reader.specs.Calls.Given.{given-accepted}
+use Rattle.reader.specs.Calls.Rooms.{given-accepted}
 use Rattle.reader.specs.Answer.{contentIn}
 use Rattle.reader.specs.Theorems as reader
 use Rattle.reader.specs.declared.Reading.{Reading}

@@ -9,7 +9,7 @@ use lib.Dec.{ltb, leb, eqb}
 use lib.IntN.{ℤ, pos}
 use lib.ListN.{length, take, drop}
 use Rattle.format.specs.Choice.{pick}
-use Rattle.format.specs.Answers.{Outcome, done, refused, filled, Given, given, refusal}
+use Rattle.format.specs.Answers.{Outcome, done, refused, filled, Result, result, refusal}
 use Rattle.format.specs.Order.{Test, test, inOrder, inRoom, numbers}
 use Rattle.c40.specs.Decode.{decode, textOf}
 use Rattle.c40.specs.Text.{publish}
@@ -89,41 +89,41 @@ pub words-told : (number room : ℕ) → Answers (63 ∷ []) (words.saying numbe
 words-told number room = roomy 63 (wordsOf number) room
 
 -- a call that gives a value: done, or refused with this number
-abbrev pub Gives : {A : Type 0} → ℕ → A → Given A → Type 0
-Gives n zero o = (o ≡ given (o .value)) ⊎ (o ≡ refusal zero n)
+abbrev pub Gives : {A : Type 0} → ℕ → A → Result A → Type 0
+Gives n zero o = (o ≡ result (o .value)) ⊎ (o ≡ refusal zero n)
 
-select : {A : Type 0} (n : ℕ) (zero : A) (b : Bool) (x y : Given A) → Gives n zero x → Gives n zero y → Gives n zero (pick b x y)
+select : {A : Type 0} (n : ℕ) (zero : A) (b : Bool) (x y : Result A) → Gives n zero x → Gives n zero y → Gives n zero (pick b x y)
 select n zero true x y l m = l
 select n zero false x y l m = m
 
 -- a date from its number: 6; to it: 22
 pub date-taken : (n : ℕ) → Gives 6 dates.no-date (dates.fromNumber n)
 unfolding dates.fromNumber
-date-taken n = select 6 dates.no-date (isDay (dateOf n)) (given (dateOf n)) (refusal dates.no-date 6) (inl refl) (inr refl)
+date-taken n = select 6 dates.no-date (isDay (dateOf n)) (result (dateOf n)) (refusal dates.no-date 6) (inl refl) (inr refl)
 
 pub date-numbered : (d : Date) → Gives 22 0 (dates.toNumber d)
 unfolding dates.toNumber
-date-numbered d = select 22 0 (isDay d) (given (numberOf d)) (refusal 0 22) (inl refl) (inr refl)
+date-numbered d = select 22 0 (isDay d) (result (numberOf d)) (refusal 0 22) (inl refl) (inr refl)
 
 -- hash: 60
 pub hash : (n : ℕ) → Gives 60 0 (ecdsa.hashFor n)
 unfolding ecdsa.hashFor
 hash n =
-    let h4 : Given ℕ = pick (eqb n 66) (given 512) (refusal 0 60) in
-    let h3 : Given ℕ = pick (eqb n 64) (given 512) h4 in
-    let h2 : Given ℕ = pick (eqb n 48) (given 384) h3 in
-    let h1 : Given ℕ = pick (eqb n 32) (given 256) h2 in
-    select 60 0 (eqb n 28) (given 224) h1 (inl refl)
-    (select 60 0 (eqb n 32) (given 256) h2 (inl refl)
-    (select 60 0 (eqb n 48) (given 384) h3 (inl refl)
-    (select 60 0 (eqb n 64) (given 512) h4 (inl refl)
-    (select 60 0 (eqb n 66) (given 512) (refusal 0 60) (inl refl) (inr refl)))))
+    let h4 : Result ℕ = pick (eqb n 66) (result 512) (refusal 0 60) in
+    let h3 : Result ℕ = pick (eqb n 64) (result 512) h4 in
+    let h2 : Result ℕ = pick (eqb n 48) (result 384) h3 in
+    let h1 : Result ℕ = pick (eqb n 32) (result 256) h2 in
+    select 60 0 (eqb n 28) (result 224) h1 (inl refl)
+    (select 60 0 (eqb n 32) (result 256) h2 (inl refl)
+    (select 60 0 (eqb n 48) (result 384) h3 (inl refl)
+    (select 60 0 (eqb n 64) (result 512) h4 (inl refl)
+    (select 60 0 (eqb n 66) (result 512) (refusal 0 60) (inl refl) (inr refl)))))
 
 -- INTEGER reading: 65
 content-listed : (c : List ℕ) → Gives 65 (pos 0) (integers.content c)
 content-listed c =
-    select 65 (pos 0) (strict c) (pick (ltb 8 (length c)) (refusal (pos 0) 65) (given (valueOf c))) (refusal (pos 0) 65)
-    (select 65 (pos 0) (ltb 8 (length c)) (refusal (pos 0) 65) (given (valueOf c)) (inr refl) (inl refl))
+    select 65 (pos 0) (strict c) (pick (ltb 8 (length c)) (refusal (pos 0) 65) (result (valueOf c))) (refusal (pos 0) 65)
+    (select 65 (pos 0) (ltb 8 (length c)) (refusal (pos 0) 65) (result (valueOf c)) (inr refl) (inl refl))
     (inr refl)
 
 whole-listed : (s : List ℕ) (e : Element) → Gives 65 (pos 0) (integers.whole s e)

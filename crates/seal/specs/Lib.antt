@@ -1,4 +1,4 @@
 pub mod Again
-pub mod Sizes
+pub mod FiveSizes
 pub mod Entries
 pub mod Conditions

@@ -1,7 +1,7 @@
 -- The verdict on every byte string (document 01, "The numbers a call answers", Reader): 1 first, then item by item from the left.
 -- Assumes nothing.
 pub mod Complete
-pub mod Numbers
+pub mod Listed
 pub mod Features
 pub mod Sound
 pub mod Seals

@@ -2,7 +2,7 @@
 -- Assumes nothing.
 pub mod Order
 pub mod Names
-pub mod Rows
+pub mod Features
 use mathlib.Core.Path.{_≡_, ap, sym, subst, _∙_}
 use Prim.Native.Nat.{ℕ, _+_, _≤_}
 use mathlib.Core.List.{List, []}
@@ -28,7 +28,7 @@ use Rattle.writer.specs.Legal.Order.{done-passes, passes-done}
 use Rattle.writer.specs.Legal.Names.{names-legal, names-pass}
 use Rattle.verdict.specs.Judge.Complete.{size-passes}
 use Rattle.verdict.specs.Judge.Sound.{size-of}
-use Rattle.writer.specs.Legal.Rows.{Inside, rows-legal, legal-rows}
+use Rattle.writer.specs.Legal.Features.{Inside, rows-legal, legal-rows}
 
 -- what the types of a call give
 pub record Lent (g : Given) : Type 0 where

@@ -1,8 +1,8 @@
 pub mod Calls
-pub mod Steps
-pub mod Sizes
+pub mod Needs
+pub mod SealSize
 pub mod Put
-pub mod Whole
+pub mod Together
 pub mod Pins
 pub mod Legal
 pub mod Theorems

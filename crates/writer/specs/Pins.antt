@@ -4,7 +4,7 @@ use mathlib.Core.Path.{_≡_, refl}
 use Prim.Native.Nat.{ℕ}
 use mathlib.Core.List.{List, [], _∷_, _++_}
 use lib.ListN.{replicate}
-use Rattle.format.specs.Numbers.{be}
+use Rattle.format.specs.BigEndian.{be}
 use Rattle.format.specs.Answers.{done, refused}
 use Rattle.pairs.specs.Chart.{theChart, valueOf}
 use Rattle.c40.specs.Text.{publish as c40}

@@ -8,8 +8,8 @@ use lib.ListN.{length, getD, take, drop, set, length-append, length-drop, length
 use lib.Seq.{take-all, drop-drop, length-take-le}
 use Rattle.format.specs.Bytes.{All}
 use Rattle.format.specs.Bytes.Laws.{all-back}
-use Rattle.format.specs.Numbers.{be}
-use Rattle.format.specs.Numbers.Laws.{be-two}
+use Rattle.format.specs.BigEndian.{be}
+use Rattle.format.specs.BigEndian.Laws.{be-two}
 use Rattle.format.specs.Buffer.{over}
 use Rattle.format.specs.Buffer.Laws.{over-none, length-over, over-over, set-over, over-two, over-three}
 use Rattle.format.specs.Answers.{filled}
@@ -30,9 +30,9 @@ use Rattle.verdict.specs.Report.{featureOf}
 use Rattle.rows.specs.declared.Row.{Row}
 use Rattle.rows.specs.Rows.{width, rowAt, rowsOf}
 use Rattle.rows.specs.Rows.Laws.{rows-here, rows-end}
-use Rattle.writer.specs.Steps.{Room, Named, Measured, Fits, Fitting, spelled, sixOf}
+use Rattle.writer.specs.Needs.{Room, Named, Measured, Fits, Fitting, spelled, sixOf}
 use Rattle.given.specs.Tests.Laws.{size-four}
-use Rattle.writer.specs.Steps.Laws.{spelled-six, six-text, reference-text}
+use Rattle.writer.specs.Needs.Laws.{spelled-six, six-text, reference-text}
 
 -- what a part of a buffer holds, from a place on, put back
 part-over : (out : List ℕ) (at : ℕ) (bytes after : List ℕ) → Room out at bytes → after ≡ bytes ++ drop (length bytes) (take (length out - at) (drop at out)) → take at out ++ (after ++ drop (length out - at) (drop at out)) ≡ over out at bytes

@@ -6,7 +6,7 @@ use mathlib.Core.List.{List, [], _∷_, _++_, map}
 use mathlib.Core.Option.{some}
 use lib.ListN.{replicate}
 use Rattle.format.specs.Bytes.{All}
-use Rattle.format.specs.Numbers.{be}
+use Rattle.format.specs.BigEndian.{be}
 use Rattle.format.specs.Answers.{done, refused}
 use Rattle.pairs.specs.Chart.{theChart, valueOf}
 use Rattle.c40.specs.Text.{publish as c40}

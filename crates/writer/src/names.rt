@@ -5,7 +5,7 @@ ghost use lib.ListN.{length, take, drop};
 ghost use Rattle.format.specs.Buffer.{over};
 ghost use Rattle.c40.specs.Text.{Text, publish as c40In};
 ghost use Rattle.grammar.specs.Publish.{carried as carriedIn, names as namesIn};
-ghost use Rattle.writer.specs.Steps.{Room, Named};
+ghost use Rattle.writer.specs.Needs.{Room, Named};
 use versions::Version;
 
 // Puts down text in C40 by the codec; its characters are in the chart and there is room, so nothing is refused.

@@ -9,7 +9,7 @@ ghost use Rattle.grammar.specs.Publish.{lengthOf, feature, messageZone, publish
 ghost use Rattle.rows.specs.Rows.{rowsOf};
 ghost use Rattle.verdict.specs.Report.{featureOf};
 ghost use Rattle.given.specs.Given.{given, contentAs};
-ghost use Rattle.writer.specs.Steps.{Room, Measured, Fitting, Headed, Dated, front, rest, Passed};
+ghost use Rattle.writer.specs.Needs.{Room, Measured, Fitting, Headed, Dated, front, rest, Passed};
 use crate::names::carried;
 use crate::names::put_names;
 use crate::names::put_text;

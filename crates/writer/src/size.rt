@@ -4,7 +4,7 @@ ghost use Prim.Native.Nat.{min, _+_, _≤_};
 ghost use lib.ListN.{length};
 ghost use Rattle.grammar.specs.Publish.{lengthOf};
 ghost use Rattle.rows.specs.Rows.{rowsOf};
-ghost use Rattle.writer.specs.Sizes.{rowsSize, namesSize, sealSize};
+ghost use Rattle.writer.specs.SealSize.{rowsSize, namesSize, sealSize};
 use rows::Found;
 use rows::WIDTH;
 use rows::row_at;

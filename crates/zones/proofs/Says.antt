@@ -4,7 +4,7 @@ use mathlib.Core.Path.{_≡_, _∙_, ap}
 use Prim.Native.Nat.{ℕ}
 use Rattle.causes.specs.declared.Why.{Why}
 use Rattle.verdict.specs.Items.{Way, not}
-use Rattle.items.specs.Cases.{because}
+use Rattle.items.specs.Meaning.{because}
 use Rattle.items.specs.declared.cursor.Refusal.{Refusal}
 
 pub says : {B : Type 0} (w : Refusal) (why : Why) (place : ℕ) (i : Way B) → w ≡ because why place → not why place ≡ i

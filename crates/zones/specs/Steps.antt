@@ -1,7 +1,7 @@
 -- The reading in the steps that the code takes, and what each case of their answers means: the fields before the dates, those after, the features, the signature.
 -- Assumes nothing.
 pub mod Laws
-pub mod Whole
+pub mod Together
 use Prim.Native.Nat.{ℕ}
 use mathlib.Core.List.{List}
 use lib.ListN.{take, drop}
@@ -9,7 +9,7 @@ use Rattle.dates.specs.declared.Date.{Date}
 use Rattle.versions.specs.declared.Version.{Version}
 use Rattle.causes.specs.declared.Item.the-variants as item
 use Rattle.verdict.specs.Items.{Way, is, not, next, pass, mark, version, country, names, date, last, Names}
-use Rattle.names.specs.Cases.{Measured, measured}
+use Rattle.names.specs.Meaning.{Measured, measured}
 use Rattle.zones.specs.declared.fields.Front.{Front}
 use Rattle.zones.specs.declared.fields.Front.the-variants as front
 use Rattle.zones.specs.declared.fields.Rest.{Rest}

@@ -2,7 +2,7 @@
 ghost use mathlib.Core.Path.{_≡_};
 ghost use mathlib.Core.List.{[]};
 ghost use lib.ListN.{length};
-ghost use Rattle.items.specs.Cases.{whyOf, through};
+ghost use Rattle.items.specs.Meaning.{whyOf, through};
 ghost use Rattle.verdict.specs.Judge.{features as featuresFrom};
 ghost use Rattle.zones.specs.Steps.{featuresOf};
 use causes::Item;

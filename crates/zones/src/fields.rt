@@ -2,8 +2,8 @@
 use dates::Date;
 ghost use mathlib.Core.Path.{_≡_};
 ghost use mathlib.Core.List.{[]};
-ghost use Rattle.items.specs.Cases.{whyOf, through, valueOr};
-ghost use Rattle.names.specs.Cases.{textOver};
+ghost use Rattle.items.specs.Meaning.{whyOf, through, valueOr};
+ghost use Rattle.names.specs.Meaning.{textOver};
 ghost use Rattle.zones.specs.Steps.{fields as fieldsIn, codeIn, namesIn, dated, frontOf, restOf};
 use causes::Item;
 use causes::Rule;

@@ -1,6 +1,6 @@
 // The signature after FF (document 01, Layout): its length, which is a DER length in both versions, and its bytes, with nothing after them.
 ghost use mathlib.Core.Path.{_≡_};
-ghost use Rattle.items.specs.Cases.{whyOf};
+ghost use Rattle.items.specs.Meaning.{whyOf};
 ghost use Rattle.verdict.specs.Judge.{signature as signatureAt};
 ghost use Rattle.zones.specs.Steps.{signatureOf};
 use causes::Item;

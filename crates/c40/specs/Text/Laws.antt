@@ -7,8 +7,8 @@ use mathlib.Core.List.{List, [], _∷_, _++_, append-nil}
 use lib.ListN.{length, getD, drop, length-append}
 use Rattle.format.specs.Bytes.{Bytes}
 use Rattle.format.specs.Bytes.Laws.{bytes-nil, bytes-cons, bytes-append}
-use Rattle.format.specs.Numbers.{be}
-use Rattle.format.specs.Numbers.Laws.{length-be, be-bytes, be-two}
+use Rattle.format.specs.BigEndian.{be}
+use Rattle.format.specs.BigEndian.Laws.{length-be, be-bytes, be-two}
 use Rattle.format.specs.Places.{at-place, past-end}
 use Rattle.pairs.specs.Chart.{valueOf}
 use Rattle.pairs.specs.Chart.Laws.{char-below}

@@ -10,8 +10,8 @@ use borrow.Author.Tests.{lt-leb, le-leb, leb-true}
 use mathlib.Core.List.{[], _∷_}
 use lib.Dec.{leb}
 use lib.ListN.{length}
-use Rattle.format.specs.Numbers.{be, val}
-use Rattle.format.specs.Numbers.Laws.{length-be, val-be}
+use Rattle.format.specs.BigEndian.{be, val}
+use Rattle.format.specs.BigEndian.Laws.{length-be, val-be}
 use Rattle.format.specs.Choice.{both, within}
 use Rattle.format.specs.Choice.Laws.{by-test, both-true, within-both}
 use Rattle.format.specs.Cut.{Cut}

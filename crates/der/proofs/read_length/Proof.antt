@@ -6,8 +6,8 @@ use mathlib.Core.Path.{_≡_, _∙_, subst}
 use Prim.Native.Nat.{ℕ, _-_, _<_, _≤_}
 use denote.Ref.{now}
 use lib.ListN.{length, drop, length-drop}
-use Rattle.format.specs.Numbers.{val}
-use Rattle.format.specs.Numbers.Laws.{val-part}
+use Rattle.format.specs.BigEndian.{val}
+use Rattle.format.specs.BigEndian.Laws.{val-part}
 use Rattle.der.specs.Length.{least}
 use Rattle.der.specs.Length.Laws.{length-none, length-short, length-bad, length-high, length-cut, length-loose, length-is}
 use borrow.Author.Needs.{needs}

@@ -13,8 +13,8 @@ use lib.Seq.{length-take-le}
 use Rattle.format.specs.Bytes.{Bytes}
 use Rattle.format.specs.Choice.Laws.{by-test}
 use Rattle.format.specs.Cut.{Cut}
-use Rattle.format.specs.Numbers.{be, val}
-use Rattle.format.specs.Numbers.Laws.{length-be, val-be, be-val, val-append, val-below}
+use Rattle.format.specs.BigEndian.{be, val}
+use Rattle.format.specs.BigEndian.Laws.{length-be, val-be, be-val, val-append, val-below}
 use Rattle.der.specs.Length.{Sized, form, least, longForm, readLength}
 use Rattle.der.specs.Length.Laws.{long-cut, long-loose, long-is, first-short, first-bad, first-high, first-long}
 use Rattle.der.specs.declared.Fault.{Fault}

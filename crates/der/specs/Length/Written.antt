@@ -9,8 +9,8 @@ use lib.Dec.{ltb}
 use lib.ListN.{length}
 use Rattle.format.specs.Buffer.{over}
 use Rattle.format.specs.Choice.Laws.{by-test}
-use Rattle.format.specs.Numbers.{be}
-use Rattle.format.specs.Numbers.Laws.{be-two}
+use Rattle.format.specs.BigEndian.{be}
+use Rattle.format.specs.BigEndian.Laws.{be-two}
 use Rattle.octets.specs.Copy.{copied, reached}
 use Rattle.octets.specs.Copy.Laws.{copied-not, copied-all, reached-not, reached-all}
 use Rattle.der.specs.Length.{form, bytesOf, lengthForm, written}

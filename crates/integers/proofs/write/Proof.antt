@@ -6,7 +6,7 @@ use Prim.Native.Nat.{_<_}
 use denote.Ref.{now}
 use lib.ListN.{drop, length-set}
 use mir.Facts.{toZ-ofZ}
-use Rattle.format.specs.Numbers.{be}
+use Rattle.format.specs.BigEndian.{be}
 use Rattle.der.specs.Content.{shortest}
 use Rattle.integers.specs.Integer.{word}
 use Rattle.integers.specs.Calls.Laws.{no-room, written-size, written}

@@ -11,27 +11,27 @@ use lib.IntN.{ℤ, pos}
 use lib.ListN.{length, take, drop, set, length-drop, length-set}
 use lib.Seq.{take-all}
 use Rattle.format.specs.Order.Laws.{in-no-room, in-room}
-use Rattle.format.specs.Answers.{Given, done, refused, told, filled, given, refusal}
+use Rattle.format.specs.Answers.{Result, done, refused, told, filled, result, refusal}
 use Rattle.format.specs.Answers.Laws.{refuses, gives}
 use Rattle.format.specs.Buffer.{over}
 use Rattle.format.specs.Buffer.Laws.{over-two, over-over, length-over}
 use Rattle.octets.specs.Copy.{copied}
 use Rattle.octets.specs.Copy.Laws.{copied-all}
 use Rattle.format.specs.Choice.{pick}
-use Rattle.format.specs.Numbers.{be}
-use Rattle.format.specs.Numbers.Laws.{length-be}
+use Rattle.format.specs.BigEndian.{be}
+use Rattle.format.specs.BigEndian.Laws.{length-be}
 use Rattle.der.specs.Length.Exact.{form-short}
 use Rattle.der.specs.Element.{elementIn}
 use Rattle.der.specs.declared.Element.the-variants.{Body, Nothing}
 use Rattle.der.specs.Content.{strict, shortest, integer}
 use Rattle.integers.specs.Integer.{word, valueOf, integerOf}
-use Rattle.integers.specs.Whole.{part}
+use Rattle.integers.specs.OneElement.{part}
 use Rattle.integers.specs.Calls.{content, whole, reading, writing}
 
 -- content, by the tests
 module _ (c : List ℕ) where
-  chosen : Bool → Given ℤ
-  chosen b = pick b (pick (ltb 8 (length c)) (refusal (pos 0) 65) (given (valueOf c))) (refusal (pos 0) 65)
+  chosen : Bool → Result ℤ
+  chosen b = pick b (pick (ltb 8 (length c)) (refusal (pos 0) 65) (result (valueOf c))) (refusal (pos 0) 65)
 
   pub content-loose : strict c ≡ false → content c ≡ refusal (pos 0) 65
   unfolding chosen
@@ -40,11 +40,11 @@ module _ (c : List ℕ) where
   module _ (e : strict c ≡ true) where
     pub content-long : 8 < length c → content c ≡ refusal (pos 0) 65
     unfolding chosen
-    content-long h = ap chosen e ∙ ap (λ b. pick b (refusal (pos 0) 65) (given (valueOf c))) (lt-ltb 8 (length c) h)
+    content-long h = ap chosen e ∙ ap (λ b. pick b (refusal (pos 0) 65) (result (valueOf c))) (lt-ltb 8 (length c) h)
 
-    pub content-is : length c ≤ 8 → content c ≡ given (valueOf c)
+    pub content-is : length c ≤ 8 → content c ≡ result (valueOf c)
     unfolding chosen
-    content-is h = ap chosen e ∙ ap (λ b. pick b (refusal (pos 0) 65) (given (valueOf c))) (le-ltb 8 (length c) h)
+    content-is h = ap chosen e ∙ ap (λ b. pick b (refusal (pos 0) 65) (result (valueOf c))) (le-ltb 8 (length c) h)
 
 -- reading, by the element
 module _ (s : List ℕ) where

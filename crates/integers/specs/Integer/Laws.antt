@@ -13,12 +13,12 @@ use Rattle.format.specs.Bytes.{Bytes}
 use Rattle.format.specs.Bytes.Laws.{bytes-cons}
 use Rattle.format.specs.Choice.{pick}
 use Rattle.format.specs.Choice.Laws.{by-test}
-use Rattle.format.specs.Numbers.{be, val}
-use Rattle.format.specs.Numbers.Laws.{be-val}
+use Rattle.format.specs.BigEndian.{be, val}
+use Rattle.format.specs.BigEndian.Laws.{be-val}
 use Rattle.format.specs.Places.{at-place}
 use Rattle.der.specs.Content.{redundant, shortest, strict}
 use Rattle.der.specs.Content.Laws.{shortest-drop, shortest-keep, strict-shortest, strict-one}
-use Rattle.integers.specs.Integer.Numbers.{val-low}
+use Rattle.integers.specs.Integer.FirstByte.{val-low}
 
 -- the one byte that says no more than this byte's top bit does
 abbrev pub sign : ℕ → ℕ

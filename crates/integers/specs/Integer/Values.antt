@@ -14,13 +14,13 @@ use mir.Syntax.{w64}
 use mir.Val.{SFits}
 use Rattle.format.specs.Bytes.{Bytes}
 use Rattle.format.specs.Choice.Laws.{by-test}
-use Rattle.format.specs.Numbers.{be, val}
-use Rattle.format.specs.Numbers.Laws.{length-be, val-be, be-val, val-below, be-bytes}
+use Rattle.format.specs.BigEndian.{be, val}
+use Rattle.format.specs.BigEndian.Laws.{length-be, val-be, be-val, val-below, be-bytes}
 use Rattle.der.specs.Content.{shortest, strict}
 use Rattle.integers.specs.Integer.{word, valueOf}
 use Rattle.der.specs.Content.Laws.{strict-shortest}
 use Rattle.integers.specs.Integer.Laws.{sign, sign-low, sign-high, redundant-is, by-shortest, strict-some, extended, one-extended, length-extended, shortest-extended, bytes-extended}
-use Rattle.integers.specs.Integer.Numbers.{val-cons, val-low, val-high, low-small, high-small}
+use Rattle.integers.specs.Integer.FirstByte.{val-cons, val-low, val-high, low-small, high-small}
 
 module _ (s : List ℕ) where
   pub value-low : getD s 0 0 < 0x80 → valueOf s ≡ pos (val s (length s))

@@ -19,7 +19,7 @@ use Rattle.rows.specs.Rows.{width, table}
 use Rattle.rows.specs.Rows.Laws.{rows-taken}
 use Rattle.list_lines.specs.ListLine.{nameLines, dateLines, refusal}
 use Rattle.verdict.specs.Judge.{Verdict, accepted, refused, judge}
-use Rattle.verdict.specs.Judge.Numbers.{FromList, from-list}
+use Rattle.verdict.specs.Judge.Listed.{FromList, from-list}
 use Rattle.reader.specs.Judged.{judge-long}
 use Rattle.reader.specs.Calls.{answerOf, given, reading, rowsIn, textIn, then}
 use Rattle.reader.specs.Calls.Reads.{accepted-report, both-fit}

@@ -5,9 +5,9 @@ use native.Mathlib.Omega.{arith}
 use mathlib.Core.Path.{_≡_, _∙_, ap, sym, refl}
 use lib.ListN.{length}
 use Rattle.verdict.specs.Items.{country}
-use Rattle.items.specs.Cases.{stepOf}
-use Rattle.names.specs.Cases.Named.{country-is, country-not}
-use Rattle.names.specs.Cases.Lent.{step-kept, step-given}
+use Rattle.items.specs.Meaning.{stepOf}
+use Rattle.names.specs.Meaning.Named.{country-is, country-not}
+use Rattle.names.specs.Meaning.Lent.{step-kept, step-given}
 use Rattle.names.proofs.country.Statement.{statement}
 use Rattle.names.proofs.country.Tie as tie
 

@@ -10,10 +10,10 @@ use lib.Seq.{length-take-le}
 use Rattle.format.specs.Hex.Laws.{value-most}
 use Rattle.causes.specs.declared.Item.the-variants as item
 use Rattle.verdict.specs.Items.{names, field, inNine, inSix, inReference}
-use Rattle.items.specs.Cases.{stepOf, refused, through}
-use Rattle.names.specs.Cases.{measured}
-use Rattle.names.specs.Cases.Named.{names-three, names-three-not, names-six-not, Six, six-there, part-long, names-four}
-use Rattle.names.specs.Cases.Named.{names-four-not}
+use Rattle.items.specs.Meaning.{stepOf, refused, through}
+use Rattle.names.specs.Meaning.{measured}
+use Rattle.names.specs.Meaning.Named.{names-three, names-three-not, names-six-not, Six, six-there, part-long, names-four}
+use Rattle.names.specs.Meaning.Named.{names-four-not}
 use Rattle.names.proofs.names_in.Statement.{statement}
 use Rattle.names.proofs.names_in.Tie as tie
 

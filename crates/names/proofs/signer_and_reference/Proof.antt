@@ -7,8 +7,8 @@ use denote.Ref.{now}
 use lib.ListN.{length}
 use lib.Seq.{length-take-le}
 use Rattle.verdict.specs.Items.{names}
-use Rattle.names.specs.Cases.{namesOf}
-use Rattle.names.specs.Cases.Lent.{names-kept, Found, found-names, found-room, names-given}
+use Rattle.names.specs.Meaning.{namesOf}
+use Rattle.names.specs.Meaning.Lent.{names-kept, Found, found-names, found-room, names-given}
 use Rattle.names.proofs.signer_and_reference.Statement.{statement}
 use Rattle.names.proofs.signer_and_reference.Tie as tie
 

@@ -8,8 +8,8 @@ use lib.Dec.{lit≤}
 use Prim.Native.Nat.{ℕ, _+_, _*_, _-_, _^_, _<_, _≤_, min}
 use denote.Ref.{now}
 use lib.ListN.{length, getD}
-use Rattle.format.specs.Numbers.{val}
-use Rattle.format.specs.Numbers.Laws.{val-below, val-more}
+use Rattle.format.specs.BigEndian.{val}
+use Rattle.format.specs.BigEndian.Laws.{val-below, val-more}
 use Rattle.octets.proofs.number.Statement.{statement}
 use Rattle.octets.proofs.number.Tie as tie
 

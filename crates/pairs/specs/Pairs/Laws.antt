@@ -9,7 +9,7 @@ use mathlib.Core.List.{List, [], _∷_}
 use lib.Dec.{ltb, eqb}
 use lib.ListN.{length}
 use Rattle.format.specs.Choice.Laws.{by-test}
-use Rattle.format.specs.Numbers.{be}
+use Rattle.format.specs.BigEndian.{be}
 use Rattle.pairs.specs.Chart.{theChart, charIn, char, valueOf, inChart, InChart}
 use Rattle.pairs.specs.Pairs.{packedOf, triple, number, first, second, third, faulty, single, values, pairOf, charsOf}
 use Rattle.pairs.specs.declared.decode.Fault.{Fault}

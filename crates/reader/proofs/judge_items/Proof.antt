@@ -8,16 +8,16 @@ use Prim.Native.Nat.{_+_, _≤_}
 use lib.ListN.{length}
 use denote.Ref.{now}
 use Rattle.verdict.specs.Items.{not}
-use Rattle.items.specs.Cases.{whyOf}
+use Rattle.items.specs.Meaning.{whyOf}
 use Rattle.verdict.specs.Judge.{features, signature as signatureAt}
 use Rattle.zones.specs.Steps.{fields, dated, frontOf, restOf, featuresOf, signatureOf}
 use Rattle.zones.specs.Steps.Laws.{through-unread}
-use Rattle.zones.specs.Steps.Whole.{Counted, counted, fields-known}
+use Rattle.zones.specs.Steps.Together.{Counted, counted, fields-known}
 use Rattle.zones.specs.declared.fields.Front.the-variants as front
 use Rattle.zones.specs.declared.fields.Rest.the-variants as rest
 use Rattle.zones.specs.declared.signature.Signature.the-variants as signature
 use Rattle.reader.specs.Judged.{judge-fields, judge-dated, judge-features, judge-signature, judge-accepted}
-use Rattle.reader.specs.Rows.Laws.{mark-inside}
+use Rattle.reader.specs.FeatureRows.Laws.{mark-inside}
 use Rattle.reader.specs.Calls.Laws.{judged-refused, judged-accepted}
 use Rattle.reader.proofs.judge_items.Statement.{statement}
 use Rattle.reader.proofs.judge_items.Tie as tie

@@ -26,8 +26,8 @@ use Rattle.verdict.specs.Judge.{judge}
 use Rattle.verdict.specs.Judge.Complete.{reportOf}
 use Rattle.verdict.specs.Judge.Features.{rowsOf}
 use Rattle.verdict.specs.Judge.Sound.{verdict-read, unaccepted}
-use Rattle.reader.specs.Rows.{rowsAt, rowsRead, AreRead}
-use Rattle.reader.specs.Rows.Laws.{rows-there, rows-are}
+use Rattle.reader.specs.FeatureRows.{rowsAt, rowsRead, AreRead}
+use Rattle.reader.specs.FeatureRows.Laws.{rows-there, rows-are}
 use Rattle.reader.specs.Calls.{answerOf, versionIn, judgementOf, text, given, reading, rowsIn, textIn, then, Named}
 use Rattle.verdict.specs.Judge.Seals.{accepted-only}
 use Rattle.reader.specs.declared.Reading.{Reading}

@@ -24,7 +24,7 @@ use Rattle.given.specs.Given.{contentAs, contentOf}
 use Rattle.given.specs.Given.Laws.{said}
 use Rattle.writer.specs.Legal.{Sound}
 use Rattle.writer.specs.Legal.Names.{three-of}
-use Rattle.writer.specs.Legal.Rows.{Inside}
+use Rattle.writer.specs.Legal.Features.{Inside}
 use Rattle.seal.specs.Again.{againFrom, again}
 
 -- what the caller holds gives the same call

@@ -18,7 +18,7 @@ use Rattle.versions.specs.declared.Version.{Version}
 use Rattle.versions.specs.Versions.{versionNumber, versionOf}
 use Rattle.versions.specs.Versions.Laws.{number-of}
 use Rattle.verdict.specs.Judge.{Report, Verdict, accepted, refused, judge}
-use Rattle.verdict.specs.Judge.Numbers.{FromList, from-list}
+use Rattle.verdict.specs.Judge.Listed.{FromList, from-list}
 use Rattle.verdict.specs.Judge.Complete.{reportOf}
 use Rattle.verdict.specs.Judge.Seals.{accepted-only}
 use Rattle.verdict.specs.Report.{contentOf as contentRead, featureOf}

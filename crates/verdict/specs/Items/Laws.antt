@@ -13,7 +13,7 @@ use lib.ListN.{length, take, drop, getD, length-append}
 use lib.Seq.{take-at, drop-at}
 use Rattle.format.specs.Choice.{pick}
 use Rattle.format.specs.Choice.Laws.{by-test, within-true}
-use Rattle.format.specs.Numbers.{val}
+use Rattle.format.specs.BigEndian.{val}
 use Rattle.c40.specs.Text.{TextOf, width, publish as c40}
 use Rattle.c40.specs.Text.Laws.{length-publish as length-c40}
 use Rattle.c40.specs.Decode.{decode}

@@ -8,7 +8,7 @@ use Rattle.pairs.specs.Pairs.{pairOf, single, values}
 use Rattle.c40.specs.Decode.{text, decode}
 use Rattle.der.specs.Length.{readLength, longForm}
 use Rattle.dates.specs.Days.{isDay}
-use Rattle.format.specs.Numbers.{val}
+use Rattle.format.specs.BigEndian.{val}
 use Rattle.grammar.specs.Content.{three, four}
 use Rattle.causes.specs.declared.Rule.the-variants as rule
 use Rattle.verdict.specs.Items.{is, not, wrongAt, exactly, inCountry, inSix, inNine, inReference, mark, version, country, names, date}

@@ -13,8 +13,8 @@ use lib.Seq.{length-take-le, drop-drop, take-all}
 use Rattle.format.specs.Choice.{pick, within}
 use Rattle.format.specs.Bytes.{Bytes}
 use Rattle.format.specs.Bytes.Laws.{bytes-drop, bytes-take}
-use Rattle.format.specs.Numbers.{val}
-use Rattle.format.specs.Answers.{given}
+use Rattle.format.specs.BigEndian.{val}
+use Rattle.format.specs.Answers.{result}
 use Rattle.dates.specs.declared.Date.{Date}
 use Rattle.dates.specs.Days.{isDay, Day, dateOf, publish}
 use Rattle.dates.specs.Days.Laws.{length-publish}
@@ -141,7 +141,7 @@ date-read at s d after bytes e =
     let p = passed (isDay (dateOf (val t 3))) (is (dateOf (val t 3)) (at + 3)) rule.IsDay at d after (w .read) in
     let same = same-value (dateOf (val t 3)) d (at + 3) after (p .1) in
     let place = same-place (dateOf (val t 3)) d (at + 3) after (p .1) in
-    let r = taken-published t (bytes-take 3 (drop at s) (bytes-drop at s bytes)) (omega arith) d (from-day (val t 3) (p .0) ∙ ap given same) in
+    let r = taken-published t (bytes-take 3 (drop at s) (bytes-drop at s bytes)) (omega arith) d (from-day (val t 3) (p .0) ∙ ap result same) in
     let front : publish d ≡ t = r .1 ∙ take-all 3 t (omega arith) in
     (r .0, record { form-there = stands 3 at s (w .there) ∙ ap (λ u. u ++ drop (at + 3) s) (sym front) ∙ ap (λ k. publish d ++ drop k s) place; size = sym place ∙ ap (λ k. at + k) (sym (length-publish d)) })
 

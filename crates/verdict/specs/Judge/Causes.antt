@@ -5,7 +5,7 @@ use Prim.Native.Nat.{ℕ}
 use mathlib.Core.List.{List, [], _∷_, _++_}
 use lib.ListN.{take, replicate}
 use Rattle.format.specs.Bytes.{All}
-use Rattle.format.specs.Numbers.{val}
+use Rattle.format.specs.BigEndian.{val}
 use Rattle.c40.specs.Chart.{theChart, valueOf}
 use Rattle.c40.specs.Pairs.{pairOf, single, values}
 use Rattle.c40.specs.Decode.{decode}

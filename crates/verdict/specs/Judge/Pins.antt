@@ -3,7 +3,7 @@
 use mathlib.Core.Path.{_≡_, refl}
 use mathlib.Core.List.{[], _∷_, _++_}
 use lib.ListN.{take, replicate}
-use Rattle.format.specs.Numbers.{val}
+use Rattle.format.specs.BigEndian.{val}
 use Rattle.pairs.specs.Chart.{theChart, valueOf}
 use Rattle.pairs.specs.Pairs.{pairOf, single, values}
 use Rattle.c40.specs.Decode.{decode}

@@ -18,8 +18,8 @@ use Rattle.given.specs.Tests.Laws.{size-any}
 use Rattle.given.specs.Tests.{areNames, areDays, areLast, isTable, areValues}
 use Rattle.given.specs.Given.{Given, given, contentAs}
 use Rattle.writer.specs.Calls.Laws.{writing-version, writing-names, writing-days, writing-last, writing-rows, writing-values, writing-signature, writing-long, writing-no-room, writing-done}
-use Rattle.writer.specs.Steps.{Headed}
-use Rattle.writer.specs.Whole.{headed-named, signature-most, seal-size}
+use Rattle.writer.specs.Needs.{Headed}
+use Rattle.writer.specs.Together.{headed-named, signature-most, seal-size}
 use Rattle.writer.proofs.write.Statement.{statement}
 use Rattle.writer.proofs.write.Tie as tie
 

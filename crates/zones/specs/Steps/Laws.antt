@@ -15,9 +15,9 @@ use Rattle.causes.specs.declared.Rule.the-variants as rule
 use Rattle.causes.specs.declared.Why.{Why}
 use Rattle.verdict.specs.Items.{Read, Way, is, not, why, pass, whole, mark, version, country, names, date, last, derLength, Names}
 use Rattle.verdict.specs.Items.Laws.{unread}
-use Rattle.items.specs.Cases.{through, valueOr}
-use Rattle.names.specs.Cases.{Measured, measured, textOver}
-use Rattle.items.specs.Cases.Laws.{Past, judged}
+use Rattle.items.specs.Meaning.{through, valueOr}
+use Rattle.names.specs.Meaning.{Measured, measured, textOver}
+use Rattle.items.specs.Meaning.Laws.{Past, judged}
 use Rattle.verdict.specs.Judge.{isSignature, signature, rawIn, endIn}
 use Rattle.zones.specs.Steps.{Fields, fields, codeIn, namesIn, dated}
 

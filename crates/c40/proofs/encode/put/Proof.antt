@@ -7,8 +7,8 @@ use Prim.Native.Nat.{ℕ, _+_, _*_, _-_, _/_, _%_, _<_, _≤_}
 use mathlib.Core.List.{List, [], _∷_, _++_, append-assoc, append-nil}
 use denote.Ref.{now}
 use lib.ListN.{length, getD, drop}
-use Rattle.format.specs.Numbers.{be}
-use Rattle.format.specs.Numbers.Laws.{length-be}
+use Rattle.format.specs.BigEndian.{be}
+use Rattle.format.specs.BigEndian.Laws.{length-be}
 use Rattle.format.specs.Bytes.Laws.{all-at}
 use Rattle.format.specs.Buffer.{over}
 use Rattle.format.specs.Buffer.Laws.{Held, held-start, held-more, held-length}

@@ -5,7 +5,7 @@ use native.Mathlib.Omega.{arith}
 use mathlib.Core.Path.{_∙_, ap, sym}
 use denote.Ref.{now}
 use lib.ListN.{length-set}
-use Rattle.format.specs.Numbers.Laws.{be-two}
+use Rattle.format.specs.BigEndian.Laws.{be-two}
 use Rattle.format.specs.Buffer.{over}
 use Rattle.format.specs.Buffer.Laws.{over-two}
 use Rattle.c40.proofs.encode.put_number.Statement.{statement}

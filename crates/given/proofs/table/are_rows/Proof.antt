@@ -11,7 +11,7 @@ use mathlib.Core.List.{List}
 use lib.ListN.{length}
 use Rattle.rows.specs.Rows.{width, rowAt}
 use Rattle.rows.specs.Rows.Laws.{found-none, found-row}
-use Rattle.given.specs.Rows.{Judged, table-not, judged-start, judged-end, judged-tag, judged-used, judged-outside, judged-more}
+use Rattle.given.specs.Table.{Judged, table-not, judged-start, judged-end, judged-tag, judged-used, judged-outside, judged-more}
 use Rattle.given.proofs.table.are_rows.Statement.{statement}
 use Rattle.given.proofs.table.are_rows.Tie as tie
 

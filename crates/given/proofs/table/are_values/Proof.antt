@@ -10,7 +10,7 @@ use lib.ListN.{length, drop}
 use Rattle.rows.specs.Rows.{width, rowAt, rowsOf}
 use Rattle.rows.specs.Rows.Laws.{found-none, found-row}
 use Rattle.given.specs.Tests.{areShort}
-use Rattle.given.specs.Rows.{values-four, short-end, short-stops, short-more}
+use Rattle.given.specs.Table.{values-four, short-end, short-stops, short-more}
 use Rattle.given.proofs.table.are_values.Statement.{statement}
 use Rattle.given.proofs.table.are_values.Tie as tie
 

@@ -1,6 +1,6 @@
 -- `integers::content::bytes_of` meets its contract.
 -- Assumes nothing.
-use Rattle.integers.specs.Integer.Numbers.{be-eight}
+use Rattle.integers.specs.Integer.FirstByte.{be-eight}
 use borrow.Author.Needs.{needs}
 use Rattle.integers.proofs.content.bytes_of.Statement.{statement}
 use Rattle.integers.proofs.content.bytes_of.Tie as tie

@@ -6,8 +6,8 @@ use mathlib.Core.Path.{_≡_, _∙_, refl, ap}
 use Prim.Native.Nat.{suc, _+_, _-_, _^_, _<_, _≤_}
 use denote.Ref.{now}
 use lib.ListN.{length}
-use Rattle.format.specs.Numbers.{val}
-use Rattle.integers.specs.Integer.Numbers.{few, flip-more}
+use Rattle.format.specs.BigEndian.{val}
+use Rattle.integers.specs.Integer.FirstByte.{few, flip-more}
 use Rattle.integers.proofs.content.flipped.Statement.{statement}
 use Rattle.integers.proofs.content.flipped.Tie as tie
 

@@ -10,11 +10,11 @@ use lib.IntN.{pos, negsuc}
 use lib.ListN.{length}
 use mir.Syntax.{w64}
 use mir.Facts.{toZ-pos}
-use Rattle.format.specs.Answers.{given}
-use Rattle.format.specs.Numbers.{val}
+use Rattle.format.specs.Answers.{result}
+use Rattle.format.specs.BigEndian.{val}
 use Rattle.der.specs.Content.{strict}
 use Rattle.integers.specs.Integer.Laws.{strict-some}
-use Rattle.integers.specs.Integer.Numbers.{low-small, high-small}
+use Rattle.integers.specs.Integer.FirstByte.{low-small, high-small}
 use Rattle.integers.specs.Integer.Signed.{pos-fits, other-fits, under-fits, under-back}
 use Rattle.integers.specs.Integer.Values.{value-low, value-high}
 use Rattle.integers.specs.Calls.Laws.{content-loose, content-long, content-is}
@@ -67,7 +67,7 @@ returns-3 c =
     let o = c .before .before .before in
     let s = now (o .before .before .before .before .args .content) in
     let l = low c in
-    ap given (toZ-pos w64 (l .1) ∙ ap pos (l .0) ∙ sym (value-low s (omega arith)))
+    ap result (toZ-pos w64 (l .1) ∙ ap pos (l .0) ∙ sym (value-low s (omega arith)))
     ∙ sym (content-is s (is-strict (o .before)) (omega arith))
 
 flipped-requires : tie.Need-flipped-requires
@@ -86,7 +86,7 @@ returns-4 : tie.Need-returns-4
 returns-4 c =
     let o = c .before .before .before in
     let s = now (o .before .before .before .before .args .content) in
-    ap given (under-back (c .flipped .result) (high c) ∙ ap negsuc (c .flipped .ensures) ∙ sym (value-high s (omega arith)))
+    ap result (under-back (c .flipped .result) (high c) ∙ ap negsuc (c .flipped .ensures) ∙ sym (value-high s (omega arith)))
     ∙ sym (content-is s (is-strict (o .before)) (omega arith))
 
 pub value-of-spec : {M : Type 1} → statement M

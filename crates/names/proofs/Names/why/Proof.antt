@@ -3,8 +3,8 @@
 use borrow.Author.Needs.{needs}
 use mathlib.Core.Path.{_∙_, sym, ap}
 use mathlib.Core.List.{[]}
-use Rattle.items.specs.Cases.{whyOf}
-use Rattle.names.specs.Cases.{namesOf}
+use Rattle.items.specs.Meaning.{whyOf}
+use Rattle.names.specs.Meaning.{namesOf}
 use Rattle.names.proofs.Names.why.Statement.{statement}
 use Rattle.names.proofs.Names.why.Tie as tie
 

@@ -7,7 +7,7 @@ use lib.ListN.{length}
 use mathlib.Core.Option.{none}
 use Rattle.letters.specs.Characters.{isCountry}
 use Rattle.causes.specs.declared.Rule.the-variants as rule
-use Rattle.names.specs.Cases.Rules.{breaks, keeps, first-three}
+use Rattle.names.specs.Meaning.Rules.{breaks, keeps, first-three}
 use Rattle.names.proofs.rules.in_country.Statement.{statement}
 use Rattle.names.proofs.rules.in_country.Tie as tie
 

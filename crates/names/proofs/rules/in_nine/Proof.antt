@@ -8,7 +8,7 @@ use Rattle.letters.specs.Characters.{isSigner}
 use Rattle.letters.specs.Characters.Laws.{first-four, rest-of}
 use Rattle.causes.specs.declared.Rule.the-variants as rule
 use Rattle.verdict.specs.Items.{inReference}
-use Rattle.names.specs.Cases.Rules.{breaks, keeps}
+use Rattle.names.specs.Meaning.Rules.{breaks, keeps}
 use Rattle.names.proofs.rules.in_nine.Statement.{statement}
 use Rattle.names.proofs.rules.in_nine.Tie as tie
 

@@ -4,7 +4,7 @@ use borrow.Author.Needs.{needs}
 use mathlib.Core.Path.{_∙_, sym}
 use mathlib.Core.Option.{none}
 use Rattle.causes.specs.declared.Rule.the-variants as rule
-use Rattle.names.specs.Cases.Rules.{breaks, keeps}
+use Rattle.names.specs.Meaning.Rules.{breaks, keeps}
 use Rattle.names.proofs.rules.in_reference.Statement.{statement}
 use Rattle.names.proofs.rules.in_reference.Tie as tie
 

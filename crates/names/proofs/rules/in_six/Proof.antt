@@ -12,7 +12,7 @@ use Rattle.format.specs.Hex.Laws.{value-most}
 use Rattle.letters.specs.Characters.{isSigner}
 use Rattle.letters.specs.Characters.Laws.{first-four}
 use Rattle.causes.specs.declared.Rule.the-variants as rule
-use Rattle.names.specs.Cases.Rules.{breaks, six-first, six-second, six-none, six-is}
+use Rattle.names.specs.Meaning.Rules.{breaks, six-first, six-second, six-none, six-is}
 use Rattle.names.proofs.rules.in_six.Statement.{statement}
 use Rattle.names.proofs.rules.in_six.Tie as tie
 

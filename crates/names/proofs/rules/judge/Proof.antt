@@ -2,7 +2,7 @@
 -- Assumes nothing.
 use borrow.Author.Needs.{needs}
 use mathlib.Core.Path.{_∙_, ap, sym, subst}
-use Rattle.names.specs.Cases.{Fits, rulesOf}
+use Rattle.names.specs.Meaning.{Fits, rulesOf}
 use Rattle.names.proofs.rules.judge.Statement.{statement}
 use Rattle.names.proofs.rules.judge.Tie as tie
 

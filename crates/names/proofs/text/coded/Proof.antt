@@ -6,8 +6,8 @@ use mathlib.Core.Path.{_≡_, _∙_, ap, sym}
 use Prim.Native.Nat.{_+_, _≤_}
 use lib.ListN.{length}
 use Rattle.c40.specs.Text.{width}
-use Rattle.names.specs.Cases.{exactOf}
-use Rattle.names.specs.Cases.Field.{field-cut, field-place, field-wide, field-coded, field-wrong}
+use Rattle.names.specs.Meaning.{exactOf}
+use Rattle.names.specs.Meaning.Field.{field-cut, field-place, field-wide, field-coded, field-wrong}
 use Rattle.names.proofs.text.coded.Statement.{statement}
 use Rattle.names.proofs.text.coded.Tie as tie
 

@@ -9,11 +9,11 @@ use mathlib.Core.List.{List}
 use Prim.Native.Nat.{ℕ}
 use Rattle.verdict.specs.Items.{judgedBy}
 use Rattle.verdict.specs.Items as read
-use Rattle.items.specs.Cases.{stepOf}
-use Rattle.names.specs.Cases.{Fits, keptOf, rulesOf}
+use Rattle.items.specs.Meaning.{stepOf}
+use Rattle.names.specs.Meaning.{Fits, keptOf, rulesOf}
 use Rattle.names.specs.declared.rules.Kind.{Kind}
 use Rattle.names.specs.declared.rules.Kind.the-variants as kind
-use Rattle.names.specs.Cases.Field.{field-judged, field-unread}
+use Rattle.names.specs.Meaning.Field.{field-judged, field-unread}
 use Rattle.names.proofs.text.field.Statement.{statement}
 use Rattle.names.proofs.text.field.Tie as tie
 

@@ -13,7 +13,7 @@ use Rattle.c40.specs.declared.Reading.the-variants as reading
 use Rattle.c40.specs.Calls.{readingOf}
 use Rattle.c40.proofs.Reading.{the-type}
 use Rattle.verdict.specs.Items.{wrongAt}
-use Rattle.names.specs.Cases.Text.{filled-exactly, filled-less, filled-wrong, filled-more}
+use Rattle.names.specs.Meaning.Text.{filled-exactly, filled-less, filled-wrong, filled-more}
 use Rattle.names.proofs.text.fill.Statement.{statement}
 use Rattle.names.proofs.text.fill.Tie as tie
 

@@ -10,9 +10,9 @@ use lib.ListN.{length, getD, take, drop, length-drop}
 use lib.Seq.{take-all}
 use Rattle.format.specs.Buffer.{over}
 use Rattle.format.specs.Hex.{hexDigit}
-use Rattle.writer.specs.Steps.{Room, sixOf}
+use Rattle.writer.specs.Needs.{Room, sixOf}
 use Rattle.given.specs.Tests.Laws.{size-three, size-four}
-use Rattle.writer.specs.Steps.Laws.{named-text}
+use Rattle.writer.specs.Needs.Laws.{named-text}
 use Rattle.writer.specs.Put.{names-three, six-asks, reference-asks, names-put}
 use Rattle.writer.proofs.names.put_names.Statement.{statement}
 use Rattle.writer.proofs.names.put_names.Tie as tie

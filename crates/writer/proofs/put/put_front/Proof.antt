@@ -13,9 +13,9 @@ use Rattle.c40.specs.Text.{Text}
 use Rattle.versions.specs.Versions.{versionByte}
 use Rattle.grammar.specs.Publish.{carried}
 use Rattle.given.specs.Given.{threeOf}
-use Rattle.writer.specs.Steps.{front}
-use Rattle.writer.specs.Steps.Laws.{country-text}
-use Rattle.writer.specs.Whole.{headed-country, headed-named, front-room, names-room, put-front}
+use Rattle.writer.specs.Needs.{front}
+use Rattle.writer.specs.Needs.Laws.{country-text}
+use Rattle.writer.specs.Together.{headed-country, headed-named, front-room, names-room, put-front}
 use Rattle.writer.proofs.put.put_front.Statement.{statement}
 use Rattle.writer.proofs.put.put_front.Tie as tie
 

@@ -1,7 +1,7 @@
 -- `names_size` meets its contract.
 -- Assumes nothing.
 use borrow.Author.Needs.{needs}
-use Rattle.writer.specs.Sizes.Laws.{names-plain, names-long}
+use Rattle.writer.specs.SealSize.Laws.{names-plain, names-long}
 use Rattle.writer.proofs.size.names_size.Statement.{statement}
 use Rattle.writer.proofs.size.names_size.Tie as tie
 

@@ -10,7 +10,7 @@ use mathlib.Core.List.{List}
 use lib.ListN.{length}
 use Rattle.rows.specs.Rows.{width, rowAt}
 use Rattle.rows.specs.Rows.Laws.{found-none, found-row}
-use Rattle.writer.specs.Sizes.Laws.{Summed, summed-start, summed-end, summed-great, summed-past, summed-more, width-small}
+use Rattle.writer.specs.SealSize.Laws.{Summed, summed-start, summed-end, summed-great, summed-past, summed-more, width-small}
 use Rattle.writer.proofs.size.rows_size.Statement.{statement}
 use Rattle.writer.proofs.size.rows_size.Tie as tie
 

@@ -4,7 +4,7 @@ use borrow.Author.Needs.{needs}
 use native.Mathlib.Omega.{arith}
 use Prim.Native.Nat.{_≤_}
 use Rattle.grammar.specs.Content.{four}
-use Rattle.writer.specs.Sizes.Laws.{names-most, width-small}
+use Rattle.writer.specs.SealSize.Laws.{names-most, width-small}
 use Rattle.writer.proofs.size.seal_size.Statement.{statement}
 use Rattle.writer.proofs.size.seal_size.Tie as tie
 

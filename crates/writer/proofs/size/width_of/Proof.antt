@@ -2,7 +2,7 @@
 -- Assumes nothing.
 use borrow.Author.Needs.{needs}
 use mathlib.Core.Path.{_∙_}
-use Rattle.writer.specs.Sizes.Laws.{width-three, width-four}
+use Rattle.writer.specs.SealSize.Laws.{width-three, width-four}
 use Rattle.writer.proofs.size.width_of.Statement.{statement}
 use Rattle.writer.proofs.size.width_of.Tie as tie
 

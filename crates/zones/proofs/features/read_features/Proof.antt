@@ -14,7 +14,7 @@ use Rattle.format.specs.Bytes.{Bytes}
 use Rattle.grammar.specs.Content.{Version}
 use Rattle.verdict.specs.Items.{is, byte, plainIn, featureLength}
 use Rattle.causes.specs.declared.Item.the-variants as item
-use Rattle.items.specs.Cases.{byteOf, wholeOf, numberOf, refused}
+use Rattle.items.specs.Meaning.{byteOf, wholeOf, numberOf, refused}
 use Rattle.zones.proofs.Says.{says}
 use Rattle.zones.proofs.features.read_features.Proof.Turn.{Kept, kept-start, kept-cut, kept-end, kept-again, kept-most, New, new-unsized, new-small, new-room, new-short, new-more}
 use Rattle.zones.proofs.features.read_features.Statement.{statement}

@@ -6,8 +6,8 @@ use mathlib.Core.List.{[]}
 use denote.Ref.{now}
 use Rattle.causes.specs.declared.Item.the-variants as item
 use Rattle.verdict.specs.Items.{is, not, mark, version, country, names}
-use Rattle.items.specs.Cases.{stepOf, editionOf, refused, whyOf, through}
-use Rattle.names.specs.Cases.{namesOf, measured, textOver}
+use Rattle.items.specs.Meaning.{stepOf, editionOf, refused, whyOf, through}
+use Rattle.names.specs.Meaning.{namesOf, measured, textOver}
 use Rattle.names.specs.declared.Names.the-variants as read
 use Rattle.zones.specs.Steps.{fields, namesIn}
 use Rattle.zones.specs.Steps.Laws.{fields-mark, fields-version, fields-country, fields-names, fields-all, names-reached, code-kept, code-given, text-kept}

@@ -5,7 +5,7 @@ use mathlib.Core.Path.{_≡_, _∙_, ap, sym}
 use denote.Ref.{now}
 use Rattle.causes.specs.declared.Item.the-variants as item
 use Rattle.verdict.specs.Items.{is, date, last}
-use Rattle.items.specs.Cases.{dayOf, numberOf, refused}
+use Rattle.items.specs.Meaning.{dayOf, numberOf, refused}
 use Rattle.zones.specs.Steps.Laws.{dated-issued, dated-signed, dated-definition, dated-category, dated-all}
 use Rattle.zones.proofs.Says.{says}
 use Rattle.zones.proofs.fields.read_rest.Statement.{statement}

@@ -7,8 +7,8 @@ use mathlib.Core.Bool.{Bool, true, false, not}
 use denote.Ref.{now}
 use Rattle.causes.specs.declared.Item.the-variants as item
 use Rattle.verdict.specs.Items.{is, derLength}
-use Rattle.items.specs.Cases.{numberOf, wholeOf, refused}
-use Rattle.items.specs.Cases.Laws.{Past, past-whole, whole-none}
+use Rattle.items.specs.Meaning.{numberOf, wholeOf, refused}
+use Rattle.items.specs.Meaning.Laws.{Past, past-whole, whole-none}
 use Rattle.verdict.specs.Judge.{isSignature, rawIn}
 use Rattle.zones.specs.Steps.Laws.{signature-length, signature-size, signature-cut, signature-more, signature-is}
 use Rattle.zones.proofs.Says.{says}

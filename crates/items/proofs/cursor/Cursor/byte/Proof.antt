@@ -6,7 +6,7 @@ use mathlib.Core.Path.{_∙_, ap, sym}
 use Prim.Native.Nat.{_+_}
 use denote.Ref.{now}
 use Rattle.verdict.specs.Items.{is, plainIn}
-use Rattle.items.specs.Cases.Laws.{byte-cut, byte-is}
+use Rattle.items.specs.Meaning.Laws.{byte-cut, byte-is}
 use Rattle.items.proofs.cursor.Cursor.byte.Statement.{statement}
 use Rattle.items.proofs.cursor.Cursor.byte.Tie as tie
 

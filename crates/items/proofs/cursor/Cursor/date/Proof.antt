@@ -7,12 +7,12 @@ use Prim.Native.Nat.{_+_}
 use mathlib.Core.List.{[], _∷_}
 use lib.ListN.{getD}
 use denote.Ref.{now}
-use Rattle.format.specs.Numbers.{val}
+use Rattle.format.specs.BigEndian.{val}
 use Rattle.dates.specs.Days.{dateOf}
 use Rattle.dates.specs.Calls.{takenOf}
 use Rattle.verdict.specs.Items.{dateIn}
-use Rattle.items.specs.Cases.{wholeOf}
-use Rattle.items.specs.Cases.Laws.{Past, past-whole, whole-none, date-is, date-wrong, taken-day, taken-none}
+use Rattle.items.specs.Meaning.{wholeOf}
+use Rattle.items.specs.Meaning.Laws.{Past, past-whole, whole-none, date-is, date-wrong, taken-day, taken-none}
 use Rattle.items.proofs.cursor.Cursor.date.Statement.{statement}
 use Rattle.items.proofs.cursor.Cursor.date.Tie as tie
 

@@ -11,7 +11,7 @@ use Rattle.format.specs.Bytes.Laws.{bytes-drop}
 use Rattle.der.specs.Length.{readLength}
 use Rattle.der.specs.Length.Exact.{read-is-form}
 use Rattle.verdict.specs.Items.{not, derOf}
-use Rattle.items.specs.Cases.Laws.{der-past}
+use Rattle.items.specs.Meaning.Laws.{der-past}
 use Rattle.items.proofs.cursor.Cursor.der_length.Statement.{statement}
 use Rattle.items.proofs.cursor.Cursor.der_length.Tie as tie
 

@@ -4,7 +4,7 @@ use borrow.Author.Needs.{needs}
 use mathlib.Core.Path.{_∙_, ap, sym}
 use denote.Ref.{now}
 use Rattle.verdict.specs.Items.{featureLength}
-use Rattle.items.specs.Cases.{byteOf}
+use Rattle.items.specs.Meaning.{byteOf}
 use Rattle.items.proofs.cursor.Cursor.feature_length.Statement.{statement}
 use Rattle.items.proofs.cursor.Cursor.feature_length.Tie as tie
 

@@ -6,8 +6,8 @@ use mathlib.Core.Path.{_≡_, _∙_, ap, sym}
 use denote.Ref.{now}
 use Rattle.causes.specs.declared.Rule.the-variants as rule
 use Rattle.verdict.specs.Items.{not, byte, plainIn, lastIn}
-use Rattle.items.specs.Cases.{byteOf}
-use Rattle.items.specs.Cases.Laws.{Read, read-byte, byte-none, last-is, last-low, last-high}
+use Rattle.items.specs.Meaning.{byteOf}
+use Rattle.items.specs.Meaning.Laws.{Read, read-byte, byte-none, last-is, last-low, last-high}
 use Rattle.items.proofs.cursor.Cursor.last.Statement.{statement}
 use Rattle.items.proofs.cursor.Cursor.last.Tie as tie
 

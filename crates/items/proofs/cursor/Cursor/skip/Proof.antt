@@ -4,8 +4,8 @@ use borrow.Author.Needs.{needs}
 use native.Mathlib.Omega.{arith}
 use mathlib.Core.Path.{sym}
 use denote.Ref.{now}
-use Rattle.items.specs.Cases.{past}
-use Rattle.items.specs.Cases.Laws.{whole-cut, whole-is}
+use Rattle.items.specs.Meaning.{past}
+use Rattle.items.specs.Meaning.Laws.{whole-cut, whole-is}
 use Rattle.items.proofs.cursor.Cursor.skip.Statement.{statement}
 use Rattle.items.proofs.cursor.Cursor.skip.Tie as tie
 

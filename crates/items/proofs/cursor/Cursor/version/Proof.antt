@@ -6,8 +6,8 @@ use denote.Ref.{now}
 use Rattle.versions.specs.Versions.{statedOf}
 use Rattle.causes.specs.declared.Rule.the-variants as rule
 use Rattle.verdict.specs.Items.{not, byte, plainIn, versionIn}
-use Rattle.items.specs.Cases.{byteOf}
-use Rattle.items.specs.Cases.Laws.{Read, read-byte, byte-none, version-is, version-wrong}
+use Rattle.items.specs.Meaning.{byteOf}
+use Rattle.items.specs.Meaning.Laws.{Read, read-byte, byte-none, version-is, version-wrong}
 use Rattle.items.proofs.cursor.Cursor.version.Statement.{statement}
 use Rattle.items.proofs.cursor.Cursor.version.Tie as tie
 

@@ -2,7 +2,7 @@
 -- Assumes nothing.
 use borrow.Author.Needs.{needs}
 use mathlib.Core.Path.{_∙_, ap, sym}
-use Rattle.items.specs.Cases.{dayOf, refused}
+use Rattle.items.specs.Meaning.{dayOf, refused}
 use Rattle.items.proofs.cursor.Day.refusal.Statement.{statement}
 use Rattle.items.proofs.cursor.Day.refusal.Tie as tie
 

@@ -2,7 +2,7 @@
 -- Assumes nothing.
 use borrow.Author.Needs.{needs}
 use mathlib.Core.Path.{_∙_, ap, sym}
-use Rattle.items.specs.Cases.{editionOf, refused}
+use Rattle.items.specs.Meaning.{editionOf, refused}
 use Rattle.items.proofs.cursor.Edition.refusal.Statement.{statement}
 use Rattle.items.proofs.cursor.Edition.refusal.Tie as tie
 

@@ -2,7 +2,7 @@
 -- Assumes nothing.
 use borrow.Author.Needs.{needs}
 use mathlib.Core.Path.{_∙_, ap, sym}
-use Rattle.items.specs.Cases.{numberOf, refused}
+use Rattle.items.specs.Meaning.{numberOf, refused}
 use Rattle.items.proofs.cursor.Number.refusal.Statement.{statement}
 use Rattle.items.proofs.cursor.Number.refusal.Tie as tie
 

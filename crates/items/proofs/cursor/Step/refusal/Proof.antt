@@ -2,7 +2,7 @@
 -- Assumes nothing.
 use borrow.Author.Needs.{needs}
 use mathlib.Core.Path.{_∙_, ap, sym}
-use Rattle.items.specs.Cases.{stepOf, refused}
+use Rattle.items.specs.Meaning.{stepOf, refused}
 use Rattle.items.proofs.cursor.Step.refusal.Statement.{statement}
 use Rattle.items.proofs.cursor.Step.refusal.Tie as tie
 

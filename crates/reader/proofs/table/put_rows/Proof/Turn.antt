@@ -13,13 +13,13 @@ use Rattle.causes.specs.declared.Rule.the-variants as rule
 use Rattle.verdict.specs.Items.{Way, is, not, next, pass, whole, byte, plainIn, featureLength}
 use Rattle.verdict.specs.Items.Laws.{unread, whole-read}
 use Rattle.verdict.specs.Items.Sound.{steps, steps-on, same-value, same-place}
-use Rattle.items.specs.Cases.{through}
+use Rattle.items.specs.Meaning.{through}
 use Rattle.rows.specs.declared.Row.{Row}
 use Rattle.rows.specs.Rows.{width, numbers, rowPut, table}
 use Rattle.rows.specs.Rows.Laws.{length-numbers, table-end, put-row}
 use Rattle.verdict.specs.Judge.{valueIn, row}
 use Rattle.reader.specs.Calls.{then}
-use Rattle.reader.specs.Rows.{rowsAt, rowsRead, AreRead}
+use Rattle.reader.specs.FeatureRows.{rowsAt, rowsRead, AreRead}
 
 -- rows that are read, with the place after them
 record Ended (i : Way (List Row)) : Type 0 where

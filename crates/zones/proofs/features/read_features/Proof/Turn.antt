@@ -19,8 +19,8 @@ use Rattle.causes.specs.declared.Item.the-variants as item
 use Rattle.causes.specs.declared.Rule.{Rule}
 use Rattle.causes.specs.declared.Rule.the-variants as rule
 use Rattle.verdict.specs.Items.{is, not, why, pass, whole, byte, plainIn, featureLength}
-use Rattle.items.specs.Cases.{past, through}
-use Rattle.items.specs.Cases.Laws.{Read, read-byte, judged-byte, byte-none, Past, past-whole, judged, whole-none}
+use Rattle.items.specs.Meaning.{past, through}
+use Rattle.items.specs.Meaning.Laws.{Read, read-byte, judged-byte, byte-none, Past, past-whole, judged, whole-none}
 use Rattle.verdict.specs.Judge.{Row, used, tagIn, tag, valueIn, row, features}
 
 -- the tags of the rows

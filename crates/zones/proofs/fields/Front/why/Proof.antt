@@ -3,7 +3,7 @@
 use borrow.Author.Needs.{needs}
 use mathlib.Core.Path.{_∙_, ap, sym}
 use mathlib.Core.List.{[]}
-use Rattle.items.specs.Cases.{whyOf}
+use Rattle.items.specs.Meaning.{whyOf}
 use Rattle.zones.specs.Steps.{frontOf}
 use Rattle.zones.proofs.fields.Front.why.Statement.{statement}
 use Rattle.zones.proofs.fields.Front.why.Tie as tie

@@ -2,7 +2,7 @@
 -- Assumes nothing.
 use borrow.Author.Needs.{needs}
 use mathlib.Core.Path.{_∙_, ap, sym}
-use Rattle.items.specs.Cases.{whyOf}
+use Rattle.items.specs.Meaning.{whyOf}
 use Rattle.zones.specs.Steps.{restOf}
 use Rattle.zones.proofs.fields.Rest.why.Statement.{statement}
 use Rattle.zones.proofs.fields.Rest.why.Tie as tie

@@ -12,7 +12,7 @@ use Rattle.grammar.specs.Publish.{publish, headerZone}
 use Rattle.grammar.specs.Legal.{Legal}
 use Rattle.rows.specs.Rows.{width}
 use Rattle.verdict.specs.Judge.{Report, Verdict, accepted, refused}
-use Rattle.verdict.specs.Judge.Numbers.{FromList}
+use Rattle.verdict.specs.Judge.Listed.{FromList}
 use Rattle.verdict.specs.Judge.Complete.{reportOf, published-accepted}
 use Rattle.verdict.specs.Judge.Sound.{unaccepted}
 use Rattle.reader.specs.Calls.{answerOf, given, reading}

@@ -11,8 +11,8 @@ use Rattle.causes.specs.declared.Item.the-variants as item
 use Rattle.verdict.specs.Items.{Item, Way, is, not, next, pass, mark, version, country, names, date, last, Names}
 use Rattle.verdict.specs.Items.Laws.{unread}
 use Rattle.verdict.specs.Items.Sound.{steps, steps-on, same-value, same-place}
-use Rattle.items.specs.Cases.{through}
-use Rattle.names.specs.Cases.{measured}
+use Rattle.items.specs.Meaning.{through}
+use Rattle.names.specs.Meaning.{measured}
 use Rattle.verdict.specs.Judge.{Row, header}
 use Rattle.zones.specs.Steps.{Fields, Dated, fields, dated}
 

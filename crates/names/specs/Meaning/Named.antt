@@ -21,9 +21,9 @@ use Rattle.verdict.specs.Items.{Way, is, not, why, next, pass, field, inCountry
 use Rattle.verdict.specs.Items.{named, after, names, Names}
 use Rattle.verdict.specs.Items.Fields.{letter-shown}
 use Rattle.verdict.specs.Items.FieldsSound.{field-keeps, kept-all}
-use Rattle.items.specs.Cases.{because, through}
-use Rattle.items.specs.Cases.Laws.{unread-on}
-use Rattle.names.specs.Cases.{measured}
+use Rattle.items.specs.Meaning.{because, through}
+use Rattle.items.specs.Meaning.Laws.{unread-on}
+use Rattle.names.specs.Meaning.{measured}
 use Rattle.items.specs.declared.cursor.Refusal.{Refusal}
 
 -- the length that six characters give which were read: 1 to 255

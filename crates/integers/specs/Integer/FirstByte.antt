@@ -9,8 +9,8 @@ use mathlib.Core.List.{List, [], _∷_}
 use lib.Dec.{lit≤}
 use lib.ListN.{length, getD}
 use Rattle.format.specs.Bytes.{Bytes}
-use Rattle.format.specs.Numbers.{be, val}
-use Rattle.format.specs.Numbers.Laws.{val-below, val-more}
+use Rattle.format.specs.BigEndian.{be, val}
+use Rattle.format.specs.BigEndian.Laws.{val-below, val-more}
 
 -- the first byte of a number, and the rest
 pub val-cons : (x : ℕ) (s : List ℕ) (k : ℕ) → val (x ∷ s) (suc k) ≡ x * 256 ^ k + val s k

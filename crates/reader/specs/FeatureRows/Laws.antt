@@ -14,9 +14,9 @@ use Rattle.causes.specs.declared.Rule.the-variants as rule
 use Rattle.verdict.specs.Items.{Way, is, not, why, pass, byte, plainIn}
 use Rattle.verdict.specs.Items.Laws.{unread, whole-read}
 use Rattle.verdict.specs.Items.Sound.{steps, steps-on, same-value, same-place}
-use Rattle.items.specs.Cases.Laws.{whole-is, read-byte}
+use Rattle.items.specs.Meaning.Laws.{whole-is, read-byte}
 use Rattle.verdict.specs.Judge.{Row, used, tagIn, tag, row, features}
-use Rattle.reader.specs.Rows.{rowsAt, rowsRead, AreRead}
+use Rattle.reader.specs.FeatureRows.{rowsAt, rowsRead, AreRead}
 
 -- a tag that was read is the byte there
 tag-plain : (rows : List Row) (at : ℕ) (s : List ℕ) (x after : ℕ) → tag rows at s ≡ is x after → byte at s (plainIn at) ≡ is x after

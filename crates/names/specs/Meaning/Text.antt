@@ -19,7 +19,7 @@ use Rattle.c40.specs.declared.Reading.{Reading}
 use Rattle.c40.specs.declared.Reading.the-variants.{Done, WrongPair}
 use Rattle.c40.specs.Text.{width}
 use Rattle.verdict.specs.Items.{exact, wrongAt, exactly}
-use Rattle.names.specs.Cases.{Sized}
+use Rattle.names.specs.Meaning.{Sized}
 
 -- text of exactly k characters, and text of another length
 exactly-text : (k : ℕ) (t : List ℕ) → length t ≡ k → exactly k (text t) ≡ exact t

@@ -34,8 +34,8 @@ use Rattle.items.specs.declared.Header.{Header}
 use Rattle.given.specs.Tests.Laws.{size-three, size-four, sized-head}
 use Rattle.given.specs.Tests.{isTextSize, isRow, areRows, isTable, areSized}
 use Rattle.given.specs.Given.{threeOf, Given, contentAs}
-use Rattle.writer.specs.Steps.{Room, Fitting, Named, Headed, Dated, front, rest, Passed, spelled}
-use Rattle.writer.specs.Sizes.{rowsSize, namesSize, sealSize}
+use Rattle.writer.specs.Needs.{Room, Fitting, Named, Headed, Dated, front, rest, Passed, spelled}
+use Rattle.writer.specs.SealSize.{rowsSize, namesSize, sealSize}
 use Rattle.writer.specs.Put.{zone-none, zone-cons, names-three, names-four, spelled-long}
 
 -- what the judged names say

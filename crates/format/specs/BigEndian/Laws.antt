@@ -10,7 +10,7 @@ use lib.ListN.{length, getD, take, drop, length-append, List·getD-append, take-
 use lib.Seq.{take-suc, getD-at, length-take-le}
 use Rattle.format.specs.Bytes.{Byte, Bytes}
 use Rattle.format.specs.Bytes.Laws.{bytes-nil, bytes-cons, bytes-append}
-use Rattle.format.specs.Numbers.{be, val}
+use Rattle.format.specs.BigEndian.{be, val}
 
 pub length-be : (k n : ℕ) → length (be k n) ≡ k
 unfolding be

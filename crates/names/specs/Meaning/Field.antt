@@ -15,9 +15,9 @@ use Rattle.causes.specs.declared.Rule.{Rule}
 use Rattle.causes.specs.declared.Rule.the-variants as rule
 use Rattle.verdict.specs.Items.{Item, Exact, exact, wrongAt, is, not, pass, whole, exactly, judgedBy, fieldIn, field}
 use Rattle.verdict.specs.Items.Sound.{taken-size}
-use Rattle.items.specs.Cases.Laws.{whole-is, whole-none, past-whole}
-use Rattle.items.specs.Cases.{wholeOf, past}
-use Rattle.names.specs.Cases.{anyText}
+use Rattle.items.specs.Meaning.Laws.{whole-is, whole-none, past-whole}
+use Rattle.items.specs.Meaning.{wholeOf, past}
+use Rattle.names.specs.Meaning.{anyText}
 use Rattle.items.specs.declared.cursor.Cursor.{Cursor}
 use Rattle.items.specs.declared.cursor.Whole.{Whole}
 use Rattle.items.specs.declared.cursor.Whole.the-variants as whole

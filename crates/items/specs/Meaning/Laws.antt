@@ -13,10 +13,10 @@ use lib.ListN.{length, take, drop, getD, drop-of-length-le}
 use lib.Seq.{getD-take, getD-drop}
 use Rattle.format.specs.Choice.{pick}
 use Rattle.format.specs.Choice.Laws.{by-test}
-use Rattle.format.specs.Numbers.{val}
+use Rattle.format.specs.BigEndian.{val}
 use Rattle.dates.specs.declared.Date.{Date}
 use Rattle.dates.specs.Days.{isDay, dateOf}
-use Rattle.format.specs.Answers.{Given, given, refusal}
+use Rattle.format.specs.Answers.{Result, result, refusal}
 use Rattle.dates.specs.Calls.{no-date, fromNumber}
 use Rattle.der.specs.Length.{readLength}
 use Rattle.versions.specs.declared.Version.{Version}
@@ -28,7 +28,7 @@ use Rattle.items.specs.declared.cursor.Refusal.{Refusal}
 use Rattle.verdict.specs.Items.{Item, Way, why, next, is, not, whole, byte, mark, version, last, lastIn, date, dateIn, plainIn, derOf}
 use Rattle.verdict.specs.Items.{derLength, markIn, versionAt, versionIn}
 use Rattle.verdict.specs.Items.Laws.{whole-read, unread}
-use Rattle.items.specs.Cases.{because, past}
+use Rattle.items.specs.Meaning.{because, past}
 
 -- an item that is not read ends the reading, under its name
 pub unread-on : {A B : Type 0} (name : Name) (i : Item A) (rest : A → ℕ → Way B) (rule : Rule) (place : ℕ) (w : Refusal)
@@ -130,20 +130,20 @@ module _ (at : ℕ) (s : List ℕ) (x after : ℕ) (b : Read at s x after) where
   pub last-is : 0 < x → x ≤ 254 → is x after ≡ last at s
   last-is low high =
       let read = judged-byte at s x after (lastIn at) b in
-      let given : lastIn at x ≡ is x (at + 1) = rw (le-leb 1 x low, le-leb x 254 high) refl in
-      ap (is x) (b .reached) ∙ sym given ∙ sym read
+      let result : lastIn at x ≡ is x (at + 1) = rw (le-leb 1 x low, le-leb x 254 high) refl in
+      ap (is x) (b .reached) ∙ sym result ∙ sym read
 
   pub last-low : x ≡ 0 → not rule.OneTo254 at ≡ last at s
   last-low low =
       let read = judged-byte at s x after (lastIn at) b in
-      let given : lastIn at x ≡ not rule.OneTo254 at = rw (lt-leb 1 x (omega arith)) refl in
-      sym given ∙ sym read
+      let result : lastIn at x ≡ not rule.OneTo254 at = rw (lt-leb 1 x (omega arith)) refl in
+      sym result ∙ sym read
 
   pub last-high : 254 < x → not rule.OneTo254 at ≡ last at s
   last-high high =
       let read = judged-byte at s x after (lastIn at) b in
-      let given : lastIn at x ≡ not rule.OneTo254 at = rw (le-leb 1 x (omega arith), lt-leb x 254 high) refl in
-      sym given ∙ sym read
+      let result : lastIn at x ≡ not rule.OneTo254 at = rw (le-leb 1 x (omega arith), lt-leb x 254 high) refl in
+      sym result ∙ sym read
 
 -- a date: the number in its three bytes
 three-bytes : (at : ℕ) (s : List ℕ) → val (take 3 (drop at s)) 3 ≡ val (getD s at 0 ∷ getD s (at + 1) 0 ∷ getD s (at + 2) 0 ∷ []) 3
@@ -170,10 +170,10 @@ unfolding readLength
 der-past at s h = ap (λ t. derOf at (readLength t)) (sym (drop-of-length-le s {i = at} (omega arith)))
 
 -- what a date's number answers tells whether there is such a day
-chosen : Bool → ℕ → Given Date
-chosen b n = pick b (given (dateOf n)) (refusal no-date 6)
+chosen : Bool → ℕ → Result Date
+chosen b n = pick b (result (dateOf n)) (refusal no-date 6)
 
-pub taken-day : (n : ℕ) (d : Date) → given d ≡ fromNumber n → (dateOf n ≡ d) × (isDay d ≡ true)
+pub taken-day : (n : ℕ) (d : Date) → result d ≡ fromNumber n → (dateOf n ≡ d) × (isDay d ≡ true)
 unfolding fromNumber chosen
 taken-day n d e =
     by-test (isDay (dateOf n))

@@ -22,7 +22,7 @@ use Rattle.grammar.specs.Legal.{ReferenceCharacter}
 use Rattle.grammar.specs.Parts.{hex-text, reference-text as text-of}
 use Rattle.letters.specs.Characters.{isLetter, isDigit, isLetterOrDigit, isReference, isSigner, all, isCountry}
 use Rattle.letters.specs.Characters.Grammar.{reference-of, all-of}
-use Rattle.writer.specs.Steps.{Named, spelled, sixOf}
+use Rattle.writer.specs.Needs.{Named, spelled, sixOf}
 
 pub either-is : {C : Type 0} (a b : Bool) → either a b ≡ true → (a ≡ true → C) → (b ≡ true → C) → C
 either-is true b e f g = f refl

@@ -12,8 +12,8 @@ use Rattle.rows.specs.declared.Row.{Row}
 use Rattle.rows.specs.Rows.{width, rowAt, rowsOf}
 use Rattle.rows.specs.Rows.Laws.{rows-here, rows-end}
 use Rattle.grammar.specs.Content.{Version, three, four}
-use Rattle.writer.specs.Sizes.{rowsSize, namesSize}
-use Rattle.writer.specs.Steps.Laws.{length-plain, length-der}
+use Rattle.writer.specs.SealSize.{rowsSize, namesSize}
+use Rattle.writer.specs.Needs.Laws.{length-plain, length-der}
 
 module _ (v : Version) (n : ℕ) where
   pub width-three : v ≡ three → 1 ≡ length (lengthOf v n)

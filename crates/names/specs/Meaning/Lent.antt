@@ -15,8 +15,8 @@ use Rattle.causes.specs.declared.Rule.{Rule}
 use Rattle.causes.specs.declared.Why.{Why}
 use Rattle.verdict.specs.Items.{Item, Way, is, not, Names}
 use Rattle.verdict.specs.Items.Laws.{unread}
-use Rattle.items.specs.Cases.{through, valueOr}
-use Rattle.names.specs.Cases.{Measured, measured, textOver}
+use Rattle.items.specs.Meaning.{through, valueOr}
+use Rattle.names.specs.Meaning.{Measured, measured, textOver}
 use Rattle.items.specs.declared.cursor.Refusal.{Refusal}
 
 -- a text that was not read leaves what was there, and one that was read is there
