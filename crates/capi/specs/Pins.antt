@@ -19,7 +19,7 @@ use Rattle.integers.specs.Calls.{reading as readInteger}
 use Rattle.ecdsa.specs.Signature.{isSize}
 use Rattle.ecdsa.specs.Strict.{rawOf}
 use Rattle.ecdsa.specs.Calls.{toDer, toRaw, hashFor}
-use Rattle.given.specs.Given.{given}
+use Rattle.write_given.specs.Given.{given}
 use Rattle.writer.specs.Calls.{writing}
 use Rattle.face.specs.Face.{filledWith, filledOf, datedOf, numberedOf, integerOf, hashedOf}
 

@@ -4,7 +4,7 @@ ghost use lib.ListN.{length};
 ghost use Rattle.format.specs.Answers.{told, filled};
 ghost use Rattle.reader.specs.Calls.{answerOf, reading, rowsIn, textIn, then};
 ghost use Rattle.verdict.specs.Judge.{judge};
-ghost use Rattle.given.specs.Given.{given};
+ghost use Rattle.write_given.specs.Given.{given};
 ghost use Rattle.writer.specs.Calls.{writing};
 ghost use Rattle.face.specs.Face.{readingOf, filledOf, innerHeader};
 use face::FrFilled;

@@ -2,13 +2,13 @@
 ghost use mathlib.Core.Path.{_≡_};
 ghost use Prim.Native.Nat.{_≤_};
 ghost use lib.ListN.{length, take};
-ghost use Rattle.casefile.specs.Line.{Within};
+ghost use Rattle.case_file.specs.Line.{Within};
 ghost use Rattle.case_back.specs.Back.{Tells};
-use casefile::at;
-use casefile::put_call;
-use casefile::put_text;
+use case_file::at;
+use case_file::put_call;
+use case_file::put_text;
 use face::FrFilled;
-use items::Header;
+use read_items::Header;
 use reader::Reading;
 
 // Whether a buffer begins with all of a seal.
@@ -67,10 +67,10 @@ fn write_again(
 ) -> usize
     ensures { λ r. ⌜ Within (now (out .entry)) to r ⌝ }
 {
-    if casefile::MOST < seal.len() {
+    if case_file::MOST < seal.len() {
         return put_text(out, to, b"too much room\n");
     }
-    let mut buffer = casefile::filled();
+    let mut buffer = case_file::filled();
     let a = write(header, text, rows, signature, seal, &mut buffer);
     put_back(a, &buffer, seal, out, to)
 }
@@ -88,11 +88,11 @@ fn write_back(
 {
     let header = r.header;
     let signature = r.signature;
-    let size = casefile::reach(text, 4, header.length);
-    let rows = casefile::whole_rows(table, r.count);
-    let place = casefile::reach(seal, 0, signature.place);
+    let size = case_file::reach(text, 4, header.length);
+    let rows = case_file::whole_rows(table, r.count);
+    let place = case_file::reach(seal, 0, signature.place);
     let rest = &seal[place..];
-    let end = casefile::reach(rest, 0, signature.length);
+    let end = case_file::reach(rest, 0, signature.length);
     write_again(
         header,
         &text[..size],
@@ -125,6 +125,6 @@ pub fn run_line(line: &[u8], out: &mut [u8], to: usize) -> usize
         return to;
     }
     let mut seal = [0u8; 8192];
-    let size = casefile::runs(line, 1, &mut seal);
+    let size = case_file::runs(line, 1, &mut seal);
     run_seal(&seal[..size], out, to)
 }

@@ -1,10 +1,10 @@
 // A case of the C40 codec, and the line of its answer: `NUMBER at PLACE wrote COUNT kept`, and the bytes written.
 ghost use Prim.Native.Nat.{_≤_};
 ghost use lib.ListN.{length};
-ghost use Rattle.casefile.specs.Line.{Within};
-use casefile::at;
-use casefile::put_number;
-use casefile::put_text;
+ghost use Rattle.case_file.specs.Line.{Within};
+use case_file::at;
+use case_file::put_number;
+use case_file::put_text;
 use face::FrFilled;
 
 // Makes the call that a case asks for: `r` reads, and anything else writes.
@@ -22,7 +22,7 @@ fn report(a: FrFilled, buffer: &[u8], out: &mut [u8], to: usize) -> usize
     let mut o = put_number(out, to, a.number);
     o = put_text(out, o, b" at ");
     o = put_number(out, o, a.place);
-    casefile::put_filled(buffer, a.count, out, o)
+    case_file::put_filled(buffer, a.count, out, o)
 }
 
 // Runs one case with the first `room` bytes of the buffer lent to the codec.
@@ -51,13 +51,13 @@ pub fn run_line(line: &[u8], out: &mut [u8], to: usize) -> usize
             return to;
         }
     }
-    let number = casefile::number(line, 2);
+    let number = case_file::number(line, 2);
     let room = number.value;
-    if casefile::MOST < room {
+    if case_file::MOST < room {
         return put_text(out, to, b"too much room\n");
     }
     let mut input = [0u8; 65536];
-    let size = casefile::runs(line, number.next, &mut input);
-    let mut buffer = casefile::filled();
+    let size = case_file::runs(line, number.next, &mut input);
+    let mut buffer = case_file::filled();
     run_case(kind, &input[..size], room, &mut buffer, out, to)
 }

@@ -1,11 +1,11 @@
 // A reading in the line of a case: number, place and every field, and whether `judge` tells the same.
-ghost use Rattle.casefile.specs.Line.{Within};
+ghost use Rattle.case_file.specs.Line.{Within};
 ghost use mathlib.Core.Path.{_≡_};
 ghost use Rattle.case_fields.specs.Fields.{fieldsOf, Same, Tells, Alike};
-use casefile::put;
-use casefile::put_number;
-use casefile::put_part;
-use casefile::put_text;
+use case_file::put;
+use case_file::put_number;
+use case_file::put_part;
+use case_file::put_text;
 use octets::wide;
 use reader::Header;
 use reader::Reading;

@@ -1,8 +1,8 @@
 // A case of `listing::list`: the listing, and a line with the count and whether the rest was kept.
-ghost use Rattle.casefile.specs.Line.{Within};
-use casefile::at;
-use casefile::put_number;
-use casefile::put_text;
+ghost use Rattle.case_file.specs.Line.{Within};
+use case_file::at;
+use case_file::put_number;
+use case_file::put_text;
 use listing::ROOM;
 
 // What every byte of the buffer is before the call.
@@ -16,7 +16,7 @@ fn run_case(seal: &[u8], out: &mut [u8], to: usize) -> usize
     let count = listing::list(seal, &mut text);
     let mut o = put_text(out, to, &text[..count]);
     o = put_number(out, o, count);
-    if casefile::unchanged(&text, count, BYTE) {
+    if case_file::unchanged(&text, count, BYTE) {
         return put_text(out, o, b" kept\n");
     }
     put_text(out, o, b" changed\n")
@@ -30,6 +30,6 @@ pub fn run_line(line: &[u8], out: &mut [u8], to: usize) -> usize
         return to;
     }
     let mut seal = [0u8; 8192];
-    let size = casefile::runs(line, 1, &mut seal);
+    let size = case_file::runs(line, 1, &mut seal);
     run_case(&seal[..size], out, to)
 }

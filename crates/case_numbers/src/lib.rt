@@ -1,12 +1,12 @@
 // A case of dates, DER lengths or INTEGERs, and the line of its answer: what was answered, and on `j` what was written.
 ghost use Prim.Native.Nat.{_≤_};
 ghost use lib.ListN.{length};
-ghost use Rattle.casefile.specs.Line.{Within};
-use casefile::put;
-use casefile::put_answer;
-use casefile::put_call;
-use casefile::put_number;
-use casefile::put_text;
+ghost use Rattle.case_file.specs.Line.{Within};
+use case_file::put;
+use case_file::put_answer;
+use case_file::put_call;
+use case_file::put_number;
+use case_file::put_text;
 use dates::Date;
 use der::Fault;
 use der::Length;
@@ -108,17 +108,17 @@ fn negative(magnitude: usize) -> i64 {
 fn signed(line: &[u8], from: usize) -> i64 {
     if from < line.len() {
         if line[from] == b'-' {
-            return negative(casefile::number(line, from + 1).value);
+            return negative(case_file::number(line, from + 1).value);
         }
     }
-    at_most(casefile::number(line, from).value) as i64
+    at_most(case_file::number(line, from).value) as i64
 }
 
 // `d NUMBER`: the date of a number.
 fn run_date(line: &[u8], out: &mut [u8], to: usize) -> usize
     ensures { λ r. ⌜ Within (now (out .entry)) to r ⌝ }
 {
-    let number = casefile::number(line, 2);
+    let number = case_file::number(line, 2);
     put_taken(
         answers::date_taken(Date::from_number(number.value)),
         out,
@@ -130,9 +130,9 @@ fn run_date(line: &[u8], out: &mut [u8], to: usize) -> usize
 fn run_number(line: &[u8], out: &mut [u8], to: usize) -> usize
     ensures { λ r. ⌜ Within (now (out .entry)) to r ⌝ }
 {
-    let month = casefile::number(line, 2);
-    let day = casefile::number(line, month.next + 1);
-    let year = casefile::number(line, day.next + 1);
+    let month = case_file::number(line, 2);
+    let day = case_file::number(line, month.next + 1);
+    let year = case_file::number(line, day.next + 1);
     let date = Date {
         month: month.value,
         day: day.value,
@@ -146,7 +146,7 @@ fn run_bytes(kind: u8, line: &[u8], out: &mut [u8], to: usize) -> usize
     ensures { λ r. ⌜ Within (now (out .entry)) to r ⌝ }
 {
     let mut input = [0u8; 4096];
-    let size = casefile::runs(line, 1, &mut input);
+    let size = case_file::runs(line, 1, &mut input);
     if kind == b'l' {
         return put_length(der::read_length(&input[..size]), out, to);
     }
@@ -170,13 +170,13 @@ fn run_write(value: i64, room: usize, buffer: &mut [u8], out: &mut [u8], to: usi
 fn run_value(line: &[u8], out: &mut [u8], to: usize) -> usize
     ensures { λ r. ⌜ Within (now (out .entry)) to r ⌝ }
 {
-    let number = casefile::number(line, 2);
+    let number = case_file::number(line, 2);
     let room = number.value;
-    if casefile::MOST < room {
+    if case_file::MOST < room {
         return put_text(out, to, b"too much room\n");
     }
     let value = signed(line, number.next + 1);
-    let mut buffer = casefile::filled();
+    let mut buffer = case_file::filled();
     run_write(value, room, &mut buffer, out, to)
 }
 
@@ -184,7 +184,7 @@ fn run_value(line: &[u8], out: &mut [u8], to: usize) -> usize
 pub fn run_line(line: &[u8], out: &mut [u8], to: usize) -> usize
     ensures { λ r. ⌜ Within (now (out .entry)) to r ⌝ }
 {
-    let kind = casefile::at(line, 0);
+    let kind = case_file::at(line, 0);
     match kind {
         b'd' => run_date(line, out, to),
         b'n' => run_number(line, out, to),

@@ -3,13 +3,13 @@
 ghost use mathlib.Core.Path.{_≡_};
 ghost use Prim.Native.Nat.{_≤_};
 ghost use lib.ListN.{length, drop};
-ghost use Rattle.casefile.specs.Fill.{allAre};
-ghost use Rattle.casefile.specs.Line.{Within};
+ghost use Rattle.case_file.specs.Fill.{allAre};
+ghost use Rattle.case_file.specs.Line.{Within};
 use case_fields::put_judged;
 use case_fields::put_reading;
-use casefile::at;
-use casefile::put_part;
-use casefile::put_text;
+use case_file::at;
+use case_file::put_part;
+use case_file::put_text;
 use reader::Reading;
 
 // What every number of the table and every byte of the text is before the call.
@@ -50,7 +50,7 @@ fn put_kept(
     if !unchanged(table, rows) {
         return put_text(out, to, b" table changed");
     }
-    if !casefile::unchanged(text, size, BYTE) {
+    if !case_file::unchanged(text, size, BYTE) {
         return put_text(out, to, b" text changed");
     }
     put_text(out, to, b" kept")
@@ -64,8 +64,8 @@ fn put_written(r: Reading, table: &[usize], text: &[u8], out: &mut [u8], to: usi
         return put_kept(table, 0, text, 0, out, to);
     }
     let header = r.header;
-    let rows = casefile::whole_rows(table, r.count);
-    let size = casefile::reach(text, 4, header.length);
+    let rows = case_file::whole_rows(table, r.count);
+    let size = case_file::reach(text, 4, header.length);
     let mut o = put_part(out, to, b" rows", &table[..rows]);
     o = put_text(out, o, b" text ");
     o = put_text(out, o, &text[..size]);
@@ -113,8 +113,8 @@ pub fn run_line(line: &[u8], out: &mut [u8], to: usize) -> usize
     if at(line, 0) != b's' {
         return to;
     }
-    let first = casefile::number(line, 2);
-    let second = casefile::number(line, first.next + 1);
+    let first = case_file::number(line, 2);
+    let second = case_file::number(line, first.next + 1);
     let numbers = first.value;
     let room = second.value;
     if MOST_NUMBERS < numbers {
@@ -124,7 +124,7 @@ pub fn run_line(line: &[u8], out: &mut [u8], to: usize) -> usize
         return put_text(out, to, b"too much room\n");
     }
     let mut seal = [0u8; 8192];
-    let size = casefile::runs(line, second.next, &mut seal);
+    let size = case_file::runs(line, second.next, &mut seal);
     let mut table = [NUMBER; MOST_NUMBERS + 16];
     let mut text = [BYTE; 316];
     run_case(&seal[..size], numbers, room, &mut table, &mut text, out, to)

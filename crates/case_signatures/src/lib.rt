@@ -1,10 +1,10 @@
 // A case of the signature forms or of the choice of hash, and the line of its answer: what was answered and written.
 ghost use Prim.Native.Nat.{_≤_};
 ghost use lib.ListN.{length};
-ghost use Rattle.casefile.specs.Line.{Within};
-use casefile::put_answer;
-use casefile::put_call;
-use casefile::put_text;
+ghost use Rattle.case_file.specs.Line.{Within};
+use case_file::put_answer;
+use case_file::put_call;
+use case_file::put_text;
 use face::FrFilled;
 
 // Makes the call that a case asks for: `e` to DER, and anything else to raw.
@@ -36,15 +36,15 @@ fn run_case(
 fn run_form(kind: u8, line: &[u8], out: &mut [u8], to: usize) -> usize
     ensures { λ r. ⌜ Within (now (out .entry)) to r ⌝ }
 {
-    let n = casefile::number(line, 2);
-    let number = casefile::number(line, n.next + 1);
+    let n = case_file::number(line, 2);
+    let number = case_file::number(line, n.next + 1);
     let room = number.value;
-    if casefile::MOST < room {
+    if case_file::MOST < room {
         return put_text(out, to, b"too much room\n");
     }
     let mut input = [0u8; 4096];
-    let size = casefile::runs(line, number.next, &mut input);
-    let mut buffer = casefile::filled();
+    let size = case_file::runs(line, number.next, &mut input);
+    let mut buffer = case_file::filled();
     run_case(kind, n.value, &input[..size], room, &mut buffer, out, to)
 }
 
@@ -52,7 +52,7 @@ fn run_form(kind: u8, line: &[u8], out: &mut [u8], to: usize) -> usize
 fn run_hash(line: &[u8], out: &mut [u8], to: usize) -> usize
     ensures { λ r. ⌜ Within (now (out .entry)) to r ⌝ }
 {
-    let n = casefile::number(line, 2);
+    let n = case_file::number(line, 2);
     let hash = answers::hash_named(ecdsa::hash_for(n.value));
     put_answer(out, to, hash.number, &[hash.bits])
 }
@@ -61,7 +61,7 @@ fn run_hash(line: &[u8], out: &mut [u8], to: usize) -> usize
 pub fn run_line(line: &[u8], out: &mut [u8], to: usize) -> usize
     ensures { λ r. ⌜ Within (now (out .entry)) to r ⌝ }
 {
-    let kind = casefile::at(line, 0);
+    let kind = case_file::at(line, 0);
     match kind {
         b'e' => run_form(kind, line, out, to),
         b'f' => run_form(kind, line, out, to),

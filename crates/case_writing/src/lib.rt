@@ -1,14 +1,14 @@
 // A case of the writer, and the line of its answer: the number, the count, whether every byte past the count was kept, and the bytes written.
 ghost use Prim.Native.Nat.{_≤_};
 ghost use lib.ListN.{length};
-ghost use Rattle.casefile.specs.Line.{Within, Counts};
-use casefile::Decimal;
-use casefile::at;
-use casefile::put_call;
-use casefile::put_text;
+ghost use Rattle.case_file.specs.Line.{Within, Counts};
+use case_file::Decimal;
+use case_file::at;
+use case_file::put_call;
+use case_file::put_text;
 use dates::Date;
 use face::FrFilled;
-use items::Header;
+use read_items::Header;
 
 // The greatest number that a header or a row can have.
 const GREATEST: usize = 18446744073709551615;
@@ -33,14 +33,14 @@ fn number(line: &[u8], from: usize) -> Decimal
 {
     if from < line.len() {
         if line[from] == b'~' {
-            let less = casefile::number(line, from + 1);
+            let less = case_file::number(line, from + 1);
             return Decimal {
                 value: GREATEST - less.value,
                 next: less.next,
             };
         }
     }
-    casefile::number(line, from)
+    case_file::number(line, from)
 }
 
 // The numbers that stand at a place, each after a space, put at the start of the table as far as it has room, and how many were put there.
@@ -114,10 +114,10 @@ fn run_case(
 ) -> usize
     ensures { λ r. ⌜ Within (now (out .entry)) to r ⌝ }
 {
-    if casefile::MOST < room {
+    if case_file::MOST < room {
         return put_text(out, to, b"too much room\n");
     }
-    let mut buffer = casefile::filled();
+    let mut buffer = case_file::filled();
     let a = write(header, text, rows, values, signature, room, &mut buffer);
     put_call(a.number, a.count, &buffer, out, to)
 }
@@ -129,17 +129,17 @@ fn run_given(line: &[u8], out: &mut [u8], to: usize) -> usize
     let mut fields = [0usize; 10];
     numbers(line, after(line, b'h'), &mut fields);
     let mut country = [0u8; 3];
-    casefile::runs(line, after(line, b'c'), &mut country);
+    case_file::runs(line, after(line, b'c'), &mut country);
     let mut text = [0u8; 400];
-    let size = casefile::runs(line, after(line, b't'), &mut text);
+    let size = case_file::runs(line, after(line, b't'), &mut text);
     let mut rows = [0usize; rows::MOST + 35];
     let count = numbers(line, after(line, b'r'), &mut rows);
     let mut values = [0u8; 8192];
-    let end = casefile::runs(line, after(line, b'v'), &mut values);
+    let end = case_file::runs(line, after(line, b'v'), &mut values);
     let mut signature = [0u8; 8192];
-    let length = casefile::runs(line, after(line, b'g'), &mut signature);
+    let length = case_file::runs(line, after(line, b'g'), &mut signature);
     let header = header_of(&fields, country);
-    let room = casefile::number(line, 2);
+    let room = case_file::number(line, 2);
     run_case(
         header,
         &text[..size],

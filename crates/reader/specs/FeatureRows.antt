@@ -6,7 +6,7 @@ use mathlib.Core.List.{List, [], _∷_}
 use Rattle.grammar.specs.Content.{Version}
 use Rattle.causes.specs.declared.Item.the-variants as item
 use Rattle.verdict.specs.Items.{Way, is, not, next, pass, byte, plainIn}
-use Rattle.items.specs.Meaning.{through}
+use Rattle.read_items.specs.Meaning.{through}
 use Rattle.verdict.specs.Judge.{Row, row}
 
 -- so many rows, and the place after the last

@@ -12,8 +12,8 @@ use Rattle.causes.specs.declared.Rule.the-variants as rule
 use Rattle.causes.specs.declared.Why.{Why}
 use Rattle.verdict.specs.Items.{is, not, why, pass}
 use Rattle.verdict.specs.Judge.{Row, accepted, refused, header, features, signature, verdict, reading, judging, judge}
-use Rattle.zones.specs.Steps.{Fields, Dated, fields, dated}
-use Rattle.zones.specs.Steps.Together.{headerOf, with-dated, then-dated, header-split}
+use Rattle.read_zones.specs.Steps.{Fields, Dated, fields, dated}
+use Rattle.read_zones.specs.Steps.Together.{headerOf, with-dated, then-dated, header-split}
 
 pub judge-long : (s : List ℕ) → 4096 < length s → judge s ≡ refused 1 4096
 unfolding judge judging

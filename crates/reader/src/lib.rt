@@ -11,15 +11,15 @@ mod table;
 use causes::Item;
 use causes::Rule;
 use dates::Date;
-use items::Cursor;
-pub use items::Header;
-use items::Refusal;
+use read_items::Cursor;
+pub use read_items::Header;
+use read_items::Refusal;
+use read_zones::Features;
+use read_zones::Front;
+use read_zones::Rest;
+use read_zones::Signature;
 use versions::Stated;
 use versions::Version;
-use zones::Features;
-use zones::Front;
-use zones::Rest;
-use zones::Signature;
 
 // The ends of the three zones, each one past the zone's last byte.
 pub struct Ends {
@@ -135,20 +135,20 @@ fn judge_items(seal: &[u8], names: &mut [u8; 259]) -> Judgement
     ensures text { λ r. ⌜ Named (verdict (now (seal .entry))) (now (names .exit)) ⌝ }
 {
     let mut country = [0u8; 3];
-    let front = zones::read_front(seal, &mut country, names);
+    let front = read_zones::read_front(seal, &mut country, names);
     let Front::Is(version, length, at) = front else {
         return not_good(front.why());
     };
-    let rest = zones::read_rest(at, seal);
+    let rest = read_zones::read_rest(at, seal);
     let Rest::Is(issued, signed, definition, category, message) = rest else {
         return not_good(rest.why());
     };
-    let features = zones::read_features(message, seal, version);
+    let features = read_zones::read_features(message, seal, version);
     let Features::Are(count, mark) = features else {
         return not_good(features.why());
     };
     let next = mark.place + 1;
-    let signature = zones::read_signature(Cursor { place: next }, seal);
+    let signature = read_zones::read_signature(Cursor { place: next }, seal);
     let Signature::Is(size, start) = signature else {
         return not_good(signature.why());
     };

@@ -10,7 +10,7 @@ use Rattle.verdict.specs.Judge.{Report, accepted}
 use Rattle.verdict.specs.Report.{part}
 use Rattle.reader.specs.Calls.{answerOf, text}
 use Rattle.reader.specs.declared.Reading.{Reading}
-use Rattle.given.specs.Given.{Given, given}
+use Rattle.write_given.specs.Given.{Given, given}
 
 -- from the seal, the answer, and the lent table and text after the reading
 abbrev pub againFrom : List ℕ → Reading → List ℕ → List ℕ → Given

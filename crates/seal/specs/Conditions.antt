@@ -1,7 +1,7 @@
 -- The tender's conditions of acceptance for reader and writer, as theorems: each after its sentence. What is cited stands in
 --   Legal, publish, signedBytes, Content           crates/grammar/specs (a grammar that knows nothing of reader and writer: crates.txt)
 --   reading, answerOf, rowsIn, textIn, then        crates/reader/specs/Calls.antt (the contract of `read`; of `judge`: crates/verdict/specs/Judge.antt), contentIn: Answer.antt there
---   writing, Lent, Sound                           crates/writer/specs/Calls.antt (the contract of `write`), Legal.antt there; contentOf: crates/given/specs/Given.antt
+--   writing, Lent, Sound                           crates/writer/specs/Calls.antt (the contract of `write`), Legal.antt there; contentOf: crates/write_given/specs/Given.antt
 --   told, filled                                   crates/format/specs/Answers.antt
 --   againFrom                                      crates/seal/specs/Again.antt
 -- C40 text, dates, INTEGERs and signature forms: condition 1 in Entries.antt beside this file, condition 2 in the file Exact.antt of c40, dates, integers and ecdsa.
@@ -32,7 +32,7 @@ use Rattle.reader.specs.Calls.Rooms.{given-accepted}
 use Rattle.reader.specs.Answer.{contentIn}
 use Rattle.reader.specs.Theorems as reader
 use Rattle.reader.specs.declared.Reading.{Reading}
-use Rattle.given.specs.Given.{Given, featuresOf, contentOf}
+use Rattle.write_given.specs.Given.{Given, featuresOf, contentOf}
 use Rattle.writer.specs.Calls.{writing}
 use Rattle.writer.specs.Legal.{Lent, Sound, written-legal, legal-written}
 use Rattle.writer.specs.Theorems as writer

@@ -1,5 +1,5 @@
 // Runs the cases of data/ through the compiled calls, and writes a line for each: what was answered, and what stands in the lent memory.
-ghost use Rattle.casefile.specs.Line.{Within, Counts};
+ghost use Rattle.case_file.specs.Line.{Within, Counts};
 use libc::STDOUT_FILENO;
 
 // Which calls a file has cases of.
@@ -35,7 +35,7 @@ fn run_all(calls: Calls, cases: &[u8], out: &mut [u8]) -> usize
     let mut from: usize = 0;
     let mut to: usize = 0;
     while from < cases.len() {
-        let end = casefile::line_end(cases, from);
+        let end = case_file::line_end(cases, from);
         to = run_line(calls, &cases[from..end], out, to);
         from = end + 1;
     }

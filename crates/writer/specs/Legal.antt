@@ -20,9 +20,9 @@ use Rattle.grammar.specs.Legal.{Legal}
 use Rattle.format.specs.Choice.Laws.{both-true, both-are, within-true, within-both}
 use Rattle.rows.specs.Rows.{rowsOf, Whole, isWhole}
 use Rattle.rows.specs.Rows.Laws.{whole-true, whole-is}
-use Rattle.given.specs.Tests.{areRows}
-use Rattle.given.specs.Given.{Given, contentAs, contentOf}
-use Rattle.given.specs.Given.Laws.{says, said}
+use Rattle.write_given.specs.Tests.{areRows}
+use Rattle.write_given.specs.Given.{Given, contentAs, contentOf}
+use Rattle.write_given.specs.Given.Laws.{says, said}
 use Rattle.writer.specs.Calls.{writing}
 use Rattle.writer.specs.Legal.Order.{done-passes, passes-done}
 use Rattle.writer.specs.Legal.Names.{names-legal, names-pass}

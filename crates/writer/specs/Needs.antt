@@ -16,9 +16,9 @@ use Rattle.grammar.specs.Publish.{carried, hexDigits, names, publish}
 use Rattle.letters.specs.Characters.{isReference, all, isSigner}
 use Rattle.rows.specs.declared.Row.{Row}
 use Rattle.verdict.specs.Judge.{isSignature}
-use Rattle.items.specs.declared.Header.{Header}
-use Rattle.given.specs.Tests.{isTextSize, areNames, areDays, areLast, isTable, areValues}
-use Rattle.given.specs.Given.{Given, threeOf, contentAs}
+use Rattle.read_items.specs.declared.Header.{Header}
+use Rattle.write_given.specs.Tests.{isTextSize, areNames, areDays, areLast, isTable, areValues}
+use Rattle.write_given.specs.Given.{Given, threeOf, contentAs}
 
 -- a buffer has room for these bytes from a place on
 abbrev pub Room : List ℕ → ℕ → List ℕ → Type 0

@@ -13,10 +13,10 @@ use Rattle.dates.specs.Days.{isDay, publish as date}
 use Rattle.der.specs.Length.{form}
 use Rattle.grammar.specs.Publish.{headerZone, messageZone, signatureZone, signedBytes, publish}
 use Rattle.grammar.specs.Examples.{uto, utab, ref-00001, spring, seal-a}
-use Rattle.items.specs.declared.Header.{Header}
-use Rattle.given.specs.Tests.{areRows, areShort}
+use Rattle.read_items.specs.declared.Header.{Header}
+use Rattle.write_given.specs.Tests.{areRows, areShort}
 use Rattle.rows.specs.Rows.{numbers, valued, rowAt, table, firstRows, rowsOf}
-use Rattle.given.specs.Given.{Given, given, contentAs}
+use Rattle.write_given.specs.Given.{Given, given, contentAs}
 use Rattle.writer.specs.Calls.{writingAs, writing}
 
 abbrev header-a : Header

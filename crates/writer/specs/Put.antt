@@ -31,7 +31,7 @@ use Rattle.rows.specs.declared.Row.{Row}
 use Rattle.rows.specs.Rows.{width, rowAt, rowsOf}
 use Rattle.rows.specs.Rows.Laws.{rows-here, rows-end}
 use Rattle.writer.specs.Needs.{Room, Named, Measured, Fits, Fitting, spelled, sixOf}
-use Rattle.given.specs.Tests.Laws.{size-four}
+use Rattle.write_given.specs.Tests.Laws.{size-four}
 use Rattle.writer.specs.Needs.Laws.{spelled-six, six-text, reference-text}
 
 -- what a part of a buffer holds, from a place on, put back

@@ -15,7 +15,7 @@ use Rattle.format.specs.Order.Laws.{each-way, first-number}
 use Rattle.versions.specs.declared.Version.{Version}
 use Rattle.versions.specs.Versions.{versionOf}
 use Rattle.grammar.specs.Publish.{publish}
-use Rattle.given.specs.Given.{Given, contentAs}
+use Rattle.write_given.specs.Given.{Given, contentAs}
 use Rattle.writer.specs.Calls.{inVersion, testsAs, writingAs, writing}
 
 -- done, or one of 20 to 28 with place 0 and nothing written

@@ -30,10 +30,10 @@ use Rattle.rows.specs.Rows.{rowsOf, isWhole}
 use Rattle.verdict.specs.Judge.{used, isSignature}
 use Rattle.verdict.specs.Judge.Complete.{size-small}
 use Rattle.verdict.specs.Judge.Sound.{size-of}
-use Rattle.items.specs.declared.Header.{Header}
-use Rattle.given.specs.Tests.Laws.{size-three, size-four, sized-head}
-use Rattle.given.specs.Tests.{isTextSize, isRow, areRows, isTable, areSized}
-use Rattle.given.specs.Given.{threeOf, Given, contentAs}
+use Rattle.read_items.specs.declared.Header.{Header}
+use Rattle.write_given.specs.Tests.Laws.{size-three, size-four, sized-head}
+use Rattle.write_given.specs.Tests.{isTextSize, isRow, areRows, isTable, areSized}
+use Rattle.write_given.specs.Given.{threeOf, Given, contentAs}
 use Rattle.writer.specs.Needs.{Room, Fitting, Named, Headed, Dated, front, rest, Passed, spelled}
 use Rattle.writer.specs.SealSize.{rowsSize, namesSize, sealSize}
 use Rattle.writer.specs.Put.{zone-none, zone-cons, names-three, names-four, spelled-long}

@@ -16,10 +16,10 @@ use Rattle.dates.specs.Days.{isDay, firstDay, lastDay, publish as date}
 use Rattle.der.specs.Length.{form}
 use Rattle.grammar.specs.Publish.{headerZone, messageZone, signatureZone, signedBytes, publish}
 use Rattle.grammar.specs.Examples.{uto, utab, ref-00001, d-fillers, spring, content-a, seal-a, content-b, signed-b}
-use Rattle.items.specs.declared.Header.{Header}
-use Rattle.given.specs.Tests.{areRows, areShort}
+use Rattle.read_items.specs.declared.Header.{Header}
+use Rattle.write_given.specs.Tests.{areRows, areShort}
 use Rattle.rows.specs.Rows.{numbers, valued, rowAt, table, firstRows, rowsOf}
-use Rattle.given.specs.Given.{Given, contentAs, contentOf, given}
+use Rattle.write_given.specs.Given.{Given, contentAs, contentOf, given}
 use Rattle.writer.specs.Calls.{writingAs, writing}
 
 -- Seal A as it is given: header, text, one row over four bytes, signature

@@ -2,14 +2,14 @@
 ghost use mathlib.Core.Path.{_≡_};
 ghost use lib.ListN.{length};
 ghost use Rattle.format.specs.Answers.{told, filled};
-ghost use Rattle.given.specs.Given.{given};
+ghost use Rattle.write_given.specs.Given.{given};
 ghost use Rattle.writer.specs.Calls.{writing, writingOf};
 
 mod names;
 mod put;
 mod size;
 
-use items::Header;
+use read_items::Header;
 use versions::Stated;
 use versions::Version;
 
@@ -53,22 +53,22 @@ pub fn write(
     let Stated::Is(version) = Version::from_number(header.version) else {
         return Writing::Version;
     };
-    if !given::are_names(version, header, text) {
+    if !write_given::are_names(version, header, text) {
         return Writing::Names;
     }
-    if !given::are_days(header) {
+    if !write_given::are_days(header) {
         return Writing::Dates;
     }
-    if !given::are_last(header) {
+    if !write_given::are_last(header) {
         return Writing::Last;
     }
-    if !given::are_rows(rows, values.len()) {
+    if !write_given::are_rows(rows, values.len()) {
         return Writing::Rows;
     }
-    if !given::are_values(version, rows) {
+    if !write_given::are_values(version, rows) {
         return Writing::Values;
     }
-    if !items::is_signature(signature.len()) {
+    if !read_items::is_signature(signature.len()) {
         return Writing::Signature;
     }
     let size = size::seal_size(version, text.len(), rows, signature.len());

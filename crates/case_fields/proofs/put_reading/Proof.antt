@@ -1,7 +1,7 @@
 -- `case_fields::put_reading` meets its contract: number, place and fields, each within the room that the one before it left.
 -- Assumes nothing.
 use borrow.Author.Needs.{needs}
-use Rattle.casefile.specs.Line.Laws.{within-more}
+use Rattle.case_file.specs.Line.Laws.{within-more}
 use Rattle.case_fields.proofs.put_reading.Statement.{statement}
 use Rattle.case_fields.proofs.put_reading.Tie as tie
 

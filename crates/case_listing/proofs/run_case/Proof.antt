@@ -2,7 +2,7 @@
 -- Assumes nothing.
 use borrow.Author.Needs.{needs}
 use Rattle.lines.specs.Line.{Counts}
-use Rattle.casefile.specs.Line.Laws.{within-more}
+use Rattle.case_file.specs.Line.Laws.{within-more}
 use Rattle.listing.specs.Listed.Laws.{listed-counts, listed-length}
 use Rattle.case_listing.proofs.run_case.Statement.{statement}
 use Rattle.case_listing.proofs.run_case.Tie as tie

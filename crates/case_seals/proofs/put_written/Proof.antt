@@ -1,7 +1,7 @@
 -- `case_seals::put_written` meets its contract: rows, text and what was kept, each within the room that the one before it left.
 -- Assumes nothing.
 use borrow.Author.Needs.{needs}
-use Rattle.casefile.specs.Line.Laws.{within-more}
+use Rattle.case_file.specs.Line.Laws.{within-more}
 use Rattle.case_seals.proofs.put_written.Statement.{statement}
 use Rattle.case_seals.proofs.put_written.Tie as tie
 

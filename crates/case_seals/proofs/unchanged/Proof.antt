@@ -6,8 +6,8 @@ use native.Mathlib.Numerals.{add-one}
 use mathlib.Core.Path.{_≡_, refl, sym, _∙_}
 use Prim.Native.Nat.{_-_}
 use lib.ListN.{length, drop}
-use Rattle.casefile.specs.Fill.{allAre}
-use Rattle.casefile.specs.Fill.Laws.{all-turn, all-not, all-end}
+use Rattle.case_file.specs.Fill.{allAre}
+use Rattle.case_file.specs.Fill.Laws.{all-turn, all-not, all-end}
 use Rattle.case_seals.proofs.unchanged.Statement.{statement}
 use Rattle.case_seals.proofs.unchanged.Tie as tie
 

@@ -5,7 +5,7 @@ use native.Mathlib.Omega.{arith}
 use mathlib.Core.Path.{_≡_, refl}
 use Prim.Native.Nat.{_-_, _≤_}
 use lib.ListN.{length, length-set}
-use Rattle.casefile.specs.Line.Laws.{counts}
+use Rattle.case_file.specs.Line.Laws.{counts}
 use Rattle.case_writing.proofs.numbers.Statement.{statement}
 use Rattle.case_writing.proofs.numbers.Tie as tie
 

@@ -8,14 +8,14 @@ use Prim.Native.Nat.{_+_, _≤_}
 use lib.ListN.{length}
 use denote.Ref.{now}
 use Rattle.verdict.specs.Items.{not}
-use Rattle.items.specs.Meaning.{whyOf}
+use Rattle.read_items.specs.Meaning.{whyOf}
 use Rattle.verdict.specs.Judge.{features, signature as signatureAt}
-use Rattle.zones.specs.Steps.{fields, dated, frontOf, restOf, featuresOf, signatureOf}
-use Rattle.zones.specs.Steps.Laws.{through-unread}
-use Rattle.zones.specs.Steps.Together.{Counted, counted, fields-known}
-use Rattle.zones.specs.declared.fields.Front.the-variants as front
-use Rattle.zones.specs.declared.fields.Rest.the-variants as rest
-use Rattle.zones.specs.declared.signature.Signature.the-variants as signature
+use Rattle.read_zones.specs.Steps.{fields, dated, frontOf, restOf, featuresOf, signatureOf}
+use Rattle.read_zones.specs.Steps.Laws.{through-unread}
+use Rattle.read_zones.specs.Steps.Together.{Counted, counted, fields-known}
+use Rattle.read_zones.specs.declared.fields.Front.the-variants as front
+use Rattle.read_zones.specs.declared.fields.Rest.the-variants as rest
+use Rattle.read_zones.specs.declared.signature.Signature.the-variants as signature
 use Rattle.reader.specs.Judged.{judge-fields, judge-dated, judge-features, judge-signature, judge-accepted}
 use Rattle.reader.specs.FeatureRows.Laws.{mark-inside}
 use Rattle.reader.specs.Calls.Laws.{judged-refused, judged-accepted}

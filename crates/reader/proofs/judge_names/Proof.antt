@@ -4,7 +4,7 @@ use borrow.Author.Needs.{needs}
 use native.Mathlib.Omega.{arith}
 use mathlib.Core.Path.{_∙_, ap}
 use Rattle.causes.specs.Causes.{ruleNumber}
-use Rattle.items.specs.declared.cursor.Refusal.{Refusal}
+use Rattle.read_items.specs.declared.cursor.Refusal.{Refusal}
 use Rattle.verdict.specs.Judge.{refused}
 use Rattle.reader.specs.Calls.{judgementOf}
 use Rattle.reader.specs.Judged.{judge-long}

@@ -7,8 +7,8 @@ use lib.ListN.{length, take, drop}
 use lib.Seq.{take-add}
 use Rattle.versions.specs.Versions.{versionNumber}
 use Rattle.verdict.specs.Judge.{Row, Report, accepted, refused, judge}
-use Rattle.zones.specs.Steps.{Fields, Dated}
-use Rattle.zones.specs.Steps.Together.{Known, headerOf}
+use Rattle.read_zones.specs.Steps.{Fields, Dated}
+use Rattle.read_zones.specs.Steps.Together.{Known, headerOf}
 use Rattle.reader.specs.Calls.{judged, judgementOf, Named}
 use Rattle.reader.specs.declared.Judgement.{Judgement}
 

@@ -14,7 +14,7 @@ use Rattle.causes.specs.declared.Rule.the-variants as rule
 use Rattle.verdict.specs.Items.{Way, is, not, why, pass, byte, plainIn}
 use Rattle.verdict.specs.Items.Laws.{unread, whole-read}
 use Rattle.verdict.specs.Items.Sound.{steps, steps-on, same-value, same-place}
-use Rattle.items.specs.Meaning.Laws.{whole-is, read-byte}
+use Rattle.read_items.specs.Meaning.Laws.{whole-is, read-byte}
 use Rattle.verdict.specs.Judge.{Row, used, tagIn, tag, row, features}
 use Rattle.reader.specs.FeatureRows.{rowsAt, rowsRead, AreRead}
 

@@ -30,8 +30,8 @@ use Rattle.reader.specs.Answer.{contentIn}
 use Rattle.reader.specs.Answer.Laws.{held}
 use Rattle.reader.specs.Theorems.{accepted-when}
 use Rattle.writer.specs.Legal.Names.{three-of}
-use Rattle.given.specs.Given.{Given, featuresOf, contentAs, contentOf}
-use Rattle.given.specs.Given.Laws.{Says, says}
+use Rattle.write_given.specs.Given.{Given, featuresOf, contentAs, contentOf}
+use Rattle.write_given.specs.Given.Laws.{Says, says}
 use Rattle.writer.specs.Calls.{writing}
 use Rattle.writer.specs.Legal.{Sound, Written, legal-written}
 use Rattle.seal.specs.Again.{again}

@@ -14,9 +14,9 @@ use Rattle.versions.specs.declared.Version.{Version}
 use Rattle.versions.specs.Versions.{versionOf, statedOf}
 use Rattle.grammar.specs.Publish.{publish}
 use Rattle.verdict.specs.Judge.{isSignature}
-use Rattle.given.specs.Tests.Laws.{size-any}
-use Rattle.given.specs.Tests.{areNames, areDays, areLast, isTable, areValues}
-use Rattle.given.specs.Given.{Given, given, contentAs}
+use Rattle.write_given.specs.Tests.Laws.{size-any}
+use Rattle.write_given.specs.Tests.{areNames, areDays, areLast, isTable, areValues}
+use Rattle.write_given.specs.Given.{Given, given, contentAs}
 use Rattle.writer.specs.Calls.Laws.{writing-version, writing-names, writing-days, writing-last, writing-rows, writing-values, writing-signature, writing-long, writing-no-room, writing-done}
 use Rattle.writer.specs.Needs.{Headed}
 use Rattle.writer.specs.Together.{headed-named, signature-most, seal-size}

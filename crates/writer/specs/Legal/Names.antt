@@ -18,9 +18,9 @@ use Rattle.grammar.specs.Pins.{filled-three}
 use Rattle.format.specs.Choice.Laws.{both-true, both-are, either-true, either-left, either-right, within-true, within-both}
 use Rattle.letters.specs.Characters.Grammar.{letter, reference-passes, all-pass, signer-passes, reference-of, all-of, signer-of}
 use Rattle.letters.specs.Characters.{isLetter, isReference, all, isSigner, isCountry}
-use Rattle.items.specs.declared.Header.{Header}
-use Rattle.given.specs.Tests.{isTextSize, areNames}
-use Rattle.given.specs.Given.{threeOf}
+use Rattle.read_items.specs.declared.Header.{Header}
+use Rattle.write_given.specs.Tests.{isTextSize, areNames}
+use Rattle.write_given.specs.Given.{threeOf}
 
 -- a country of three characters
 third-is : (c : ℕ) → either (isLetter c) (eqb c 60) ≡ true → Letter c ⊎ Filler c

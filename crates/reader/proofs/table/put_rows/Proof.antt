@@ -10,7 +10,7 @@ use denote.Ref.{now}
 use lib.ListN.{length}
 use Rattle.grammar.specs.Content.{Version}
 use Rattle.verdict.specs.Items.{is, byte, plainIn, featureLength}
-use Rattle.items.specs.Meaning.{byteOf, numberOf}
+use Rattle.read_items.specs.Meaning.{byteOf, numberOf}
 use Rattle.rows.specs.Rows.{width}
 use Rattle.reader.proofs.table.put_rows.Proof.Turn.{Put, put-start, put-length, put-end}
 use Rattle.reader.proofs.table.put_rows.Proof.Turn.{put-tag, put-size, put-value, put-room, put-more}

@@ -11,7 +11,7 @@ use lib.Seq.{take-all}
 use Rattle.format.specs.Buffer.{over}
 use Rattle.format.specs.Hex.{hexDigit}
 use Rattle.writer.specs.Needs.{Room, sixOf}
-use Rattle.given.specs.Tests.Laws.{size-three, size-four}
+use Rattle.write_given.specs.Tests.Laws.{size-three, size-four}
 use Rattle.writer.specs.Needs.Laws.{named-text}
 use Rattle.writer.specs.Put.{names-three, six-asks, reference-asks, names-put}
 use Rattle.writer.proofs.names.put_names.Statement.{statement}

@@ -12,7 +12,7 @@ use Rattle.format.specs.Buffer.Laws.{length-over}
 use Rattle.c40.specs.Text.{Text}
 use Rattle.versions.specs.Versions.{versionByte}
 use Rattle.grammar.specs.Publish.{carried}
-use Rattle.given.specs.Given.{threeOf}
+use Rattle.write_given.specs.Given.{threeOf}
 use Rattle.writer.specs.Needs.{front}
 use Rattle.writer.specs.Needs.Laws.{country-text}
 use Rattle.writer.specs.Together.{headed-country, headed-named, front-room, names-room, put-front}

@@ -4,7 +4,7 @@ use borrow.Author.Needs.{needs}
 use native.Mathlib.Omega.{arith}
 use denote.Ref.{now}
 use lib.ListN.{length}
-use Rattle.given.specs.Given.{Given, given}
+use Rattle.write_given.specs.Given.{Given, given}
 use Rattle.writer.specs.Together.{passed-fit, signature-most, seal-front, seal-rest, seal-rows, seal-mark, put-seal}
 use Rattle.writer.proofs.put.put_seal.Statement.{statement}
 use Rattle.writer.proofs.put.put_seal.Tie as tie

@@ -13,7 +13,7 @@ use Rattle.causes.specs.declared.Rule.the-variants as rule
 use Rattle.verdict.specs.Items.{Way, is, not, next, pass, whole, byte, plainIn, featureLength}
 use Rattle.verdict.specs.Items.Laws.{unread, whole-read}
 use Rattle.verdict.specs.Items.Sound.{steps, steps-on, same-value, same-place}
-use Rattle.items.specs.Meaning.{through}
+use Rattle.read_items.specs.Meaning.{through}
 use Rattle.rows.specs.declared.Row.{Row}
 use Rattle.rows.specs.Rows.{width, numbers, rowPut, table}
 use Rattle.rows.specs.Rows.Laws.{length-numbers, table-end, put-row}

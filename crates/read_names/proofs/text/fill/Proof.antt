@@ -1,0 +1,101 @@
+-- `read_names::text::fill` meets its contract: what the reading of C40 answers says whether the text fills its room, and else where not.
+-- Assumes nothing.
+use borrow.Author.Needs.{needs}
+use native.Mathlib.Omega.{arith}
+use mathlib.Core.Path.{_≡_, _∙_, ap}
+use mathlib.Core.Logic.{inl, inr}
+use Prim.Native.Nat.{_-_}
+use mathlib.Core.List.{[], _∷_}
+use types.Run.{OneOf}
+use denote.Enum.Declared.{tagOf}
+use Rattle.c40.specs.declared.Reading.{Reading}
+use Rattle.c40.specs.declared.Reading.the-variants as reading
+use Rattle.c40.specs.Calls.{readingOf}
+use Rattle.c40.proofs.Reading.{the-type}
+use Rattle.verdict.specs.Items.{wrongAt}
+use Rattle.read_names.specs.Meaning.Text.{filled-exactly, filled-less, filled-wrong, filled-more}
+use Rattle.read_names.proofs.text.fill.Statement.{statement}
+use Rattle.read_names.proofs.text.fill.Tie as tie
+
+-- each other case is neither done nor a wrong pair
+other : (r : Reading) → OneOf (1 ∷ 2 ∷ 4 ∷ []) (tagOf the-type r) → (readingOf r .number ≡ 0 → ⊥) × (readingOf r .number ≡ 41 → ⊥)
+other (reading.Done count) (inl e) = absurd (omega arith)
+other (reading.Done count) (inr (inl e)) = absurd (omega arith)
+other (reading.Done count) (inr (inr e)) = absurd (omega arith)
+other (reading.WrongPair fault at) (inl e) = absurd (omega arith)
+other (reading.WrongPair fault at) (inr (inl e)) = absurd (omega arith)
+other (reading.WrongPair fault at) (inr (inr e)) = absurd (omega arith)
+other reading.TooLong k = ((λ e. omega arith), (λ e. omega arith))
+other (reading.Odd at) k = ((λ e. omega arith), (λ e. omega arith))
+other reading.NoRoom k = ((λ e. omega arith), (λ e. omega arith))
+
+sub-last : tie.Need-sub-last
+sub-last c = omega (arith, c .before .before .pre)
+
+returns : tie.Need-returns
+returns c =
+    let read = c .before .before .before .before .before .before .read in
+    let start = c .before .before .before .before .before .before .before .before .before .before in
+    filled-exactly (start .args .bytes .now) (start .args .text .now) (read .last .1 .0) (start .pre) (read .result) (read .ensures .0)
+    (read .ensures .1) _ (c .before .before .read2 .given .1) (c .if1 .taken)
+
+returns-2 : tie.Need-returns-2
+returns-2 c =
+    let read = c .before .before .before .before .before .before .read in
+    let start = c .before .before .before .before .before .before .before .before .before .before in
+    ap (λ k. wrongAt (k - 2)) (start .pre .0)
+    ∙ filled-less (start .args .bytes .now) (start .args .text .now) (read .last .1 .0) (start .pre) (read .result) (read .ensures .0)
+    (read .ensures .1) _ (c .before .before .read2 .given .1) (c .if1 .left)
+
+returns-3 : tie.Need-returns-3
+returns-3 c =
+    let read = c .before .before .before .before .before .read in
+    let start = c .before .before .before .before .before .before .before .before .before in
+    filled-wrong (start .args .bytes .now) (start .args .text .now) (read .last .1 .0) (start .pre) (read .result) (read .ensures .0)
+    (read .ensures .1) _ _ (c .before .read3 .given .1)
+
+returns-4 : tie.Need-returns-4
+returns-4 c =
+    let read = c .before .before .before .read in
+    let start = c .before .before .before .before .before .before .before in
+    ap (λ k. wrongAt (k - 2)) (start .pre .0)
+    ∙ filled-more (start .args .bytes .now) (start .args .text .now) (read .last .1 .0) (start .pre) (read .result) (read .ensures .0)
+    (read .ensures .1) (other (read .result) (c .match .keys3) .0) (other (read .result) (c .match .keys3) .1)
+
+read-requires : tie.Need-read-requires
+read-requires c κs = search needs
+
+enum-known-read : tie.Need-enum-known-read
+enum-known-read c = search needs
+
+same-length : tie.Need-same-length
+same-length c = search needs
+
+enum-known-read-2 : tie.Need-enum-known-read-2
+enum-known-read-2 c = search needs
+
+same-length-2 : tie.Need-same-length-2
+same-length-2 c = search needs
+
+same-length-3 : tie.Need-same-length-3
+same-length-3 c = search needs
+
+same-length-4 : tie.Need-same-length-4
+same-length-4 c = search needs
+
+pub fill-spec : {M : Type 1} → statement M
+fill-spec =
+    tie.close
+    (tie.spec
+    sub-last
+    read-requires
+    enum-known-read
+    same-length
+    returns
+    enum-known-read-2
+    same-length-2
+    returns-2
+    same-length-3
+    returns-3
+    same-length-4
+    returns-4)
