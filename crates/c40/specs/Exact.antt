@@ -1,4 +1,5 @@
--- The codec, exactly: what is written is the published form, what is read is the text whose published form it is, and text of k characters can be
+-- The codec, exactly: what is written is the published form, what is read is the text whose published form it is, and
+-- text of k characters can be
 -- cut off the front of a byte string in one way only.
 -- Assumes nothing.
 use mathlib.Core.Path.{_≡_, refl, ap, sym, subst, _∙_}
@@ -28,7 +29,8 @@ use Rattle.pairs.specs.declared.decode.Fault.the-variants.{WronglyCoded}
 use Rattle.pairs.specs.declared.decode.Pair.{Pair}
 use Rattle.pairs.specs.declared.decode.Pair.the-variants.{Wrong}
 use Rattle.c40.specs.Calls.{known, reading, writing}
-use Rattle.c40.specs.Calls.Laws.{known-text, text-known, reading-long, reading-odd, reading-wrong, reading-no-room, reading-done, writing-long, writing-stranger, writing-no-room, writing-done}
+use Rattle.c40.specs.Calls.Laws.{known-text, text-known, reading-long, reading-odd, reading-wrong, reading-no-room, reading-done}
+use Rattle.c40.specs.Calls.Laws.{writing-long, writing-stranger, writing-no-room, writing-done}
 
 -- the published form of text decodes as that text
 pub published-decodes : (t : List ℕ) → Text t → (at : ℕ) → decode at (publish t) ≡ text t
@@ -51,7 +53,10 @@ three-ahead (a ∷ []) u e = absurd (omega arith)
 three-ahead (a ∷ b ∷ []) u e = absurd (omega arith)
 three-ahead (a ∷ b ∷ c ∷ []) u e =
     publish-three a b c u
-    ∙ ap (λ q. q ++ publish u) (sym (append-nil (triple (valueOf a) (valueOf b) (valueOf c))) ∙ ap (λ q. triple (valueOf a) (valueOf b) (valueOf c) ++ q) (sym publish-none) ∙ sym (publish-three a b c []))
+    ∙ ap (λ q. q ++ publish u)
+    (sym (append-nil (triple (valueOf a) (valueOf b) (valueOf c)))
+    ∙ ap (λ q. triple (valueOf a) (valueOf b) (valueOf c) ++ q) (sym publish-none)
+    ∙ sym (publish-three a b c []))
 three-ahead (a ∷ b ∷ c ∷ d ∷ p) u e = absurd (omega arith)
 
 -- nothing is published of nothing alone
@@ -112,7 +117,11 @@ cut-text k a b t u la lb e =
     (one-text a b (la .1) (lb .1) (c .0), c .1)
 
 -- `read` answers 0 exactly when the bytes are the published form of text, not too long, and there is room; and what it writes is that text.
-pub reads-only-published : (s : List ℕ) (room : ℕ) (t : List ℕ) → Bytes s → reading s room ≡ done t → Text t × (publish t ≡ s) × (length s ≤ 4096) × (length t ≤ room)
+pub reads-only-published :
+    (s : List ℕ) (room : ℕ) (t : List ℕ) →
+    Bytes s →
+    reading s room ≡ done t →
+    Text t × (publish t ≡ s) × (length s ≤ 4096) × (length t ≤ room)
 reads-only-published s room t bytes e =
     by-test (ltb 4096 (length s))
     (λ long. absurd (never 45 0 (omega arith) (reading-long s room (ltb-true 4096 (length s) long))))
@@ -123,7 +132,12 @@ reads-only-published s room t bytes e =
     never : (number place : ℕ) → 0 < number → reading s room ≡ refused number place → ⊥
     never number place h f = omega (arith, ap (λ o. o .number) (sym f ∙ e))
 
-    pairs : length s ≤ 4096 → (length s % 2 ≡ 1 → ⊥) → (d : Decoded) → decode 0 s ≡ d → Text t × (publish t ≡ s) × (length s ≤ 4096) × (length t ≤ room)
+    pairs :
+        length s ≤ 4096 →
+        (length s % 2 ≡ 1 → ⊥) →
+        (d : Decoded) →
+        decode 0 s ≡ d →
+        Text t × (publish t ≡ s) × (length s ≤ 4096) × (length t ≤ room)
     pairs size even (wrong fault at) f = absurd (never 41 at (omega arith) (reading-wrong s room size even fault at f))
     pairs size even (text u) f =
         by-test (ltb room (length u))
@@ -138,12 +152,17 @@ reads-published t room h size fits =
     reading-done (publish t) room size (λ odd. omega (arith, length-publish t)) t (published-decodes t h 0) fits
 
 -- `write` answers 0 exactly when the characters are text, not too many, and there is room; and what it writes is the published form.
-pub writes-only-text : (t : List ℕ) (room : ℕ) (s : List ℕ) → writing t room ≡ done s → Text t × (publish t ≡ s) × (length t ≤ 6144) × (width (length t) ≤ room)
+pub writes-only-text :
+    (t : List ℕ) (room : ℕ) (s : List ℕ) →
+    writing t room ≡ done s →
+    Text t × (publish t ≡ s) × (length t ≤ 6144) × (width (length t) ≤ room)
 writes-only-text t room s e =
     by-test (ltb 6144 (length t))
     (λ long. absurd (never 45 0 (omega arith) (writing-long t room (ltb-true 6144 (length t) long))))
     (λ size. by-test (ltb (known t) (length t))
-    (λ odd. absurd (never 43 (known t) (omega arith) (writing-stranger t room (ltb-false 6144 (length t) size) (ltb-true (known t) (length t) odd))))
+    (λ odd.
+    absurd
+    (never 43 (known t) (omega arith) (writing-stranger t room (ltb-false 6144 (length t) size) (ltb-true (known t) (length t) odd))))
     (λ good. chars (ltb-false 6144 (length t) size) (ltb-false (known t) (length t) good)))
   where
     never : (number place : ℕ) → 0 < number → writing t room ≡ refused number place → ⊥
@@ -166,7 +185,12 @@ written-reads t room room′ s e fits =
     let w = writes-only-text t room s e in
     subst (λ v. reading v room′ ≡ done t) (w .1) (reads-published t room′ (w .0) (omega (arith, length-publish t)) fits)
 
-pub read-writes : (s : List ℕ) (room room′ : ℕ) (t : List ℕ) → Bytes s → reading s room ≡ done t → length s ≤ room′ → writing t room′ ≡ done s
+pub read-writes :
+    (s : List ℕ) (room room′ : ℕ) (t : List ℕ) →
+    Bytes s →
+    reading s room ≡ done t →
+    length s ≤ room′ →
+    writing t room′ ≡ done s
 read-writes s room room′ t bytes e fits =
     let r = reads-only-published s room t bytes e in
     let many : width (length t) ≡ length s = sym (length-publish t) ∙ ap length (r .1) in

@@ -24,7 +24,23 @@ use Rattle.writer.specs.Calls.{writing}
 use Rattle.face.specs.Face.{filledWith, filledOf, datedOf, numberedOf, integerOf, hashedOf}
 
 -- the writer: version 5
-version-5 : filledOf (told (writing (given (record { version = 5; country = []; length = 0; issued = record { month = 0; day = 0; year = 0 }; signed = record { month = 0; day = 0; year = 0 }; definition = 0; category = 0 }) [] [] [] []) 0)) ≡ filledWith 20 0 0
+version-5 :
+    filledOf
+    (told
+    (writing
+    (given
+    (record {
+      version = 5;
+      country = [];
+      length = 0;
+      issued = record { month = 0; day = 0; year = 0 };
+      signed = record { month = 0; day = 0; year = 0 };
+      definition = 0;
+      category = 0;
+    })
+    [] [] [] [])
+    0))
+    ≡ filledWith 20 0 0
 unfolding writing
 version-5 = refl
 

@@ -20,7 +20,9 @@ keptWords buffer count =
 
 -- the text ` more than the buffer has`
 abbrev pub tooMany : List ℕ
-tooMany = 32 ∷ 109 ∷ 111 ∷ 114 ∷ 101 ∷ 32 ∷ 116 ∷ 104 ∷ 97 ∷ 110 ∷ 32 ∷ 116 ∷ 104 ∷ 101 ∷ 32 ∷ 98 ∷ 117 ∷ 102 ∷ 102 ∷ 101 ∷ 114 ∷ 32 ∷ 104 ∷ 97 ∷ 115 ∷ []
+tooMany =
+    32 ∷ 109 ∷ 111 ∷ 114 ∷ 101 ∷ 32 ∷ 116 ∷ 104 ∷ 97 ∷ 110 ∷ 32 ∷ 116 ∷ 104 ∷ 101 ∷ 32 ∷ 98 ∷ 117 ∷ 102 ∷ 102 ∷ 101 ∷ 114 ∷ 32 ∷ 104 ∷ 97
+    ∷ 115 ∷ []
 
 -- the bytes counted, after a space; nothing if there are none
 abbrev pub writtenWords : List ℕ → ℕ → List ℕ
@@ -28,4 +30,6 @@ writtenWords buffer count = cond (eqb count 0) [] (cond (ltb (length buffer) cou
 
 -- ` wrote `, the count, the words on the bytes past it, the bytes, and a newline
 abbrev pub filledLine : List ℕ → ℕ → List ℕ
-filledLine buffer count = (32 ∷ 119 ∷ 114 ∷ 111 ∷ 116 ∷ 101 ∷ 32 ∷ []) ++ (decimalOf count ++ (keptWords buffer count ++ (writtenWords buffer count ++ (10 ∷ []))))
+filledLine buffer count =
+    (32 ∷ 119 ∷ 114 ∷ 111 ∷ 116 ∷ 101 ∷ 32 ∷ [])
+    ++ (decimalOf count ++ (keptWords buffer count ++ (writtenWords buffer count ++ (10 ∷ []))))

@@ -29,4 +29,5 @@ weighted k (b ∷ t) = k * b + weighted (suc k) t
 unfoldable pub shown : List ℕ → List ℕ
 shown s =
     cond (leb (length s) 24) (hexOf s)
-    (hexOf (take 8 s) ++ ((46 ∷ 46 ∷ []) ++ (hexOf (drop (length s - 8) s) ++ ((32 ∷ 115 ∷ 117 ∷ 109 ∷ 32 ∷ []) ++ decimalOf (weighted 1 s % 65521)))))
+    (hexOf (take 8 s)
+    ++ ((46 ∷ 46 ∷ []) ++ (hexOf (drop (length s - 8) s) ++ ((32 ∷ 115 ∷ 117 ∷ 109 ∷ 32 ∷ []) ++ decimalOf (weighted 1 s % 65521)))))

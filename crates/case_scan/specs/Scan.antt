@@ -69,7 +69,9 @@ numberEnd s from = from + widthOf 0 (drop from s)
 
 -- a run at a place, pairs and perhaps `*COUNT`, which puts them down COUNT times but never less than once; and where it ends
 unfoldable pub runAt : List ℕ → ℕ → List ℕ
-runAt s from = cond (eqb (getD s (pairsEnd s from) 10) 42) (pairsAt s from ++ times (numberAt s (pairsEnd s from + 1) - 1) (pairsAt s from)) (pairsAt s from)
+runAt s from =
+    cond (eqb (getD s (pairsEnd s from) 10) 42) (pairsAt s from ++ times (numberAt s (pairsEnd s from + 1) - 1) (pairsAt s from))
+    (pairsAt s from)
 
 unfoldable pub runEnd : List ℕ → ℕ → ℕ
 runEnd s from = cond (eqb (getD s (pairsEnd s from) 10) 42) (numberEnd s (pairsEnd s from + 1)) (pairsEnd s from)

@@ -1,4 +1,5 @@
--- Document 01, "At the edges": the C40 cases, in both directions where it gives both. Room is enough: 4 bytes to write, 6 characters to read.
+-- Document 01, "At the edges": the C40 cases, in both directions where it gives both. Room is enough: 4 bytes to write,
+-- 6 characters to read.
 -- Assumes nothing.
 use mathlib.Core.List.{List, [], _∷_}
 use Prim.Native.Nat.{ℕ}

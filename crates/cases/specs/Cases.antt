@@ -33,5 +33,7 @@ cases = c40-cases ++ number-cases ++ signature-cases ++ seal-cases
 
 -- each is as document 01 says, and Seal A's content is legal
 pub cases-hold : (map (λ (c : Case). c .found) cases ≡ map (λ (c : Case). c .expected) cases) × Legal content-a
-unfolding inRoom be val theChart valueOf triple publish single values pairOf decode reading known writing isDay date fromNumber form longForm readLength elementIn shortest strict readInteger writeInteger isSize formed toDer digitsIn numberIn rawOf toRaw headerZone messageZone signatureZone signedBytes publishSeal
+unfolding inRoom be val theChart valueOf triple publish single values pairOf decode reading known writing isDay date fromNumber form
+    longForm readLength elementIn shortest strict readInteger writeInteger isSize formed toDer digitsIn numberIn rawOf toRaw headerZone
+    messageZone signatureZone signedBytes publishSeal
 cases-hold = (refl, seal-a-legal)

@@ -1,4 +1,5 @@
--- DER lengths (document 01, Layout; X.690, 8.1.3 and 10.1): the shortest form of a length below 2 ^ 32, and its reading at the head of a byte string.
+-- DER lengths (document 01, Layout; X.690, 8.1.3 and 10.1): the shortest form of a length below 2 ^ 32, and its reading
+-- at the head of a byte string.
 -- Assumes nothing.
 pub mod Laws
 pub mod Exact

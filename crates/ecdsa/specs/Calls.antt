@@ -1,4 +1,5 @@
--- What the calls on signatures answer (document 01, 60 to 64; to DER 60, 61, 64, 63; to raw 60, 62, 63; hash 60), and the number of each case.
+-- What the calls on signatures answer (document 01, 60 to 64; to DER 60, 61, 64, 63; to raw 60, 62, 63; hash 60), and
+-- the number of each case.
 -- Assumes nothing.
 pub mod Laws
 use Prim.Native.Nat.{ℕ, _*_}

@@ -21,15 +21,25 @@ use Rattle.ecdsa.specs.Calls.{toDer, toRaw}
 use Rattle.ecdsa.specs.Calls.Laws.{to-der-no-size, to-der-wrong, to-der-formed, formed-no-room, formed-done}
 
 -- `to_der` answers 0 exactly when n is a size, the length is 2n and there is room; it then writes the DER form
-pub to-der-writes : (n : ℕ) (bytes : List ℕ) (room : ℕ) → isSize n ≡ true → length bytes ≡ 2 * n → length (derOf n bytes) ≤ room → toDer n bytes room ≡ done (derOf n bytes)
+pub to-der-writes :
+    (n : ℕ) (bytes : List ℕ) (room : ℕ) →
+    isSize n ≡ true →
+    length bytes ≡ 2 * n →
+    length (derOf n bytes) ≤ room →
+    toDer n bytes room ≡ done (derOf n bytes)
 to-der-writes n bytes room size h fits =
     let b = size-bounds n size in
     to-der-formed n bytes room size h ∙ formed-done (take n bytes) (drop n bytes) room (omega (arith, content-most n bytes size h)) fits
 
-pub to-der-only : (n : ℕ) (bytes : List ℕ) (room : ℕ) (s : List ℕ) → toDer n bytes room ≡ done s → (isSize n ≡ true) × (length bytes ≡ 2 * n) × (derOf n bytes ≡ s) × (length s ≤ room)
+pub to-der-only :
+    (n : ℕ) (bytes : List ℕ) (room : ℕ) (s : List ℕ) →
+    toDer n bytes room ≡ done s →
+    (isSize n ≡ true) × (length bytes ≡ 2 * n) × (derOf n bytes ≡ s) × (length s ≤ room)
 to-der-only n bytes room s e =
     by-test (isSize n)
-    (λ size. by-test (eqb (length bytes) (2 * n)) (λ h. sized size (eqb-true (length bytes) (2 * n) h)) (λ h. absurd (never 61 (omega arith) (to-der-wrong n bytes room size (eqb-false (length bytes) (2 * n) h)))))
+    (λ size.
+    by-test (eqb (length bytes) (2 * n)) (λ h. sized size (eqb-true (length bytes) (2 * n) h))
+    (λ h. absurd (never 61 (omega arith) (to-der-wrong n bytes room size (eqb-false (length bytes) (2 * n) h)))))
     (λ size. absurd (never 60 (omega arith) (to-der-no-size n bytes room size)))
   where
     never : (number : ℕ) → 0 < number → toDer n bytes room ≡ refused number 0 → ⊥
@@ -41,10 +51,14 @@ to-der-only n bytes room s e =
         let short : length (pairOf n bytes) ≤ 255 = omega (arith, content-most n bytes size h) in
         let formed-is = to-der-formed n bytes room size h in
         by-test (ltb room (length (derOf n bytes)))
-        (λ l. absurd (never 63 (omega arith) (formed-is ∙ formed-no-room (take n bytes) (drop n bytes) room short (ltb-true room (length (derOf n bytes)) l))))
+        (λ l.
+        absurd
+        (never 63 (omega arith)
+        (formed-is ∙ formed-no-room (take n bytes) (drop n bytes) room short (ltb-true room (length (derOf n bytes)) l))))
         (λ l.
         let fits = ltb-false room (length (derOf n bytes)) l in
-        let same : derOf n bytes ≡ s = ap (λ o. o .written) (sym (formed-is ∙ formed-done (take n bytes) (drop n bytes) room short fits) ∙ e) in
+        let same : derOf n bytes ≡ s =
+        ap (λ o. o .written) (sym (formed-is ∙ formed-done (take n bytes) (drop n bytes) room short fits) ∙ e) in
         (size, h, same, subst (λ t. length t ≤ room) same fits))
 
 -- 64 is never given
@@ -52,16 +66,31 @@ pub never-64 : (n : ℕ) (bytes : List ℕ) → isSize n ≡ true → length byt
 never-64 n bytes size h = let b = size-bounds n size in omega (arith, content-most n bytes size h)
 
 -- `to_raw` of what `to_der` wrote is the raw given
-pub der-back : (n : ℕ) (bytes : List ℕ) (room room′ : ℕ) (s : List ℕ) → Bytes bytes → toDer n bytes room ≡ done s → 2 * n ≤ room′ → toRaw n s room′ ≡ done bytes
+pub der-back :
+    (n : ℕ) (bytes : List ℕ) (room room′ : ℕ) (s : List ℕ) →
+    Bytes bytes →
+    toDer n bytes room ≡ done s →
+    2 * n ≤ room′ →
+    toRaw n s room′ ≡ done bytes
 der-back n bytes room room′ s all e fits =
     let d = to-der-only n bytes room s e in
     toRaw-done n s room′ (d .0) bytes (ap (rawOf n) (sym (d .2)) ∙ raw-found n bytes (d .0) (d .1) all) fits
 
 -- `to_raw` answers 0 exactly for the strict DER forms of pairs in n bytes each; and `to_der` of what it wrote is the DER given
-pub to-raw-writes : (n : ℕ) (bytes : List ℕ) (room : ℕ) → isSize n ≡ true → length bytes ≡ 2 * n → Bytes bytes → 2 * n ≤ room → toRaw n (derOf n bytes) room ≡ done bytes
+pub to-raw-writes :
+    (n : ℕ) (bytes : List ℕ) (room : ℕ) →
+    isSize n ≡ true →
+    length bytes ≡ 2 * n →
+    Bytes bytes →
+    2 * n ≤ room →
+    toRaw n (derOf n bytes) room ≡ done bytes
 to-raw-writes n bytes room size h all fits = toRaw-done n (derOf n bytes) room size bytes (raw-found n bytes size h all) fits
 
-pub to-raw-only : (n : ℕ) (s : List ℕ) (room : ℕ) (bytes : List ℕ) → Bytes s → toRaw n s room ≡ done bytes → (isSize n ≡ true) × (length bytes ≡ 2 * n) × (derOf n bytes ≡ s)
+pub to-raw-only :
+    (n : ℕ) (s : List ℕ) (room : ℕ) (bytes : List ℕ) →
+    Bytes s →
+    toRaw n s room ≡ done bytes →
+    (isSize n ≡ true) × (length bytes ≡ 2 * n) × (derOf n bytes ≡ s)
 to-raw-only n s room bytes all e =
     by-test (isSize n) (λ size. read size (rawOf n s) refl) (λ size. absurd (never 60 (omega arith) (toRaw-no-size n s room size)))
   where
@@ -78,7 +107,12 @@ to-raw-only n s room bytes all e =
         let sound = raw-sound n s all bytes (f ∙ ap raw same) in
         (size, sound .many, sound .whole))
 
-pub raw-back : (n : ℕ) (s : List ℕ) (room room′ : ℕ) (bytes : List ℕ) → Bytes s → toRaw n s room ≡ done bytes → length s ≤ room′ → toDer n bytes room′ ≡ done s
+pub raw-back :
+    (n : ℕ) (s : List ℕ) (room room′ : ℕ) (bytes : List ℕ) →
+    Bytes s →
+    toRaw n s room ≡ done bytes →
+    length s ≤ room′ →
+    toDer n bytes room′ ≡ done s
 raw-back n s room room′ bytes all e fits =
     let r = to-raw-only n s room bytes all e in
     to-der-writes n bytes room′ (r .0) (r .1) (subst (λ t. length t ≤ room′) (sym (r .2)) fits) ∙ ap done (r .2)

@@ -1,4 +1,5 @@
--- Raw and DER ECDSA signatures (document 01, Signatures; Doc 9303-13, 2.4 and B.3): r then s, n bytes each, big-endian; and 30, length, two INTEGERs.
+-- Raw and DER ECDSA signatures (document 01, Signatures; Doc 9303-13, 2.4 and B.3): r then s, n bytes each, big-endian;
+-- and 30, length, two INTEGERs.
 -- Assumes nothing.
 pub mod Laws
 use mathlib.Core.Bool.{Bool}

@@ -1,4 +1,5 @@
--- Reading strict DER: both numbers in n bytes each, or nothing (document 01, 62: not strict DER, with bytes left over, negative, or too big for n).
+-- Reading strict DER: both numbers in n bytes each, or nothing (document 01, 62: not strict DER, with bytes left over,
+-- negative, or too big for n).
 -- Assumes nothing.
 pub mod Laws
 pub mod Exact

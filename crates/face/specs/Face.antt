@@ -1,4 +1,5 @@
--- The structs of the C face, field by field: each holds what the layer beneath answers, and nothing is lost on the way (Kept.antt beside this file).
+-- The structs of the C face, field by field: each holds what the layer beneath answers, and nothing is lost on the way
+-- (Kept.antt beside this file).
 -- Assumes nothing.
 use Prim.Native.Nat.{ℕ}
 use lib.IntN.{ℤ}

@@ -1,4 +1,5 @@
--- What a call answers (document 01, "The numbers a call answers"): a number, a place, and for a call that fills a buffer the bytes it writes from
+-- What a call answers (document 01, "The numbers a call answers"): a number, a place, and for a call that fills a
+-- buffer the bytes it writes from
 -- the buffer's start. A refusal writes nothing.
 -- Assumes nothing.
 pub mod Laws

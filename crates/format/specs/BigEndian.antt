@@ -1,4 +1,5 @@
--- Numbers in bytes, big-endian, over the width: `be k n` is the number n in k bytes, and `val s k` the number that the first k bytes of s carry.
+-- Numbers in bytes, big-endian, over the width: `be k n` is the number n in k bytes, and `val s k` the number that the
+-- first k bytes of s carry.
 -- Assumes nothing.
 pub mod Laws
 use Prim.Native.Nat.{ℕ, zero, suc, _+_, _*_, _/_, _%_}

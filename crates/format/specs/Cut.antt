@@ -1,5 +1,6 @@
 -- The one law of a part: what is legal and how it is published fit together so that the part can be cut off the front of any byte string in
--- one way only. With empty tails it says that a byte string has one reading; with one empty tail, that no published form is the front part of another.
+-- one way only. With empty tails it says that a byte string has one reading; with one empty tail, that no published
+-- form is the front part of another.
 -- Assumes nothing.
 pub mod Laws
 use mathlib.Core.Path.{_≡_}

@@ -47,7 +47,9 @@ version-byte four = omega arith
 names-bytes : (v : Version) (s r : List ℕ) → Names v (s, r) → Bytes (names v s r)
 names-bytes three s r n = publish-bytes (s ++ r) (all-append InChart s r (signer-text s (n .signer) .1) (reference-text r (n .reference)))
 names-bytes four s r n =
-    subst Bytes (sym (four-form (s, r) n)) (bytes-append (c40 (six (s, r))) (c40 r) (publish-bytes (six (s, r)) (six-text (s, r) n .1)) (publish-bytes r (reference-text r (n .reference))))
+    subst Bytes (sym (four-form (s, r) n))
+    (bytes-append (c40 (six (s, r))) (c40 r) (publish-bytes (six (s, r)) (six-text (s, r) n .1))
+    (publish-bytes r (reference-text r (n .reference))))
 
 header-bytes : (h : Header) → LegalHeader h → Bytes (headerZone h)
 header-bytes h l =
@@ -56,11 +58,16 @@ header-bytes h l =
     let p5 = date (h .issued) ++ p6 in
     let p4 = names (h .version) (h .signer) (h .reference) ++ p5 in
     let p3 = c40 (map carried (h .country)) ++ p4 in
-    let b7 : Bytes p7 = bytes-cons (h .definition) (h .category ∷ []) (omega (arith, l .definition .1)) (byte (h .category) (omega (arith, l .category .1))) in
+    let b7 : Bytes p7 =
+    bytes-cons (h .definition) (h .category ∷ []) (omega (arith, l .definition .1)) (byte (h .category) (omega (arith, l .category .1))) in
     let b6 : Bytes p6 = bytes-append (date (h .signed)) p7 (date-bytes (h .signed)) b7 in
     let b5 : Bytes p5 = bytes-append (date (h .issued)) p6 (date-bytes (h .issued)) b6 in
-    let b4 : Bytes p4 = bytes-append (names (h .version) (h .signer) (h .reference)) p5 (names-bytes (h .version) (h .signer) (h .reference) (legal-names h l)) b5 in
-    let b3 : Bytes p3 = bytes-append (c40 (map carried (h .country))) p4 (publish-bytes (map carried (h .country)) (country-text (h .country) (l .country) .1)) b4 in
+    let b4 : Bytes p4 =
+    bytes-append (names (h .version) (h .signer) (h .reference)) p5 (names-bytes (h .version) (h .signer) (h .reference) (legal-names h l))
+    b5 in
+    let b3 : Bytes p3 =
+    bytes-append (c40 (map carried (h .country))) p4 (publish-bytes (map carried (h .country)) (country-text (h .country) (l .country) .1))
+    b4 in
     subst Bytes (sym (sym (append-nil (headerZone h)) ∙ header-parts h []))
     (bytes-cons 0xDC (versionByte (h .version) ∷ p3) (omega arith) (bytes-cons (versionByte (h .version)) p3 (version-byte (h .version)) b3))
 
@@ -73,12 +80,15 @@ unfolding messageZone
 message-bytes v used [] l = bytes-nil
 message-bytes v used (f ∷ fs) l =
     bytes-append (feature v f) (messageZone v fs)
-    (bytes-cons (f .tag) (lengthOf v (length (f .value)) ++ f .value) (omega (arith, l .0)) (bytes-append (lengthOf v (length (f .value))) (f .value) (length-bytes v (length (f .value)) (l .2)) (l .3)))
+    (bytes-cons (f .tag) (lengthOf v (length (f .value)) ++ f .value) (omega (arith, l .0))
+    (bytes-append (lengthOf v (length (f .value))) (f .value) (length-bytes v (length (f .value)) (l .2)) (l .3)))
     (message-bytes v (f .tag ∷ used) fs (l .4))
 
 pub published-bytes : (c : Content) → Legal c → Bytes (publish c)
 unfolding publish signedBytes signatureZone
 published-bytes c l =
     bytes-append (signedBytes c) (signatureZone (c .signature))
-    (bytes-append (headerZone (c .header)) (messageZone (c .header .version) (c .features)) (header-bytes (c .header) (l .header)) (message-bytes (c .header .version) [] (c .features) (l .features)))
-    (bytes-cons 0xFF (form (length (c .signature)) ++ c .signature) (omega arith) (bytes-append (form (length (c .signature))) (c .signature) (form-bytes (length (c .signature))) (l .bytes)))
+    (bytes-append (headerZone (c .header)) (messageZone (c .header .version) (c .features)) (header-bytes (c .header) (l .header))
+    (message-bytes (c .header .version) [] (c .features) (l .features)))
+    (bytes-cons 0xFF (form (length (c .signature)) ++ c .signature) (omega arith)
+    (bytes-append (form (length (c .signature))) (c .signature) (form-bytes (length (c .signature))) (l .bytes)))

@@ -99,7 +99,9 @@ unfolding isDay
 signed-32 l = let e = l .signed in let z : _≡_ {A = ℕ} 0 1 = cc in omega arith
 
 -- features: 7, 8, 7; version 3 with 256 bytes; a value that is no byte
-seven-again : LegalFeatures four [] (record { tag = 7; value = [] } ∷ record { tag = 8; value = [] } ∷ record { tag = 7; value = [] } ∷ []) → ⊥
+seven-again :
+    LegalFeatures four [] (record { tag = 7; value = [] } ∷ record { tag = 8; value = [] } ∷ record { tag = 7; value = [] } ∷ []) →
+    ⊥
 seven-again l = l .4 .4 .1 .1 .0 refl
 
 value-no-byte : LegalFeatures four [] (record { tag = 7; value = 256 ∷ [] } ∷ []) → ⊥

@@ -92,7 +92,8 @@ four-of P (x ∷ y ∷ z ∷ w ∷ v ∷ t) e a b c d = absurd (omega arith)
 pub signer-text : (t : List ℕ) → Signer t → TextOf 4 t
 signer-text t s = (
   s .size,
-  four-of InChart t (s .size) (letter-in _ (s .first .0) (s .first .1)) (letter-in _ (s .second .0) (s .second .1)) (letter-or-digit-in _ (s .third)) (letter-or-digit-in _ (s .fourth)),
+  four-of InChart t (s .size) (letter-in _ (s .first .0) (s .first .1)) (letter-in _ (s .second .0) (s .second .1))
+      (letter-or-digit-in _ (s .third)) (letter-or-digit-in _ (s .fourth)),
 )
 
 pub hexadecimal-references : (t : List ℕ) → All Hexadecimal t → All ReferenceCharacter t
@@ -143,8 +144,11 @@ fronts k a b c d la lc e =
 cut-three : Cut (Names three) (λ p. names three (p .0) (p .1))
 cut-three a b t u la lb e =
     let text : (p : List ℕ × List ℕ) → Names three p → TextOf 9 (p .0 ++ p .1) =
-    λ p n. let s = signer-text (p .0) (n .signer) in
-    (length-append (p .0) (p .1) ∙ ap₂ (λ x y. x + y) (s .0) (n .size), all-append InChart (p .0) (p .1) (s .1) (reference-text (p .1) (n .reference))) in
+    λ p n. let s = signer-text (p .0) (n .signer) in (
+      length-append (p .0) (p .1) ∙ ap₂ (λ x y. x + y) (s .0) (n .size),
+      all-append InChart (p .0) (p .1) (s .1) (reference-text (p .1) (n .reference)),
+    )
+    in
     let c = cut-text 9 (a .0 ++ a .1) (b .0 ++ b .1) t u (text a la) (text b lb) e in
     let d = fronts 4 (a .0) (a .1) (b .0) (b .1) (la .signer .size) (lb .signer .size) (c .0) in
     (λ i. (d .0 i, d .1 i), c .1)
@@ -166,12 +170,17 @@ four-form p n = six-ahead (p .0 ++ hexDigits (length (p .1))) (p .1) (six-text p
 cut-four : Cut (Names four) (λ p. names four (p .0) (p .1))
 cut-four a b t u la lb e =
     let f : c40 (six a) ++ (c40 (a .1) ++ t) ≡ c40 (six b) ++ (c40 (b .1) ++ u) =
-    sym (append-assoc (c40 (six a)) (c40 (a .1)) t) ∙ ap (λ z. z ++ t) (sym (four-form a la)) ∙ e ∙ ap (λ z. z ++ u) (four-form b lb) ∙ append-assoc (c40 (six b)) (c40 (b .1)) u in
+    sym (append-assoc (c40 (six a)) (c40 (a .1)) t)
+    ∙ ap (λ z. z ++ t) (sym (four-form a la))
+    ∙ e
+    ∙ ap (λ z. z ++ u) (four-form b lb)
+    ∙ append-assoc (c40 (six b)) (c40 (b .1)) u in
     let c = cut-text 6 (six a) (six b) (c40 (a .1) ++ t) (c40 (b .1) ++ u) (six-text a la) (six-text b lb) f in
     let d = fronts 4 (a .0) (hexDigits (length (a .1))) (b .0) (hexDigits (length (b .1))) (la .signer .size) (lb .signer .size) (c .0) in
     let same : length (a .1) ≡ length (b .1) =
     sym (given-back (length (a .1)) (la .size .1)) ∙ ap given (d .1) ∙ given-back (length (b .1)) (lb .size .1) in
-    let r = cut-text (length (a .1)) (a .1) (b .1) t u (refl, reference-text (a .1) (la .reference)) (sym same, reference-text (b .1) (lb .reference)) (c .1) in
+    let r = cut-text (length (a .1)) (a .1) (b .1) t u (refl, reference-text (a .1) (la .reference))
+    (sym same, reference-text (b .1) (lb .reference)) (c .1) in
     (λ i. (d .0 i, r .0 i), r .1)
 
 pub cut-names : (v : Version) → Cut (Names v) (λ p. names v (p .0) (p .1))

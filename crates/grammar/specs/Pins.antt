@@ -16,7 +16,8 @@ use Rattle.dates.specs.Days.{isDay, publish as date}
 use Rattle.der.specs.Length.{form}
 use Rattle.grammar.specs.Content.{three, four}
 use Rattle.grammar.specs.Publish.{carried, hexDigits, names, headerZone, lengthOf, messageZone, signatureZone, signedBytes, publish}
-use Rattle.grammar.specs.Legal.{Filler, Country, Signer, ReferenceCharacter, ReferenceSize, LastByte, ValueSize, LegalHeader, LegalFeatures, SignatureSize, n28, n32, n48, n64, n66, Legal}
+use Rattle.grammar.specs.Legal.{Filler, Country, Signer, ReferenceCharacter, ReferenceSize, LastByte, ValueSize, LegalHeader}
+use Rattle.grammar.specs.Legal.{LegalFeatures, SignatureSize, n28, n32, n48, n64, n66, Legal}
 use Rattle.grammar.specs.Parts.{Hexadecimal, hexadecimal-references}
 use Rattle.grammar.specs.Examples.{uto, utab, ref-00001, d-fillers, header-a, content-a, seal-a}
 
@@ -141,7 +142,14 @@ value-256 : ValueSize three 256 → ⊥
 value-256 l = omega arith
 
 -- countries: D<< is legal
-pub filled-three : (a b c : ℕ) → (Filler a → Filler b) → (Filler b → Filler c) → (i : ℕ) → i < 2 → Filler (getD (a ∷ b ∷ c ∷ []) i 0) → Filler (getD (a ∷ b ∷ c ∷ []) (i + 1) 0)
+pub filled-three :
+    (a b c : ℕ) →
+    (Filler a → Filler b) →
+    (Filler b → Filler c) →
+    (i : ℕ) →
+    i < 2 →
+    Filler (getD (a ∷ b ∷ c ∷ []) i 0) →
+    Filler (getD (a ∷ b ∷ c ∷ []) (i + 1) 0)
 filled-three a b c f g zero h e = f e
 filled-three a b c f g (suc zero) h e = g e
 filled-three a b c f g (suc (suc i)) h e = absurd (omega arith)
@@ -214,4 +222,5 @@ seal-a-legal = record {
     bytes-visa : Bytes (0xDE ∷ 0x51 ∷ 0x58 ∷ 0x26 ∷ [])
     bytes-visa =
         bytes-cons 0xDE (0x51 ∷ 0x58 ∷ 0x26 ∷ []) (omega arith)
-        (bytes-cons 0x51 (0x58 ∷ 0x26 ∷ []) (omega arith) (bytes-cons 0x58 (0x26 ∷ []) (omega arith) (bytes-cons 0x26 [] (omega arith) bytes-nil)))
+        (bytes-cons 0x51 (0x58 ∷ 0x26 ∷ []) (omega arith)
+        (bytes-cons 0x58 (0x26 ∷ []) (omega arith) (bytes-cons 0x26 [] (omega arith) bytes-nil)))

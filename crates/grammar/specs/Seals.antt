@@ -1,4 +1,5 @@
--- Whole contents that are legal and their published forms, so that each field is seen to stand where it belongs; the least seal, the largest, and the most features.
+-- Whole contents that are legal and their published forms, so that each field is seen to stand where it belongs; the
+-- least seal, the largest, and the most features.
 -- Assumes nothing.
 use mathlib.Core.Path.{_≡_, refl}
 use mathlib.Core.Logic.{inl, inr}
@@ -50,8 +51,36 @@ header-b-legal : LegalHeader header-b
 unfolding isDay
 header-b-legal = record {
   country = country-d;
-  signer = record { size = refl; first = (omega arith, omega arith); second = (omega arith, omega arith); third = inr (omega arith, omega arith); fourth = inr (omega arith, omega arith) };
-  reference = hexadecimal-references (header-b .reference) (inl (omega arith, omega arith), (inr (omega arith, omega arith), (inl (omega arith, omega arith), (inr (omega arith, omega arith), (inl (omega arith, omega arith), (inl (omega arith, omega arith), (inl (omega arith, omega arith), (inl (omega arith, omega arith), (inl (omega arith, omega arith), (inl (omega arith, omega arith), tt))))))))));
+  signer = record {
+    size = refl;
+    first = (omega arith, omega arith);
+    second = (omega arith, omega arith);
+    third = inr (omega arith, omega arith);
+    fourth = inr (omega arith, omega arith);
+  };
+  reference =
+      hexadecimal-references (header-b .reference) (
+        inl (omega arith, omega arith),
+        (
+          inr (omega arith, omega arith),
+          (
+            inl (omega arith, omega arith),
+            (
+              inr (omega arith, omega arith),
+              (
+                inl (omega arith, omega arith),
+                (
+                  inl (omega arith, omega arith),
+                  (
+                    inl (omega arith, omega arith),
+                    (inl (omega arith, omega arith), (inl (omega arith, omega arith), (inl (omega arith, omega arith), tt))),
+                  ),
+                ),
+              ),
+            ),
+          ),
+        ),
+      );
   size = (omega arith, omega arith);
   issued = refl;
   signed = refl;
@@ -63,8 +92,21 @@ header-c-legal : LegalHeader header-c
 unfolding isDay
 header-c-legal = record {
   country = country-dk;
-  signer = record { size = refl; first = (omega arith, omega arith); second = (omega arith, omega arith); third = inr (omega arith, omega arith); fourth = inl (omega arith, omega arith) };
-  reference = hexadecimal-references (header-c .reference) (inr (omega arith, omega arith), (inl (omega arith, omega arith), (inr (omega arith, omega arith), (inl (omega arith, omega arith), (inl (omega arith, omega arith), tt)))));
+  signer = record {
+    size = refl;
+    first = (omega arith, omega arith);
+    second = (omega arith, omega arith);
+    third = inr (omega arith, omega arith);
+    fourth = inl (omega arith, omega arith);
+  };
+  reference =
+      hexadecimal-references (header-c .reference) (
+        inr (omega arith, omega arith),
+        (
+          inl (omega arith, omega arith),
+          (inr (omega arith, omega arith), (inl (omega arith, omega arith), (inl (omega arith, omega arith), tt))),
+        ),
+      );
   size = refl;
   issued = refl;
   signed = refl;
@@ -92,7 +134,19 @@ c-size = refl
 c-legal : Legal content-c
 c-legal = record {
   header = header-c-legal;
-  features = (omega arith, tt, omega arith, bytes-replicate 128 7 (omega arith), (omega arith, ((λ e. omega arith), tt), omega arith, bytes-replicate 255 7 (omega arith), (omega arith, ((λ e. omega arith), ((λ e. omega arith), tt)), omega arith, bytes-nil, tt)));
+  features = (
+    omega arith,
+    tt,
+    omega arith,
+    bytes-replicate 128 7 (omega arith),
+    (
+      omega arith,
+      ((λ e. omega arith), tt),
+      omega arith,
+      bytes-replicate 255 7 (omega arith),
+      (omega arith, ((λ e. omega arith), ((λ e. omega arith), tt)), omega arith, bytes-nil, tt),
+    ),
+  );
   signature = n66;
   bytes = bytes-replicate 132 0xAA (omega arith);
   size = omega (arith, c-size);
@@ -162,7 +216,8 @@ lower n (t ∷ used) a = (omega (arith, a .0), lower n used (a .1))
 down-legal : (n : ℕ) (used : List ℕ) → n ≤ 255 → All (λ t. n ≤ t) used → LegalFeatures three used (downFrom n)
 unfolding downFrom
 down-legal zero used h a = tt
-down-legal (suc n) used h a = (omega arith, above n used a, omega arith, bytes-nil, down-legal n (n ∷ used) (omega arith) (omega arith, lower n used a))
+down-legal (suc n) used h a =
+    (omega arith, above n used a, omega arith, bytes-nil, down-legal n (n ∷ used) (omega arith) (omega arith, lower n used a))
 
 size-586 : length (publish (with-features (downFrom 255))) ≡ 586
 unfolding downFrom publish signedBytes headerZone messageZone signatureZone date be c40 triple form

@@ -29,7 +29,11 @@ names-width s r hs =
     omega arith
 
 -- names: 6 bytes in version 3, 6 to 174 in version 4
-names-size : (v : Version) (s r : List ℕ) → length s ≡ 4 → ReferenceSize v (length r) → (6 ≤ length (names v s r)) × (length (names v s r) ≤ 174)
+names-size :
+    (v : Version) (s r : List ℕ) →
+    length s ≡ 4 →
+    ReferenceSize v (length r) →
+    (6 ≤ length (names v s r)) × (length (names v s r) ≤ 174)
 names-size three s r hs hr =
     let e = length-publish (s ++ r) in
     let l = length-append s r in
@@ -39,7 +43,8 @@ names-size four s r hs hr = let e = names-width s r hs in (omega arith, omega ar
 header-length : (h : Header) → LegalHeader h → length (headerZone h) ≡ 12 + length (names (h .version) (h .signer) (h .reference))
 unfolding headerZone
 header-length h l =
-    let country : length (c40 (map carried (h .country))) ≡ 2 = length-publish (map carried (h .country)) ∙ ap width (length-map (h .country) carried ∙ l .country .size) in
+    let country : length (c40 (map carried (h .country))) ≡ 2 =
+    length-publish (map carried (h .country)) ∙ ap width (length-map (h .country) carried ∙ l .country .size) in
     simp (length-append, country, length-date) (omega arith)
 
 -- "header: version 3: 18 bytes; version 4: 18 to 186"

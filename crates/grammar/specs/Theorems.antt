@@ -21,16 +21,25 @@ pub no-front-part : (a b : Content) (t : List ℕ) → Legal a → Legal b → p
 no-front-part a b t la lb e = no-front Legal publish cut-seal a b t la lb e
 
 -- "Two legal contents that differ in header or features differ in their signed bytes."
-pub signed-apart : (a b : Content) → Legal a → Legal b → signedBytes a ≡ signedBytes b → (a .header ≡ b .header) × (a .features ≡ b .features)
+pub signed-apart :
+    (a b : Content) →
+    Legal a →
+    Legal b →
+    signedBytes a ≡ signedBytes b →
+    (a .header ≡ b .header) × (a .features ≡ b .features)
 unfolding signedBytes
 signed-apart a b la lb e =
-    let parts : (c : Content) → signedBytes c ++ (0xFF ∷ []) ≡ headerZone (c .header) ++ ((messageZone (c .header .version) (c .features) ++ (0xFF ∷ [])) ++ []) =
+    let parts : (c : Content) →
+    signedBytes c ++ (0xFF ∷ []) ≡ headerZone (c .header) ++ ((messageZone (c .header .version) (c .features) ++ (0xFF ∷ [])) ++ []) =
     λ c. simp append-assoc in
     let c = cut-front a b [] [] la lb (sym (parts a) ∙ ap (λ s. s ++ (0xFF ∷ [])) e ∙ parts b) in
     (c .0, c .1)
 
 -- The zones lie one after another and their lengths add up to the seal's; the signed bytes are its front part.
-pub zones-add-up : (c : Content) → length (headerZone (c .header)) + length (messageZone (c .header .version) (c .features)) + length (signatureZone (c .signature)) ≡ length (publish c)
+pub zones-add-up :
+    (c : Content) →
+    length (headerZone (c .header)) + length (messageZone (c .header .version) (c .features)) + length (signatureZone (c .signature))
+    ≡ length (publish c)
 unfolding publish signedBytes
 zones-add-up c =
     let h = headerZone (c .header) in
@@ -38,7 +47,9 @@ zones-add-up c =
     let z = signatureZone (c .signature) in
     omega (arith, length-append (h ++ m) z, length-append h m)
 
-pub signed-front : (c : Content) → take (length (headerZone (c .header)) + length (messageZone (c .header .version) (c .features))) (publish c) ≡ signedBytes c
+pub signed-front :
+    (c : Content) →
+    take (length (headerZone (c .header)) + length (messageZone (c .header .version) (c .features))) (publish c) ≡ signedBytes c
 unfolding publish signedBytes
 signed-front c =
     let h = headerZone (c .header) in

@@ -21,7 +21,12 @@ use Rattle.grammar.specs.Legal.{LegalHeader, LegalFeatures, SignatureSiz
 use Rattle.grammar.specs.Parts.{cut-country, Names, cut-names}
 
 -- the header's parts, bracketed to the right
-pub header-parts : (h : Header) (t : List ℕ) → headerZone h ++ t ≡ 0xDC ∷ versionByte (h .version) ∷ (c40 (map carried (h .country)) ++ (names (h .version) (h .signer) (h .reference) ++ (date (h .issued) ++ (date (h .signed) ++ (h .definition ∷ h .category ∷ t)))))
+pub header-parts :
+    (h : Header) (t : List ℕ) →
+    headerZone h ++ t
+    ≡ 0xDC ∷ versionByte (h .version)
+    ∷ (c40 (map carried (h .country))
+    ++ (names (h .version) (h .signer) (h .reference) ++ (date (h .issued) ++ (date (h .signed) ++ (h .definition ∷ h .category ∷ t)))))
 unfolding headerZone
 header-parts h t = simp append-assoc
 
@@ -36,7 +41,9 @@ cut-header a b t u la lb e =
     let v = one-version (a .version) (b .version) (c1 .0) in
     let c2 = cut-country (a .country) (b .country) _ _ (la .country) (lb .country) (c1 .1) in
     let nb : Names (a .version) (b .signer, b .reference) = subst (λ w. Names w (b .signer, b .reference)) (sym v) (legal-names b lb) in
-    let e3 = c2 .1 ∙ ap (λ w. names w (b .signer) (b .reference) ++ (date (b .issued) ++ (date (b .signed) ++ (b .definition ∷ b .category ∷ u)))) (sym v) in
+    let e3 = c2 .1
+    ∙ ap (λ w. names w (b .signer) (b .reference) ++ (date (b .issued) ++ (date (b .signed) ++ (b .definition ∷ b .category ∷ u))))
+    (sym v) in
     let c3 = cut-names (a .version) (a .signer, a .reference) (b .signer, b .reference) _ _ (legal-names a la) nb e3 in
     let c4 = cut-date (a .issued) (b .issued) _ _ (la .issued) (lb .issued) (c3 .1) in
     let c5 = cut-date (a .signed) (b .signed) _ _ (la .signed) (lb .signed) (c4 .1) in
@@ -85,7 +92,11 @@ unfolding messageZone
 cut-features v = cut-until (FeatureLegal v) (feature v) (cut-feature v) 0xFF (not-mark v)
 
 -- legal features of a seal that is not too long
-pub features-legal : (v : Version) (used : List ℕ) (fs : List Feature) → LegalFeatures v used fs → length (messageZone v fs) < 2 ^ 32 → All (FeatureLegal v) fs
+pub features-legal :
+    (v : Version) (used : List ℕ) (fs : List Feature) →
+    LegalFeatures v used fs →
+    length (messageZone v fs) < 2 ^ 32 →
+    All (FeatureLegal v) fs
 unfolding messageZone FeatureLegal LengthLegal
 features-legal v used [] l h = tt
 features-legal v used (f ∷ fs) l h =
@@ -105,7 +116,10 @@ signature-sized n n64 = omega arith
 signature-sized n n66 = omega arith
 
 -- the seal's zones, bracketed to the right
-seal-parts : (c : Content) (t : List ℕ) → publish c ++ t ≡ headerZone (c .header) ++ ((messageZone (c .header .version) (c .features) ++ (0xFF ∷ [])) ++ (counted form (c .signature) ++ t))
+seal-parts :
+    (c : Content) (t : List ℕ) →
+    publish c ++ t
+    ≡ headerZone (c .header) ++ ((messageZone (c .header .version) (c .features) ++ (0xFF ∷ [])) ++ (counted form (c .signature) ++ t))
 unfolding publish signedBytes signatureZone
 seal-parts c t = simp append-assoc
 
@@ -122,7 +136,13 @@ pub legal-features : (c : Content) → Legal c → All (FeatureLegal (c .header 
 legal-features c l = features-legal (c .header .version) [] (c .features) (l .features) (omega (arith, message-short c, l .size))
 
 -- header and features, from bytes in which FF follows them
-pub cut-front : (a b : Content) (t u : List ℕ) → Legal a → Legal b → headerZone (a .header) ++ ((messageZone (a .header .version) (a .features) ++ (0xFF ∷ [])) ++ t) ≡ headerZone (b .header) ++ ((messageZone (b .header .version) (b .features) ++ (0xFF ∷ [])) ++ u) → (a .header ≡ b .header) × (a .features ≡ b .features) × (t ≡ u)
+pub cut-front :
+    (a b : Content) (t u : List ℕ) →
+    Legal a →
+    Legal b →
+    headerZone (a .header) ++ ((messageZone (a .header .version) (a .features) ++ (0xFF ∷ [])) ++ t)
+    ≡ headerZone (b .header) ++ ((messageZone (b .header .version) (b .features) ++ (0xFF ∷ [])) ++ u) →
+    (a .header ≡ b .header) × (a .features ≡ b .features) × (t ≡ u)
 cut-front a b t u la lb e =
     let v = a .header .version in
     let h = cut-header (a .header) (b .header) _ _ (la .header) (lb .header) e in
@@ -134,6 +154,8 @@ cut-front a b t u la lb e =
 
 pub cut-seal : Cut Legal publish
 cut-seal a b t u la lb e =
-    let c = cut-front a b (counted form (a .signature) ++ t) (counted form (b .signature) ++ u) la lb (sym (seal-parts a t) ∙ e ∙ seal-parts b u) in
-    let s = cut-counted Sized form cut-form (a .signature) (b .signature) t u (signature-sized _ (la .signature)) (signature-sized _ (lb .signature)) (c .2) in
+    let c = cut-front a b (counted form (a .signature) ++ t) (counted form (b .signature) ++ u) la lb
+    (sym (seal-parts a t) ∙ e ∙ seal-parts b u) in
+    let s = cut-counted Sized form cut-form (a .signature) (b .signature) t u (signature-sized _ (la .signature))
+    (signature-sized _ (lb .signature)) (c .2) in
     (λ i. record { header = c .0 i; features = c .1 i; signature = s .0 i }, s .1)

@@ -1,4 +1,5 @@
--- Reading and writing single INTEGERs are inverse to each other over the signed 64-bit range: what is written for a number reads as that number,
+-- Reading and writing single INTEGERs are inverse to each other over the signed 64-bit range: what is written for a
+-- number reads as that number,
 -- what reads as a number is what is written for it, and everything else is refused. So a number has one encoding that is taken.
 -- Assumes nothing.
 use mathlib.Core.Path.{_≡_, refl, ap, sym, subst, _∙_}
@@ -27,7 +28,8 @@ use Rattle.integers.specs.Integer.Laws.{shortest-size, shortest-is-stric
 use Rattle.integers.specs.Integer.Values.{value-shortest, value-be, value-fits, strict-back}
 use Rattle.integers.specs.OneElement.{part, element-reads, element-part, element-is}
 use Rattle.integers.specs.Calls.{content, reading, writing}
-use Rattle.integers.specs.Calls.Laws.{content-loose, content-long, content-is, reading-none, reading-more, reading-all, writing-not, writing-done}
+use Rattle.integers.specs.Calls.Laws.{content-loose, content-long, content-is, reading-none, reading-more, reading-all, writing-not}
+use Rattle.integers.specs.Calls.Laws.{writing-done}
 
 -- what is written for a number reads as that number
 pub written-reads : (v : ℤ) → SFits w64 v → reading (integerOf v) ≡ result v
@@ -42,7 +44,8 @@ written-reads v f =
     ∙ ap result (value-shortest s ∙ value-be v f)
 
 -- what is read is refused, or is an INTEGER of strict content of eight bytes at most
-module _ {C : Type 0} (s : List ℕ) (bytes : Bytes s) (not-one : reading s ≡ refusal (pos 0) 65 → C) (one : (c : List ℕ) → Bytes c → s ≡ integer c → strict c ≡ true → length c ≤ 8 → reading s ≡ result (valueOf c) → C) where
+module _ {C : Type 0} (s : List ℕ) (bytes : Bytes s) (not-one : reading s ≡ refusal (pos 0) 65 → C)
+    (one : (c : List ℕ) → Bytes c → s ≡ integer c → strict c ≡ true → length c ≤ 8 → reading s ≡ result (valueOf c) → C) where
   by-content : (c : List ℕ) → Bytes c → s ≡ integer c → reading s ≡ content c → C
   by-content c b is e =
       by-test (strict c)
@@ -58,7 +61,8 @@ module _ {C : Type 0} (s : List ℕ) (bytes : Bytes s) (not-one : reading s ≡ 
       (λ t.
       let all = eqb-true end (length s) t in
       let f : elementIn 0x02 s ≡ Body start (length s) = e ∙ ap (Body start) all in
-      by-content (part s start (length s)) (bytes-take (length s - start) (drop start s) (bytes-drop start s bytes)) (element-is 0x02 s bytes start f) (reading-all s start (length s) f refl))
+      by-content (part s start (length s)) (bytes-take (length s - start) (drop start s) (bytes-drop start s bytes))
+      (element-is 0x02 s bytes start f) (reading-all s start (length s) f refl))
       (λ t. not-one (reading-more s start end e (eqb-false end (length s) t)))
 
   pub read-cases : C
@@ -91,7 +95,9 @@ pub writing-reads : (v : ℤ) → SFits w64 v → (room : ℕ) (s : List ℕ) �
 writing-reads v f room s e =
     by-test (ltb room (length (integerOf v)))
     (λ t. absurd (omega (arith, ap (λ (o : Outcome). o .number) (sym (writing-not v room (ltb-true room (length (integerOf v)) t)) ∙ e))))
-    (λ t. ap reading (sym (ap (λ (o : Outcome). o .written) (sym (writing-done v room (ltb-false room (length (integerOf v)) t)) ∙ e))) ∙ written-reads v f)
+    (λ t.
+    ap reading (sym (ap (λ (o : Outcome). o .written) (sym (writing-done v room (ltb-false room (length (integerOf v)) t)) ∙ e)))
+    ∙ written-reads v f)
 
 module _ (s : List ℕ) (bytes : Bytes s) (v : ℤ) (e : reading s ≡ result v) (room : ℕ) where
   pub reading-writes : length s ≤ room → writing v room ≡ done s

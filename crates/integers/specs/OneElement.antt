@@ -20,7 +20,10 @@ size : (tag : ℕ) (body : List ℕ) → start body + length body ≡ length (el
 size tag body = sym (ap suc (length-append (form (length body)) body) ∙ omega arith)
 
 -- complete: an element reads as its body, up to the end
-pub element-reads : (tag : ℕ) (body : List ℕ) → Sized (length body) → elementIn tag (element tag body) ≡ Body (start body) (length (element tag body))
+pub element-reads :
+    (tag : ℕ) (body : List ℕ) →
+    Sized (length body) →
+    elementIn tag (element tag body) ≡ Body (start body) (length (element tag body))
 element-reads tag body h =
     ap (elementIn tag) (sym (append-nil (element tag body))) ∙ element-found tag body [] h ∙ ap (Body (start body)) (size tag body)
 
@@ -28,8 +31,14 @@ pub element-part : (tag : ℕ) (body : List ℕ) → part (element tag body) (st
 element-part tag body =
     let behind : drop (start body) (element tag body) ≡ body =
     ap (drop (start body)) (sym (append-nil (element tag body))) ∙ element-body tag body [] ∙ append-nil body in
-    ap (take (length (element tag body) - start body)) behind ∙ take-all (length (element tag body) - start body) body (omega (arith, size tag body))
+    ap (take (length (element tag body) - start body)) behind
+    ∙ take-all (length (element tag body) - start body) body (omega (arith, size tag body))
 
 -- sound: what reads as a body up to the end is the element with that body
-pub element-is : (tag : ℕ) (s : List ℕ) → Bytes s → (from : ℕ) → elementIn tag s ≡ Body from (length s) → s ≡ element tag (part s from (length s))
+pub element-is :
+    (tag : ℕ) (s : List ℕ) →
+    Bytes s →
+    (from : ℕ) →
+    elementIn tag s ≡ Body from (length s) →
+    s ≡ element tag (part s from (length s))
 element-is tag s bytes from f = sym (take-length s) ∙ element-whole tag s bytes from (length s) f .whole

@@ -31,7 +31,8 @@ all test (c ∷ t) = both (test c) (all test t)
 abbrev pub isCountry : ℕ → List ℕ → Bool
 isCountry filler t =
     both (isLetter (getD t 0 0))
-    (either (both (isLetter (getD t 1 0)) (either (isLetter (getD t 2 0)) (eqb (getD t 2 0) filler))) (both (eqb (getD t 1 0) filler) (eqb (getD t 2 0) filler)))
+    (either (both (isLetter (getD t 1 0)) (either (isLetter (getD t 2 0)) (eqb (getD t 2 0) filler)))
+    (both (eqb (getD t 1 0) filler) (eqb (getD t 2 0) filler)))
 
 -- two letters, then two letters or digits
 abbrev pub isSigner : List ℕ → Bool

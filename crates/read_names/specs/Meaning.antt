@@ -34,7 +34,8 @@ measured n = record { length = length (n .reference); names = n }
 
 -- signer and reference stand one after the other at the start of a text
 abbrev pub namesOf : List ℕ → Names → Way Measured
-namesOf text (names.Are size next) = is (record { length = size; names = record { signer = take 4 text; reference = take size (drop 4 text) } }) (next .place)
+namesOf text (names.Are size next) =
+    is (record { length = size; names = record { signer = take 4 text; reference = take size (drop 4 text) } }) (next .place)
 namesOf text (names.Not why) = not (why .why) (why .place)
 
 -- what signer and reference leave in a lent text: themselves from its start and past them what was there, or all that was there

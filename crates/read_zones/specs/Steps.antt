@@ -1,4 +1,5 @@
--- The reading in the steps that the code takes, and what each case of their answers means: the fields before the dates, those after, the features, the signature.
+-- The reading in the steps that the code takes, and what each case of their answers means: the fields before the dates,
+-- those after, the features, the signature.
 -- Assumes nothing.
 pub mod Laws
 pub mod Together
@@ -57,11 +58,19 @@ dated at s =
 
 -- country and names stand in lent buffers
 abbrev pub frontOf : List ℕ → List ℕ → Front → Way Fields
-frontOf code text (front.Is v size at) = is (record { version = v; country = code; names = record { length = size; names = record { signer = take 4 text; reference = take size (drop 4 text) } } }) (at .place)
+frontOf code text (front.Is v size at) =
+    is
+    (record {
+      version = v;
+      country = code;
+      names = record { length = size; names = record { signer = take 4 text; reference = take size (drop 4 text) } };
+    })
+    (at .place)
 frontOf code text (front.Not why) = not (why .why) (why .place)
 
 abbrev pub restOf : Rest → Way Dated
-restOf (rest.Is issued signed definition category at) = is (record { issued = issued; signed = signed; definition = definition; category = category }) (at .place)
+restOf (rest.Is issued signed definition category at) =
+    is (record { issued = issued; signed = signed; definition = definition; category = category }) (at .place)
 restOf (rest.Not why) = not (why .why) (why .place)
 
 -- how many there are, at the place of FF

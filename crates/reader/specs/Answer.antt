@@ -1,4 +1,5 @@
--- What a caller holds after a reading, turned back into a content: the answer, the table and the text that were lent, and the seal's own bytes.
+-- What a caller holds after a reading, turned back into a content: the answer, the table and the text that were lent,
+-- and the seal's own bytes.
 -- Assumes nothing.
 pub mod Laws
 use Prim.Native.Nat.{ℕ}
@@ -17,7 +18,16 @@ unfoldable pub contentAs : List ℕ → Reading → List ℕ → List ℕ → Ve
 contentAs s r table text v =
     let h = r .header in
     record {
-      header = record { version = v; country = h .country; signer = take 4 text; reference = take (h .length) (drop 4 text); issued = h .issued; signed = h .signed; definition = h .definition; category = h .category };
+      header = record {
+        version = v;
+        country = h .country;
+        signer = take 4 text;
+        reference = take (h .length) (drop 4 text);
+        issued = h .issued;
+        signed = h .signed;
+        definition = h .definition;
+        category = h .category;
+      };
       features = map (featureOf s) (take (r .count) (rowsOf table));
       signature = part (r .signature .place) (r .signature .length) s;
     }

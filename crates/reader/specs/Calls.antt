@@ -1,4 +1,5 @@
--- What the calls answer (document 01, "On 0 the reader gives"), for every input: the answer's fields, and what the lent table and text hold afterwards.
+-- What the calls answer (document 01, "On 0 the reader gives"), for every input: the answer's fields, and what the lent
+-- table and text hold afterwards.
 -- Assumes nothing.
 pub mod Laws
 pub mod Reads
@@ -27,12 +28,21 @@ use Rattle.reader.specs.declared.Judgement.{Judgement}
 abbrev pub answer : Header → Ends → Part → ℕ → Reading
 answer header ends signature count = record { number = 0; place = 0; header = header; ends = ends; signature = signature; count = count }
 
--- on 0 the header, the three zone ends, the signature's place and length and the feature count; on any other number every field but number and place is 0
+-- on 0 the header, the three zone ends, the signature's place and length and the feature count; on any other number
+-- every field but number and place is 0
 abbrev pub answerOf : Verdict → Reading
 answerOf (accepted r) =
     let h = r .header in
     answer
-    (record { version = versionNumber (h .version); country = h .country; length = length (h .reference); issued = h .issued; signed = h .signed; definition = h .definition; category = h .category })
+    (record {
+      version = versionNumber (h .version);
+      country = h .country;
+      length = length (h .reference);
+      issued = h .issued;
+      signed = h .signed;
+      definition = h .definition;
+      category = h .category;
+    })
     (record { header = r .header-end; message = r .message-end; seal = r .seal-end })
     (record { place = r .signature-place; length = r .signature-size })
     (length (r .rows))
@@ -40,7 +50,8 @@ answerOf (refused number place) =
     record {
       number = number;
       place = place;
-      header = record { version = 0; country = 0 ∷ 0 ∷ 0 ∷ []; length = 0; issued = no-date; signed = no-date; definition = 0; category = 0 };
+      header =
+          record { version = 0; country = 0 ∷ 0 ∷ 0 ∷ []; length = 0; issued = no-date; signed = no-date; definition = 0; category = 0 };
       ends = record { header = 0; message = 0; seal = 0 };
       signature = record { place = 0; length = 0 };
       count = 0;

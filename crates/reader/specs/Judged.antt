@@ -54,6 +54,19 @@ module _ (s : List ℕ) (short : length s ≤ 4096) where
         unfolding reading
         judge-signature y place e = judge-reading ∙ rw (header-is, sym e2, sym e) refl
 
-        pub judge-accepted : (n start : ℕ) → is n start ≡ signature (p2 + 1) s → judge s ≡ accepted (record { header = headerOf f d; rows = rows; header-end = p1; message-end = p2; seal-end = length s; signature-place = start; signature-size = n })
+        pub judge-accepted :
+            (n start : ℕ) →
+            is n start ≡ signature (p2 + 1) s →
+            judge s
+            ≡ accepted
+            (record {
+              header = headerOf f d;
+              rows = rows;
+              header-end = p1;
+              message-end = p2;
+              seal-end = length s;
+              signature-place = start;
+              signature-size = n;
+            })
         unfolding reading
         judge-accepted n start e = judge-reading ∙ rw (header-is, sym e2, sym e) refl

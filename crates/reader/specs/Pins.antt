@@ -21,10 +21,38 @@ use Rattle.reader.specs.declared.Reading.{Reading}
 use Rattle.reader.specs.Calls.{answerOf, reading as asked, rowsIn, textIn, then}
 
 -- what the calls answer for Seal A and for a refusal
-a-answered : answerOf (accepted report-a) ≡ record { number = 0; place = 0; header = record { version = 3; country = header-a .country; length = 5; issued = header-a .issued; signed = header-a .signed; definition = 1; category = 2 }; ends = record { header = 18; message = 24; seal = 82 }; signature = record { place = 26; length = 56 }; count = 1 }
+a-answered :
+    answerOf (accepted report-a)
+    ≡ record {
+      number = 0;
+      place = 0;
+      header =
+          record {
+            version = 3;
+            country = header-a .country;
+            length = 5;
+            issued = header-a .issued;
+            signed = header-a .signed;
+            definition = 1;
+            category = 2;
+          };
+      ends = record { header = 18; message = 24; seal = 82 };
+      signature = record { place = 26; length = 56 };
+      count = 1;
+    }
 a-answered = refl
 
-refusal-answered : answerOf (refused 9 24) ≡ record { number = 9; place = 24; header = record { version = 0; country = 0 ∷ 0 ∷ 0 ∷ []; length = 0; issued = no-date; signed = no-date; definition = 0; category = 0 }; ends = record { header = 0; message = 0; seal = 0 }; signature = record { place = 0; length = 0 }; count = 0 }
+refusal-answered :
+    answerOf (refused 9 24)
+    ≡ record {
+      number = 9;
+      place = 24;
+      header =
+          record { version = 0; country = 0 ∷ 0 ∷ 0 ∷ []; length = 0; issued = no-date; signed = no-date; definition = 0; category = 0 };
+      ends = record { header = 0; message = 0; seal = 0 };
+      signature = record { place = 0; length = 0 };
+      count = 0;
+    }
 refusal-answered = refl
 
 -- a caller holds no content after a refusal, nor from an answer whose version is neither 3 nor 4

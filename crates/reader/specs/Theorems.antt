@@ -29,10 +29,15 @@ pub listed : (s : List ℕ) (numbers room : ℕ) → answerOf (reading s numbers
 listed s numbers room = given-listed (judge s) numbers room (from-list s)
 
 -- "A refusal ... changes nothing in the buffers we lent"
-pub refusal-keeps : (s : List ℕ) (rows names : List ℕ) (number place : ℕ) → reading s (length rows) (length names) ≡ refused number place → (then (rowsIn (reading s (length rows) (length names))) rows ≡ rows) × (then (textIn (reading s (length rows) (length names))) names ≡ names)
+pub refusal-keeps :
+    (s : List ℕ) (rows names : List ℕ) (number place : ℕ) →
+    reading s (length rows) (length names) ≡ refused number place →
+    (then (rowsIn (reading s (length rows) (length names))) rows ≡ rows)
+    × (then (textIn (reading s (length rows) (length names))) names ≡ names)
 refusal-keeps s rows names number place e = (ap (λ v. then (rowsIn v) rows) e, ap (λ v. then (textIn v) names) e)
 
--- Condition 3: "Given room for the answer, a byte string is accepted exactly when it is the published form of a legal content": a published form is accepted
+-- Condition 3: "Given room for the answer, a byte string is accepted exactly when it is the published form of a legal
+-- content": a published form is accepted
 pub accepted-when :
     (c : Content) → Legal c → (numbers room : ℕ) → width * length (c .features) ≤ numbers → 4 + length (c .header .reference) ≤ room →
     reading (publish c) numbers room ≡ accepted (reportOf c)
@@ -48,7 +53,8 @@ pub record ZonesOf (s : List ℕ) (c : Content) (a : Reading) : Type 0 where
   pub raw-size : a .signature .length ≡ length (c .signature)
   pub raw-last : a .signature .place + a .signature .length ≡ length s
 
--- and what is accepted is one: "That content is then the only one, and it is what the reader reports", in the answer, the table and the text that the caller holds
+-- and what is accepted is one: "That content is then the only one, and it is what the reader reports", in the answer,
+-- the table and the text that the caller holds
 pub record Reported (s rows names : List ℕ) (r : Report) : Type 0 where
   pub content : Content
   pub legal : Legal content
@@ -59,7 +65,12 @@ pub record Reported (s rows names : List ℕ) (r : Report) : Type 0 where
   pub zones : ZonesOf s content (answerOf (accepted r))
   pub signed : take (r .message-end) s ≡ signedBytes content
 
-pub accepted-exactly : (s : List ℕ) → Bytes s → (rows names : List ℕ) (r : Report) → reading s (length rows) (length names) ≡ accepted r → Reported s rows names r
+pub accepted-exactly :
+    (s : List ℕ) →
+    Bytes s →
+    (rows names : List ℕ) (r : Report) →
+    reading s (length rows) (length names) ≡ accepted r →
+    Reported s rows names r
 unfolding reportOf signatureZone contentOf
 accepted-exactly s bytes rows names r e =
     let j : judge s ≡ accepted r = given-accepted (judge s) (length rows) (length names) r e in
@@ -102,5 +113,9 @@ no-front s t more bytes r q e f =
     no-front-part (a .content) (b .content) t (a .legal) (b .legal) (ap (λ u. u ++ t) (a .form-is) ∙ sym (b .form-is)) .1
 
 -- A reading never depends on what the lent memory held: with as much room, the answer and what is written are the same
-pub same-answer : (s rows names rows′ names′ : List ℕ) → length rows ≡ length rows′ → length names ≡ length names′ → reading s (length rows) (length names) ≡ reading s (length rows′) (length names′)
+pub same-answer :
+    (s rows names rows′ names′ : List ℕ) →
+    length rows ≡ length rows′ →
+    length names ≡ length names′ →
+    reading s (length rows) (length names) ≡ reading s (length rows′) (length names′)
 same-answer s rows names rows′ names′ e f = ap (λ n. reading s n (length names)) e ∙ ap (reading s (length rows′)) f

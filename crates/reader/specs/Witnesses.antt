@@ -52,7 +52,8 @@ witnesses =
     ∷ []
 
 pub each-is-given : All Given witnesses
-unfolding judge judging readingOf header tag row features signature decode pairOf single values theChart valueOf isDay readLength longForm val
+unfolding judge judging readingOf header tag row features signature decode pairOf single values theChart valueOf isDay readLength
+    longForm val
 each-is-given = (refl, (refl, (refl, (refl, (refl, (refl, (refl, (refl, (refl, (refl, (refl, (refl, (refl, tt)))))))))))))
 
 -- they are 1 to 12, none left out

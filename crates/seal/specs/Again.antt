@@ -1,4 +1,5 @@
--- What a caller lends to the writer after a reading, so that the seal is made anew: the answer's header, the text and the table as far as they were written, the seal
+-- What a caller lends to the writer after a reading, so that the seal is made anew: the answer's header, the text and
+-- the table as far as they were written, the seal
 -- itself as the values buffer, and the signature where it stands in the seal.
 -- Assumes nothing.
 pub mod Laws

@@ -4,7 +4,8 @@
 --   writing, Lent, Sound                           crates/writer/specs/Calls.antt (the contract of `write`), Legal.antt there; contentOf: crates/write_given/specs/Given.antt
 --   told, filled                                   crates/format/specs/Answers.antt
 --   againFrom                                      crates/seal/specs/Again.antt
--- C40 text, dates, INTEGERs and signature forms: condition 1 in Entries.antt beside this file, condition 2 in the file Exact.antt of c40, dates, integers and ecdsa.
+-- C40 text, dates, INTEGERs and signature forms: condition 1 in Entries.antt beside this file, condition 2 in the file
+-- Exact.antt of c40, dates, integers and ecdsa.
 -- Assumes nothing.
 pub mod Laws
 use mathlib.Core.Path.{_≡_, refl, ap, sym, subst, _∙_}
@@ -38,7 +39,8 @@ use Rattle.writer.specs.Legal.{Lent, Sound, written-legal, legal-written}
 use Rattle.writer.specs.Theorems as writer
 use Rattle.seal.specs.Again.{againFrom}
 use Rattle.seal.specs.Again.Laws.{again-held}
-use Rattle.seal.specs.Conditions.Laws.{zero-accepted, signer-long, again-writes, header-given, text-held, features-given, back-reads, back-content, same-text, same-header, refusal-of, verdict-listed, zero-judged, signed-first}
+use Rattle.seal.specs.Conditions.Laws.{zero-accepted, signer-long, again-writes, header-given, text-held, features-given, back-reads}
+use Rattle.seal.specs.Conditions.Laws.{back-content, same-text, same-header, refusal-of, verdict-listed, zero-judged, signed-first}
 
 -- What `read` gives for a seal and a lent table and text: its answer, and what table and text hold afterwards.
 abbrev pub answer : List ℕ → List ℕ → List ℕ → Reading
@@ -81,10 +83,17 @@ pub writer-in-order : (g : Given) (out : List ℕ) → numberOf g out ≡ firstN
 writer-in-order g out = writer.in-order g (length out)
 
 -- "A refusal carries its number and place and changes nothing in the buffers we lent." Every other field of the answer is 0.
-pub reader-refusal : (s rows names : List ℕ) → (answer s rows names .number ≡ 0 → ⊥) → (answer s rows names ≡ answerOf (refused (answer s rows names .number) (answer s rows names .place))) × ((tableAfter s rows names ≡ rows) × (textAfter s rows names ≡ names))
+pub reader-refusal :
+    (s rows names : List ℕ) →
+    (answer s rows names .number ≡ 0 → ⊥) →
+    (answer s rows names ≡ answerOf (refused (answer s rows names .number) (answer s rows names .place)))
+    × ((tableAfter s rows names ≡ rows) × (textAfter s rows names ≡ names))
 reader-refusal s rows names h = refusal-of (reading s (length rows) (length names)) rows names h
 
-pub writer-refusal : (g : Given) (out : List ℕ) → (numberOf g out ≡ 0 → ⊥) → (told (writing g (length out)) ≡ told (refusedWith (numberOf g out) 0)) × (bufferAfter g out ≡ out)
+pub writer-refusal :
+    (g : Given) (out : List ℕ) →
+    (numberOf g out ≡ 0 → ⊥) →
+    (told (writing g (length out)) ≡ told (refusedWith (numberOf g out) 0)) × (bufferAfter g out ≡ out)
 writer-refusal g out h =
     ⊎-elim (λ e. absurd (h (ap (λ o. o .number) e))) (λ e. (ap told (e .1), ap (λ o. filled o out) (e .1))) (writer.listed g (length out))
 
@@ -95,14 +104,22 @@ seal-made g out z =
     let e = writer.zero-done g (length out) z in
     e ∙ ap done (sym (writer.stands g out (writing g (length out) .written) e))
 
--- read with as much table and text as was given: header and text are those given, and the content held, with its tags, value bytes and signature, is the one given
+-- read with as much table and text as was given: header and text are those given, and the content held, with its tags,
+-- value bytes and signature, is the one given
 pub record ReadsBack (g : Given) (s rows names : List ℕ) : Type 0 where
   pub number : answer s rows names .number ≡ 0
   pub header : answer s rows names .header ≡ g .header
   pub text : take (length (g .text)) (textAfter s rows names) ≡ g .text
   pub content : contentHeld s rows names ≡ contentOf g
 
-pub written-reads : (g : Given) (out : List ℕ) → Lent g → numberOf g out ≡ 0 → (rows names : List ℕ) → length (g .table) ≤ length rows → length (g .text) ≤ length names → ReadsBack g (sealIn g out) rows names
+pub written-reads :
+    (g : Given) (out : List ℕ) →
+    Lent g →
+    numberOf g out ≡ 0 →
+    (rows names : List ℕ) →
+    length (g .table) ≤ length rows →
+    length (g .text) ≤ length names →
+    ReadsBack g (sealIn g out) rows names
 written-reads g out lent z rows names more-rows more-names =
     let s = sealIn g out in
     let w = written-legal g (length out) s lent (seal-made g out z) in
@@ -111,11 +128,20 @@ written-reads g out lent z rows names more-rows more-names =
       number = ap (λ v. answerOf v .number) (sym e);
       header = subst (λ v. answerOf v .header ≡ g .header) e (header-given g (w .content) (w .says) (w .sound));
       text = subst (λ v. take (length (g .text)) (then (textIn v) names) ≡ g .text) e (text-held g (w .content) (w .says) names);
-      content = subst (λ v. contentIn s (answerOf v) (then (rowsIn v) rows) (then (textIn v) names) ≡ contentOf g) e (back-content g (length out) s w rows names);
+      content =
+          subst (λ v. contentIn s (answerOf v) (then (rowsIn v) rows) (then (textIn v) names) ≡ contentOf g) e
+          (back-content g (length out) s w rows names);
     }
 
 -- "What the reader accepts writes back, given room, as the same bytes."
-pub read-writes : (s : List ℕ) → Bytes s → (rows names : List ℕ) → answer s rows names .number ≡ 0 → (room : ℕ) → length s ≤ room → writing (againFrom s (answer s rows names) (tableAfter s rows names) (textAfter s rows names)) room ≡ done s
+pub read-writes :
+    (s : List ℕ) →
+    Bytes s →
+    (rows names : List ℕ) →
+    answer s rows names .number ≡ 0 →
+    (room : ℕ) →
+    length s ≤ room →
+    writing (againFrom s (answer s rows names) (tableAfter s rows names) (textAfter s rows names)) room ≡ done s
 read-writes s bytes rows names z room fits =
     let a = zero-accepted s (length rows) (length names) z in
     let j = given-accepted (judge s) (length rows) (length names) (a .report) (a .reads) in
@@ -123,7 +149,8 @@ read-writes s bytes rows names z room fits =
     ∙ ap (λ g. writing g room) (again-held s (a .report) rows names (signer-long s bytes (a .report) j))
     ∙ again-writes s bytes (a .report) j room fits
 
--- The writer is done exactly when a content is given and legal, the call's shape is sound and there is room; what it makes is the published form.
+-- The writer is done exactly when a content is given and legal, the call's shape is sound and there is room; what it
+-- makes is the published form.
 pub record Writes (g : Given) (out : List ℕ) : Type 0 where
   pub content : Content
   pub says : contentOf g ≡ some content
@@ -164,9 +191,13 @@ accepted-published s bytes rows names z =
     let r = reader.accepted-exactly s bytes rows names (a .report) (a .reads) in
     record { content = r .content; legal = r .legal; form-is = r .form-is }
 
-pub published-accepted : (s : List ℕ) (p : Published s) (rows names : List ℕ) → Room (p .content) rows names → answer s rows names .number ≡ 0
+pub published-accepted :
+    (s : List ℕ) (p : Published s) (rows names : List ℕ) →
+    Room (p .content) rows names →
+    answer s rows names .number ≡ 0
 published-accepted s p rows names room =
-    ap (λ u. answer u rows names .number) (sym (p .form-is)) ∙ ap (λ v. answerOf v .number) (reader.accepted-when (p .content) (p .legal) (length rows) (length names) (room .0) (room .1))
+    ap (λ u. answer u rows names .number) (sym (p .form-is))
+    ∙ ap (λ v. answerOf v .number) (reader.accepted-when (p .content) (p .legal) (length rows) (length names) (room .0) (room .1))
 
 -- `judge` needs no room
 pub judged-published : (s : List ℕ) → Bytes s → answerOf (judge s) .number ≡ 0 → Published s
@@ -176,39 +207,67 @@ judged-published s bytes z =
     record { content = seal .content; legal = seal .legal; form-is = seal .form-is }
 
 pub published-judged : (s : List ℕ) (p : Published s) → answerOf (judge s) .number ≡ 0
-published-judged s p = ap (λ u. answerOf (judge u) .number) (sym (p .form-is)) ∙ ap (λ v. answerOf v .number) (legal-accepted (p .content) (p .legal))
+published-judged s p =
+    ap (λ u. answerOf (judge u) .number) (sym (p .form-is)) ∙ ap (λ v. answerOf v .number) (legal-accepted (p .content) (p .legal))
 
 -- "That content is then the only one"
 pub only-content : (s : List ℕ) (p q : Published s) → p .content ≡ q .content
 only-content s p q = grammar.one-content (p .content) (q .content) (p .legal) (q .legal) (p .form-is ∙ sym (q .form-is))
 
 -- "and it is what the reader reports."
-pub reports : (s : List ℕ) → Bytes s → (p : Published s) (rows names : List ℕ) → answer s rows names .number ≡ 0 → contentHeld s rows names ≡ some (p .content)
+pub reports :
+    (s : List ℕ) →
+    Bytes s →
+    (p : Published s) (rows names : List ℕ) →
+    answer s rows names .number ≡ 0 →
+    contentHeld s rows names ≡ some (p .content)
 reports s bytes p rows names z =
     let a = zero-accepted s (length rows) (length names) z in
     let r = reader.accepted-exactly s bytes rows names (a .report) (a .reads) in
-    ap (λ v. contentIn s (answerOf v) (then (rowsIn v) rows) (then (textIn v) names)) (a .reads) ∙ r .reports ∙ ap some (sym (r .only (p .content) (p .legal) (p .form-is)))
+    ap (λ v. contentIn s (answerOf v) (then (rowsIn v) rows) (then (textIn v) names)) (a .reads)
+    ∙ r .reports
+    ∙ ap some (sym (r .only (p .content) (p .legal) (p .form-is)))
 
 -- "No accepted seal is the front part of a longer accepted one"
-pub no-front-part : (s t : List ℕ) → Bytes (s ++ t) → (rows names rows′ names′ : List ℕ) → answer s rows names .number ≡ 0 → answer (s ++ t) rows′ names′ .number ≡ 0 → t ≡ []
+pub no-front-part :
+    (s t : List ℕ) →
+    Bytes (s ++ t) →
+    (rows names rows′ names′ : List ℕ) →
+    answer s rows names .number ≡ 0 →
+    answer (s ++ t) rows′ names′ .number ≡ 0 →
+    t ≡ []
 no-front-part s t bytes rows names rows′ names′ z z′ =
     let front : Bytes s = subst Bytes (take-at s t (length s) refl) (bytes-take (length s) (s ++ t) bytes) in
     let a = zero-accepted s (length rows) (length names) z in
     let b = zero-accepted (s ++ t) (length rows′) (length names′) z′ in
-    reader.no-front s t bytes front (a .report) (b .report) (given-accepted (judge s) (length rows) (length names) (a .report) (a .reads)) (given-accepted (judge (s ++ t)) (length rows′) (length names′) (b .report) (b .reads))
+    reader.no-front s t bytes front (a .report) (b .report) (given-accepted (judge s) (length rows) (length names) (a .report) (a .reads))
+    (given-accepted (judge (s ++ t)) (length rows′) (length names′) (b .report) (b .reads))
 
 -- "and two legal contents that differ in header or features differ in their signed bytes."
-pub signed-apart : (a b : Content) → Legal a → Legal b → signedBytes a ≡ signedBytes b → (a .header ≡ b .header) × (a .features ≡ b .features)
+pub signed-apart :
+    (a b : Content) →
+    Legal a →
+    Legal b →
+    signedBytes a ≡ signedBytes b →
+    (a .header ≡ b .header) × (a .features ≡ b .features)
 signed-apart a b la lb e = grammar.signed-apart a b la lb e
 
 -- The signed bytes of an accepted seal are its front part, up to the end of the message zone that the answer gives.
-pub signed-front : (s : List ℕ) → Bytes s → (p : Published s) (rows names : List ℕ) → answer s rows names .number ≡ 0 → take (answer s rows names .ends .message) s ≡ signedBytes (p .content)
+pub signed-front :
+    (s : List ℕ) →
+    Bytes s →
+    (p : Published s) (rows names : List ℕ) →
+    answer s rows names .number ≡ 0 →
+    take (answer s rows names .ends .message) s ≡ signedBytes (p .content)
 signed-front s bytes p rows names z =
     let a = zero-accepted s (length rows) (length names) z in
     let r = reader.accepted-exactly s bytes rows names (a .report) (a .reads) in
-    ap (λ v. take (answerOf v .ends .message) s) (a .reads) ∙ r .signed ∙ ap signedBytes (sym (r .only (p .content) (p .legal) (p .form-is)))
+    ap (λ v. take (answerOf v .ends .message) s) (a .reads)
+    ∙ r .signed
+    ∙ ap signedBytes (sym (r .only (p .content) (p .legal) (p .form-is)))
 
--- The zone ends that the answer gives, and the signature's part, are those of the only content (`ZonesOf`: crates/reader/specs/Theorems.antt):
+-- The zone ends that the answer gives, and the signature's part, are those of the only content (`ZonesOf`:
+-- crates/reader/specs/Theorems.antt):
 -- header end the header zone's length, message end that and the message zone's, seal end the seal's length, and the part the raw signature.
 pub zone-ends : (s : List ℕ) → Bytes s → (p : Published s) (rows names : List ℕ) → answer s rows names .number ≡ 0 →
     reader.ZonesOf s (p .content) (answer s rows names)
@@ -230,7 +289,8 @@ seals-apart s s′ bytes bytes′ rows names rows′ names′ z z′ e c c′ he
     let q = accepted-published s′ bytes′ rows′ names′ z′ in
     let f = Option·some-injective c (p .content) (sym held ∙ reports s bytes p rows names z) in
     let g = Option·some-injective c′ (q .content) (sym held′ ∙ reports s′ bytes′ q rows′ names′ z′) in
-    let same = signed-apart (p .content) (q .content) (p .legal) (q .legal) (sym (signed-front s bytes p rows names z) ∙ e ∙ signed-front s′ bytes′ q rows′ names′ z′) in
+    let same = signed-apart (p .content) (q .content) (p .legal) (q .legal)
+    (sym (signed-front s bytes p rows names z) ∙ e ∙ signed-front s′ bytes′ q rows′ names′ z′) in
     (ap (λ c. c .header) f ∙ same .0 ∙ ap (λ c. c .header) (sym g), ap (λ c. c .features) f ∙ same .1 ∙ ap (λ c. c .features) (sym g))
 
 -- The signed bytes of a seal that was written are its front part too, and the rest is FF, the length and the signature given.

@@ -40,7 +40,8 @@ Answers ns o = (o ≡ done (o .written)) ⊎ (OneOf (o .number) ns × (o .writte
 
 -- "changes nothing in the buffers we lent"
 pub keeps : (ns : List ℕ) (o : Outcome) (out : List ℕ) → Answers ns o → (o .number ≡ 0 → ⊥) → filled o out ≡ out
-keeps ns o out a h = ⊎-elim (λ e. absurd (h (ap (λ p. p .number) e))) (λ e. ap (λ w. filled (record { number = 0; place = 0; written = w }) out) (e .1)) a
+keeps ns o out a h =
+    ⊎-elim (λ e. absurd (h (ap (λ p. p .number) e))) (λ e. ap (λ w. filled (record { number = 0; place = 0; written = w }) out) (e .1)) a
 
 -- a call whose tests stand in order is done, or refused with the number of one of them
 more : (n : ℕ) (ns : List ℕ) (o : Outcome) → Answers ns o → Answers (n ∷ ns) o
@@ -127,7 +128,9 @@ content-listed c =
     (inr refl)
 
 whole-listed : (s : List ℕ) (e : Element) → Gives 65 (pos 0) (integers.whole s e)
-whole-listed s (Body start end) = select 65 (pos 0) (eqb end (length s)) (integers.content (take (end - start) (drop start s))) (refusal (pos 0) 65) (content-listed (take (end - start) (drop start s))) (inr refl)
+whole-listed s (Body start end) =
+    select 65 (pos 0) (eqb end (length s)) (integers.content (take (end - start) (drop start s))) (refusal (pos 0) 65)
+    (content-listed (take (end - start) (drop start s))) (inr refl)
 whole-listed s Nothing = inr refl
 
 pub integer-reading : (s : List ℕ) → Gives 65 (pos 0) (integers.reading s)

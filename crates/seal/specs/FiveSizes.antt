@@ -1,4 +1,5 @@
--- The five sizes n stand in the grammar, in the test that reader and writer share and in the signature forms: all three say the same, once over n.
+-- The five sizes n stand in the grammar, in the test that reader and writer share and in the signature forms: all three
+-- say the same, once over n.
 -- Assumes nothing.
 use mathlib.Core.Path.{_≡_, ap₂, sym, _∙_}
 use Prim.Native.Nat.{ℕ, _*_}
@@ -23,7 +24,8 @@ doubled n k =
 -- n is one of the five exactly when 2n is a raw length
 pub size-doubled : (n : ℕ) → isSize n ≡ isSignature (2 * n)
 unfolding isSize
-size-doubled n = ap₂ either (doubled n 28) (ap₂ either (doubled n 32) (ap₂ either (doubled n 48) (ap₂ either (doubled n 64) (doubled n 66))))
+size-doubled n =
+    ap₂ either (doubled n 28) (ap₂ either (doubled n 32) (ap₂ either (doubled n 48) (ap₂ either (doubled n 64) (doubled n 66))))
 
 -- and it is the grammar's rule
 pub size-legal : (n : ℕ) → isSignature n ≡ true → SignatureSize n

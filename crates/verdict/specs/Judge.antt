@@ -46,7 +46,18 @@ header s =
     (λ signed at. next item.Definition (last at s)
     (λ definition at. next item.Category (last at s)
     (λ category at.
-    is (record { version = v; country = c; signer = n .signer; reference = n .reference; issued = issued; signed = signed; definition = definition; category = category }) at))))))))
+    is
+    (record {
+      version = v;
+      country = c;
+      signer = n .signer;
+      reference = n .reference;
+      issued = issued;
+      signed = signed;
+      definition = definition;
+      category = category;
+    })
+    at))))))))
 
 -- whether a row before has this tag
 abbrev pub used : ℕ → List Row → Bool
@@ -101,7 +112,17 @@ reading s =
     (λ h header-end. pass (features 256 (h .version) [] header-end s)
     (λ rows message-end. pass (signature (message-end + 1) s)
     (λ n start.
-    is (record { header = h; rows = rows; header-end = header-end; message-end = message-end; seal-end = length s; signature-place = start; signature-size = n }) (start + n))))
+    is
+    (record {
+      header = h;
+      rows = rows;
+      header-end = header-end;
+      message-end = message-end;
+      seal-end = length s;
+      signature-place = start;
+      signature-size = n;
+    })
+    (start + n))))
 
 -- a byte string that is too long is refused before its first item is read
 unfoldable pub judging : List ℕ → Way Report

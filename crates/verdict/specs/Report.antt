@@ -14,4 +14,5 @@ abbrev pub featureOf : List ℕ → Row → Feature
 featureOf s r = record { tag = r .tag; value = part (r .place) (r .size) s }
 
 unfoldable pub contentOf : List ℕ → Report → Content
-contentOf s r = record { header = r .header; features = map (featureOf s) (r .rows); signature = part (r .signature-place) (r .signature-size) s }
+contentOf s r =
+    record { header = r .header; features = map (featureOf s) (r .rows); signature = part (r .signature-place) (r .signature-size) s }

@@ -25,7 +25,16 @@ threeOf c = getD c 0 0 ∷ getD c 1 0 ∷ getD c 2 0 ∷ []
 
 -- the header in a version: signer and reference are the text's first four characters and the rest
 abbrev pub headerOf : Version → Header → List ℕ → Headed
-headerOf v h text = record { version = v; country = threeOf (h .country); signer = take 4 text; reference = drop 4 text; issued = h .issued; signed = h .signed; definition = h .definition; category = h .category }
+headerOf v h text = record {
+  version = v;
+  country = threeOf (h .country);
+  signer = take 4 text;
+  reference = drop 4 text;
+  issued = h .issued;
+  signed = h .signed;
+  definition = h .definition;
+  category = h .category;
+}
 
 -- the features, in the order of their rows
 abbrev pub featuresOf : Given → List Feature

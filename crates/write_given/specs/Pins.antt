@@ -14,7 +14,8 @@ use Rattle.write_given.specs.Given.{contentAs, contentOf, given}
 use Rattle.write_given.specs.Tests.{isTextSize, areNames, areRows, isTable, areShort, areValues}
 
 abbrev header : ℕ → List ℕ → ℕ → Header
-header version country l = record { version = version; country = country; length = l; issued = spring; signed = firstDay; definition = 1; category = 254 }
+header version country l =
+    record { version = version; country = country; length = l; issued = spring; signed = firstDay; definition = 1; category = 254 }
 
 -- tag 254 before tag 0, as the rows have them
 in-order :
@@ -41,11 +42,23 @@ version-7 : (table values signature : List ℕ) → contentOf (given (header 7 u
 unfolding contentOf
 version-7 table values signature = refl
 
-sizes : (isTextSize three 8 ≡ false) × (isTextSize three 9 ≡ true) × (isTextSize three 10 ≡ false) × (isTextSize four 4 ≡ false) × (isTextSize four 5 ≡ true) × (isTextSize four 259 ≡ true) × (isTextSize four 260 ≡ false)
+sizes :
+    (isTextSize three 8 ≡ false)
+    × (isTextSize three 9 ≡ true)
+    × (isTextSize three 10 ≡ false)
+    × (isTextSize four 4 ≡ false)
+    × (isTextSize four 5 ≡ true)
+    × (isTextSize four 259 ≡ true)
+    × (isTextSize four 260 ≡ false)
 sizes = (refl, refl, refl, refl, refl, refl, refl)
 
 -- L that is not the reference's length, and a space in the country
-named : (areNames three (header 3 uto 5) (utab ++ ref-00001) ≡ true) × (areNames four (header 4 uto 5) (utab ++ ref-00001) ≡ true) × (areNames four (header 4 uto 4) (utab ++ ref-00001) ≡ false) × (areNames four (header 4 uto 6) (utab ++ ref-00001) ≡ false) × (areNames three (header 3 (68 ∷ 32 ∷ 32 ∷ []) 5) (utab ++ ref-00001) ≡ false)
+named :
+    (areNames three (header 3 uto 5) (utab ++ ref-00001) ≡ true)
+    × (areNames four (header 4 uto 5) (utab ++ ref-00001) ≡ true)
+    × (areNames four (header 4 uto 4) (utab ++ ref-00001) ≡ false)
+    × (areNames four (header 4 uto 6) (utab ++ ref-00001) ≡ false)
+    × (areNames three (header 3 (68 ∷ 32 ∷ 32 ∷ []) 5) (utab ++ ref-00001) ≡ false)
 named = (refl, refl, refl, refl, refl)
 
 -- over four bytes of values: whole, empty at the end, empty past it, one past it; a number over; tag 254 and not 255; a tag used twice

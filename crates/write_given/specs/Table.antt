@@ -38,7 +38,9 @@ are-none : (n : ℕ) (before : List Row) → areRows n before [] ≡ true
 unfolding areRows
 are-none n before = refl
 
-are-cons : (n : ℕ) (before : List Row) (r : Row) (rows : List Row) → areRows n before (r ∷ rows) ≡ both (isRow n before r) (areRows n (r ∷ before) rows)
+are-cons :
+    (n : ℕ) (before : List Row) (r : Row) (rows : List Row) →
+    areRows n before (r ∷ rows) ≡ both (isRow n before r) (areRows n (r ∷ before) rows)
 unfolding areRows
 are-cons n before r rows = refl
 

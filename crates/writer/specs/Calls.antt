@@ -1,4 +1,5 @@
--- What the writer answers, for every input (document 01, numbers 20 to 28, in order, each with place 0), and what it writes: all is judged before the first byte.
+-- What the writer answers, for every input (document 01, numbers 20 to 28, in order, each with place 0), and what it
+-- writes: all is judged before the first byte.
 -- Assumes nothing.
 pub mod Laws
 use Prim.Native.Nat.{ℕ}

@@ -96,7 +96,13 @@ written-legal g room s lent e =
     }
 
 -- and every such call is answered 0 with that form
-legal-as : (v : Version) (g : Given) (room : ℕ) → versionOf (g .header .version) ≡ some v → Sound g → Legal (contentAs g v) → length (publish (contentAs g v)) ≤ room → writing g room ≡ done (publish (contentAs g v))
+legal-as :
+    (v : Version) (g : Given) (room : ℕ) →
+    versionOf (g .header .version) ≡ some v →
+    Sound g →
+    Legal (contentAs g v) →
+    length (publish (contentAs g v)) ≤ room →
+    writing g room ≡ done (publish (contentAs g v))
 unfolding contentAs
 legal-as v g room version sound l fits =
     let h = g .header in
@@ -104,9 +110,20 @@ legal-as v g room version sound l fits =
     passes-done v g room
     (record {
       version = version;
-      names = names-pass v h (g .text) (record { country = l .header .country; signer = l .header .signer; reference = l .header .reference; size = l .header .size; measured = sound .measured });
+      names =
+          names-pass v h (g .text)
+          (record {
+            country = l .header .country;
+            signer = l .header .signer;
+            reference = l .header .reference;
+            size = l .header .size;
+            measured = sound .measured;
+          });
       days = both-are (isDay (h .issued)) (isDay (h .signed)) (l .header .issued) (l .header .signed);
-      last = both-are (within 1 254 (h .definition)) (within 1 254 (h .category)) (within-true 1 254 (h .definition) (l .header .definition .0) (l .header .definition .1)) (within-true 1 254 (h .category) (l .header .category .0) (l .header .category .1));
+      last =
+          both-are (within 1 254 (h .definition)) (within 1 254 (h .category))
+          (within-true 1 254 (h .definition) (l .header .definition .0) (l .header .definition .1))
+          (within-true 1 254 (h .category) (l .header .category .0) (l .header .category .1));
       table =
           both-are (isWhole (g .table)) (areRows (length (g .values)) [] (rowsOf (g .table)))
           (whole-is (g .table) (sound .whole)) (rows .0);
@@ -116,8 +133,15 @@ legal-as v g room version sound l fits =
       fits = fits;
     })
 
-pub legal-written : (g : Given) (room : ℕ) (c : Content) → contentOf g ≡ some c → Sound g → Legal c → length (publish c) ≤ room → writing g room ≡ done (publish c)
+pub legal-written :
+    (g : Given) (room : ℕ) (c : Content) →
+    contentOf g ≡ some c →
+    Sound g →
+    Legal c →
+    length (publish c) ≤ room →
+    writing g room ≡ done (publish c)
 legal-written g room c e sound l fits =
     let s = says g c e in
-    legal-as (s .version) g room (s .stated) sound (subst Legal (sym (s .content)) l) (subst (λ d. length (publish d) ≤ room) (sym (s .content)) fits)
+    legal-as (s .version) g room (s .stated) sound (subst Legal (sym (s .content)) l)
+    (subst (λ d. length (publish d) ≤ room) (sym (s .content)) fits)
     ∙ ap (λ d. done (publish d)) (s .content)

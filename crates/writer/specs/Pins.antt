@@ -86,7 +86,9 @@ size-4097 = refl
 
 -- the names: a space in the country, L that is not the reference's length, and 20 before 21
 abbrev with-header : ℕ → List ℕ → ℕ → Given
-with-header version country l = given (record { version = version; country = country; length = l; issued = spring; signed = spring; definition = 1; category = 2 }) (utab ++ ref-00001) [] [] (replicate 56 0xAA)
+with-header version country l =
+    given (record { version = version; country = country; length = l; issued = spring; signed = spring; definition = 1; category = 2 })
+    (utab ++ ref-00001) [] [] (replicate 56 0xAA)
 
 spaced : writing (with-header 3 (68 ∷ 32 ∷ 32 ∷ []) 5) 82 ≡ refused 21 0
 unfolding writing writingAs

@@ -35,11 +35,17 @@ use Rattle.write_given.specs.Tests.Laws.{size-four}
 use Rattle.writer.specs.Needs.Laws.{spelled-six, six-text, reference-text}
 
 -- what a part of a buffer holds, from a place on, put back
-part-over : (out : List ℕ) (at : ℕ) (bytes after : List ℕ) → Room out at bytes → after ≡ bytes ++ drop (length bytes) (take (length out - at) (drop at out)) → take at out ++ (after ++ drop (length out - at) (drop at out)) ≡ over out at bytes
+part-over :
+    (out : List ℕ) (at : ℕ) (bytes after : List ℕ) →
+    Room out at bytes →
+    after ≡ bytes ++ drop (length bytes) (take (length out - at) (drop at out)) →
+    take at out ++ (after ++ drop (length out - at) (drop at out)) ≡ over out at bytes
 unfolding over
 part-over out at bytes after room e =
-    let all : take (length out - at) (drop at out) ≡ drop at out = take-all (length out - at) (drop at out) (omega (arith, length-drop at out)) in
-    let none : drop (length out - at) (drop at out) ≡ [] = drop-of-length-le (drop at out) {i = length out - at} (omega (arith, length-drop at out)) in
+    let all : take (length out - at) (drop at out) ≡ drop at out =
+    take-all (length out - at) (drop at out) (omega (arith, length-drop at out)) in
+    let none : drop (length out - at) (drop at out) ≡ [] =
+    drop-of-length-le (drop at out) {i = length out - at} (omega (arith, length-drop at out)) in
     let back : drop (length bytes) (drop at out) ≡ drop (at + length bytes) out = drop-drop (length bytes) at out in
     ap (λ a. take at out ++ (a ++ drop (length out - at) (drop at out))) (e ∙ ap (λ l. bytes ++ drop (length bytes) l) all)
     ∙ ap (λ r. take at out ++ ((bytes ++ drop (length bytes) (drop at out)) ++ r)) none
@@ -47,7 +53,13 @@ part-over out at bytes after room e =
     ∙ ap (λ r. take at out ++ (bytes ++ r)) back
     ∙ sym (append-assoc (take at out) bytes (drop (at + length bytes) out))
 
-pub put-text : (text out : List ℕ) (at : ℕ) (after : List ℕ) → Text text → length text ≤ 261 → Room out at (c40 text) → after ≡ filled (writing text (length (take (length out - at) (drop at out)))) (take (length out - at) (drop at out)) → take at out ++ (after ++ drop (length out - at) (drop at out)) ≡ over out at (c40 text)
+pub put-text :
+    (text out : List ℕ) (at : ℕ) (after : List ℕ) →
+    Text text →
+    length text ≤ 261 →
+    Room out at (c40 text) →
+    after ≡ filled (writing text (length (take (length out - at) (drop at out)))) (take (length out - at) (drop at out)) →
+    take at out ++ (after ++ drop (length out - at) (drop at out)) ≡ over out at (c40 text)
 put-text text out at after is-text size room e =
     let part = take (length out - at) (drop at out) in
     let long : length part ≡ length out - at = length-take-le (length out - at) (drop at out) (omega (arith, length-drop at out)) in
@@ -55,7 +67,12 @@ put-text text out at after is-text size room e =
     part-over out at (c40 text) after room (e ∙ ap (λ o. filled o part) w)
 
 -- three bytes of a date
-pub put-date : (d : Date) (n : ℕ) (out : List ℕ) (at : ℕ) → Day d → n ≡ numberOf d → at + 3 ≤ length out → set (set (set out at (n / 65536)) (at + 1) (n / 256 % 256)) (at + 2) (n % 256) ≡ over out at (date d)
+pub put-date :
+    (d : Date) (n : ℕ) (out : List ℕ) (at : ℕ) →
+    Day d →
+    n ≡ numberOf d →
+    at + 3 ≤ length out →
+    set (set (set out at (n / 65536)) (at + 1) (n / 256 % 256)) (at + 2) (n % 256) ≡ over out at (date d)
 unfolding date be
 put-date d n out at day e room =
     let small = number-below d day in
@@ -65,24 +82,39 @@ put-date d n out at day e room =
     ∙ ap (λ m. over out at ((m / 256 / 256 % 256) ∷ (m / 256 % 256) ∷ (m % 256) ∷ [])) e
 
 -- one, two or three stores of a form
-pub put-one : (out : List ℕ) (at x : ℕ) (bytes : List ℕ) → bytes ≡ x ∷ [] → Room out at bytes → (at + 1 ≡ at + length bytes) × (set out at x ≡ over out at bytes)
+pub put-one :
+    (out : List ℕ) (at x : ℕ) (bytes : List ℕ) →
+    bytes ≡ x ∷ [] →
+    Room out at bytes →
+    (at + 1 ≡ at + length bytes) × (set out at x ≡ over out at bytes)
 put-one out at x bytes e room = let n = ap length e in (omega arith, set-over out at x (omega arith) ∙ ap (over out at) (sym e))
 
-pub put-two : (out : List ℕ) (at x y : ℕ) (bytes : List ℕ) → bytes ≡ x ∷ y ∷ [] → Room out at bytes → (at + 2 ≡ at + length bytes) × (set (set out at x) (at + 1) y ≡ over out at bytes)
+pub put-two :
+    (out : List ℕ) (at x y : ℕ) (bytes : List ℕ) →
+    bytes ≡ x ∷ y ∷ [] →
+    Room out at bytes →
+    (at + 2 ≡ at + length bytes) × (set (set out at x) (at + 1) y ≡ over out at bytes)
 put-two out at x y bytes e room = let n = ap length e in (omega arith, over-two out at x y (omega arith) ∙ ap (over out at) (sym e))
 
-pub put-three : (out : List ℕ) (at x y z : ℕ) (bytes : List ℕ) → bytes ≡ x ∷ y ∷ z ∷ [] → Room out at bytes → (at + 3 ≡ at + length bytes) × (set (set (set out at x) (at + 1) y) (at + 2) z ≡ over out at bytes)
+pub put-three :
+    (out : List ℕ) (at x y z : ℕ) (bytes : List ℕ) →
+    bytes ≡ x ∷ y ∷ z ∷ [] →
+    Room out at bytes →
+    (at + 3 ≡ at + length bytes) × (set (set (set out at x) (at + 1) y) (at + 2) z ≡ over out at bytes)
 put-three out at x y z bytes e room = let n = ap length e in (omega arith, over-three out at x y z (omega arith) ∙ ap (over out at) (sym e))
 
 -- a feature: its tag, its length, its value
-feature-long : (v : Version) (tag : ℕ) (value : List ℕ) → length (feature v (record { tag = tag; value = value })) ≡ 1 + length (lengthOf v (length value)) + length value
+feature-long :
+    (v : Version) (tag : ℕ) (value : List ℕ) →
+    length (feature v (record { tag = tag; value = value })) ≡ 1 + length (lengthOf v (length value)) + length value
 feature-long v tag value = omega (arith, length-append (lengthOf v (length value)) value)
 
 module _ (v : Version) (tag : ℕ) (value out : List ℕ) (at : ℕ) (room : Room out at (feature v (record { tag = tag; value = value }))) where
   pub feature-room : Room (set out at tag) (at + 1) (lengthOf v (length value))
   feature-room = omega (arith, feature-long v tag value, length-set out at tag)
 
-  module _ (out1 : List ℕ) (next : ℕ) (reach : next ≡ at + 1 + length (lengthOf v (length value))) (first : out1 ≡ over (set out at tag) (at + 1) (lengthOf v (length value))) where
+  module _ (out1 : List ℕ) (next : ℕ) (reach : next ≡ at + 1 + length (lengthOf v (length value)))
+      (first : out1 ≡ over (set out at tag) (at + 1) (lengthOf v (length value))) where
     tag-form : out1 ≡ over out at (tag ∷ lengthOf v (length value))
     tag-form =
         let form = lengthOf v (length value) in
@@ -96,13 +128,21 @@ module _ (v : Version) (tag : ℕ) (value out : List ℕ) (at : ℕ) (room : Roo
         let same : length out1 ≡ length out = ap length tag-form ∙ length-over out at (tag ∷ lengthOf v (length value)) (omega arith) in
         omega arith
 
-    pub put-feature : (end : ℕ) (out2 : List ℕ) → end ≡ next + length value → out2 ≡ over out1 next value → (end ≡ at + length (feature v (record { tag = tag; value = value }))) × (out2 ≡ over out at (feature v (record { tag = tag; value = value })))
+    pub put-feature :
+        (end : ℕ) (out2 : List ℕ) →
+        end ≡ next + length value →
+        out2 ≡ over out1 next value →
+        (end ≡ at + length (feature v (record { tag = tag; value = value })))
+        × (out2 ≡ over out at (feature v (record { tag = tag; value = value })))
     put-feature end out2 e2 o2 =
         let form = lengthOf v (length value) in
         let long = feature-long v tag value in
         let sum : next ≡ at + length (tag ∷ form) = omega arith in (
           omega arith,
-          o2 ∙ ap (λ o. over o next value) tag-form ∙ ap (λ k. over (over out at (tag ∷ form)) k value) sum ∙ over-over out at (tag ∷ form) value (omega arith),
+          o2
+              ∙ ap (λ o. over o next value) tag-form
+              ∙ ap (λ k. over (over out at (tag ∷ form)) k value) sum
+              ∙ over-over out at (tag ∷ form) value (omega arith),
         )
 
 -- the characters of version 4's names
@@ -110,7 +150,12 @@ pub spelled-long : (text : List ℕ) → 4 ≤ length text → length (spelled t
 spelled-long text h =
     let first : length (take 4 text) ≡ 4 = length-take-le 4 text h in
     let n = length (drop 4 text) in
-    omega (arith, length-append (take 4 text ++ (hexDigit (n / 16) ∷ hexDigit (n % 16) ∷ [])) (drop 4 text), length-append (take 4 text) (hexDigit (n / 16) ∷ hexDigit (n % 16) ∷ []), length-drop 4 text)
+    omega (
+      arith,
+      length-append (take 4 text ++ (hexDigit (n / 16) ∷ hexDigit (n % 16) ∷ [])) (drop 4 text),
+      length-append (take 4 text) (hexDigit (n / 16) ∷ hexDigit (n % 16) ∷ []),
+      length-drop 4 text,
+    )
 
 -- signer and reference, by version
 pub names-three : (v : Version) (t : List ℕ) → v ≡ three → names v (take 4 t) (drop 4 t) ≡ c40 t
@@ -134,7 +179,8 @@ names-six v t e h =
     names-four v t e ∙ ap c40 (spelled-six t h) ∙ pairs u ∙ sym (append-assoc one two (c40 u)) ∙ ap (λ r. r ++ c40 u) (sym front)
 
 -- version 4's names put down: the six characters, then the reference
-module _ (v : Version) (t out : List ℕ) (at : ℕ) (codes : List ℕ) (n : Named v t) (other : v ≡ four) (room : Room out at (names v (take 4 t) (drop 4 t))) (e : codes ≡ sixOf t) where
+module _ (v : Version) (t out : List ℕ) (at : ℕ) (codes : List ℕ) (n : Named v t) (other : v ≡ four)
+    (room : Room out at (names v (take 4 t) (drop 4 t))) (e : codes ≡ sixOf t) where
   four-size : (5 ≤ length t) × (length t ≤ 259)
   four-size = size-four v (length t) other (n .size)
 
@@ -151,7 +197,8 @@ module _ (v : Version) (t out : List ℕ) (at : ℕ) (codes : List ℕ) (n : Nam
     omega (arith, both-long, room),
   )
 
-  module _ (next : ℕ) (out1 : List ℕ) (reach : next ≡ at + length (c40 codes)) (first : out1 ≡ over out at (c40 codes)) (left : List ℕ) (is-left : left ≡ drop 4 t) where
+  module _ (next : ℕ) (out1 : List ℕ) (reach : next ≡ at + length (c40 codes)) (first : out1 ≡ over out at (c40 codes)) (left : List ℕ)
+      (is-left : left ≡ drop 4 t) where
     same-room : length out1 ≡ length out
     same-room = ap length first ∙ length-over out at (c40 codes) (omega (arith, both-long, room))
 
@@ -162,11 +209,20 @@ module _ (v : Version) (t out : List ℕ) (at : ℕ) (codes : List ℕ) (n : Nam
       omega (arith, ap (λ l. length (c40 l)) is-left, both-long, room, reach, same-room),
     )
 
-    pub names-put : (to : ℕ) (after : List ℕ) → to ≡ next + length (c40 left) → after ≡ over out1 next (c40 left) → (to ≡ at + length (names v (take 4 t) (drop 4 t))) × (after ≡ over out at (names v (take 4 t) (drop 4 t)))
+    pub names-put :
+        (to : ℕ) (after : List ℕ) →
+        to ≡ next + length (c40 left) →
+        after ≡ over out1 next (c40 left) →
+        (to ≡ at + length (names v (take 4 t) (drop 4 t))) × (after ≡ over out at (names v (take 4 t) (drop 4 t)))
     names-put to after et ea =
         let l = c40 (drop 4 t) in (
           omega (arith, et, ap (λ x. length (c40 x)) is-left, both-long, reach),
-          ea ∙ ap (λ x. over out1 next (c40 x)) is-left ∙ ap (λ o. over o next l) first ∙ ap (λ k. over (over out at (c40 codes)) k l) reach ∙ over-over out at (c40 codes) l (omega (arith, both-long, room)) ∙ ap (over out at) (sym both-parts),
+          ea
+              ∙ ap (λ x. over out1 next (c40 x)) is-left
+              ∙ ap (λ o. over o next l) first
+              ∙ ap (λ k. over (over out at (c40 codes)) k l) reach
+              ∙ over-over out at (c40 codes) l (omega (arith, both-long, room))
+              ∙ ap (over out at) (sym both-parts),
         )
 
 -- how far text is put down: the full pairs before a place
@@ -179,7 +235,8 @@ pub record Texting (text out₀ : List ℕ) (start : ℕ) (out : List ℕ) (at i
   pub inside : i ≤ length text
 
 pub texting-start : (text out : List ℕ) (start : ℕ) → Room out start (c40 text) → Texting text out start out start 0
-texting-start text out start room = record { before = []; reached = omega arith; is = sym (over-none out start); whole = refl; room = room; inside = omega arith }
+texting-start text out start room =
+    record { before = []; reached = omega arith; is = sym (over-none out start); whole = refl; room = room; inside = omega arith }
 
 module _ (text out₀ : List ℕ) (start : ℕ) (out : List ℕ) (at i : ℕ) (p : Texting text out₀ start out at i) where
   sum : length (c40 text) ≡ length (p .before) + length (c40 (drop i text))
@@ -189,12 +246,23 @@ module _ (text out₀ : List ℕ) (start : ℕ) (out : List ℕ) (at i : ℕ) (p
   texting-length = ap length (p .is) ∙ length-over out₀ start (p .before) (omega (arith, sum, p .room))
 
   -- what is left, put down
-  pub texting-last : (left : List ℕ) → left ≡ drop i text → (to : ℕ) (after : List ℕ) → to ≡ at + length (c40 left) → after ≡ over out at (c40 left) → (to ≡ start + length (c40 text)) × (after ≡ over out₀ start (c40 text))
+  pub texting-last :
+      (left : List ℕ) →
+      left ≡ drop i text →
+      (to : ℕ) (after : List ℕ) →
+      to ≡ at + length (c40 left) →
+      after ≡ over out at (c40 left) →
+      (to ≡ start + length (c40 text)) × (after ≡ over out₀ start (c40 text))
   texting-last left e to after et eo =
       let l = c40 (drop i text) in
       let el : to ≡ at + length l = et ∙ ap (λ t. at + length (c40 t)) e in (
         omega (arith, el, sum, p .reached),
-        eo ∙ ap (λ t. over out at (c40 t)) e ∙ ap (λ o. over o at l) (p .is) ∙ ap (λ k. over (over out₀ start (p .before)) k l) (p .reached) ∙ over-over out₀ start (p .before) l (omega (arith, sum, p .room)) ∙ ap (over out₀ start) (sym (p .whole)),
+        eo
+            ∙ ap (λ t. over out at (c40 t)) e
+            ∙ ap (λ o. over o at l) (p .is)
+            ∙ ap (λ k. over (over out₀ start (p .before)) k l) (p .reached)
+            ∙ over-over out₀ start (p .before) l (omega (arith, sum, p .room))
+            ∙ ap (over out₀ start) (sym (p .whole)),
       )
 
   pub texting-end : length text ≤ i → (at ≡ start + length (c40 text)) × (out ≡ over out₀ start (c40 text))
@@ -202,7 +270,12 @@ module _ (text out₀ : List ℕ) (start : ℕ) (out : List ℕ) (at i : ℕ) (p
       let all : c40 text ≡ p .before = p .whole ∙ ap (λ z. p .before ++ z) (left-none text i h) ∙ append-nil (p .before) in
       (omega (arith, ap length all, p .reached), p .is ∙ ap (over out₀ start) (sym all))
 
-  pub texting-asks : (left : List ℕ) → left ≡ drop i text → Text text → length text ≤ 261 → Text left × (length left ≤ 261) × Room out at (c40 left)
+  pub texting-asks :
+      (left : List ℕ) →
+      left ≡ drop i text →
+      Text text →
+      length text ≤ 261 →
+      Text left × (length left ≤ 261) × Room out at (c40 left)
   texting-asks left e is-text long = (
     subst Text (sym e) (all-back InChart (take i text) (drop i text) (subst Text (sym (take-append-drop i text)) is-text)),
     omega (arith, ap length e, length-drop i text),
@@ -210,20 +283,32 @@ module _ (text out₀ : List ℕ) (start : ℕ) (out : List ℕ) (at i : ℕ) (p
   )
 
   module _ (here : i + 2 < length text) where
-    next-pair : c40 (drop i text) ≡ be 2 (packedOf (valueOf (getD text i 0)) (valueOf (getD text (i + 1) 0)) (valueOf (getD text (i + 2) 0))) ++ c40 (drop (i + 3) text)
+    next-pair :
+        c40 (drop i text)
+        ≡ be 2 (packedOf (valueOf (getD text i 0)) (valueOf (getD text (i + 1) 0)) (valueOf (getD text (i + 2) 0))) ++ c40
+        (drop (i + 3) text)
     next-pair = left-three text i (omega arith)
 
     pub texting-room : at + 2 ≤ length out
     texting-room = omega (arith, sum, length-publish (drop i text), length-drop i text, p .room, p .reached, texting-length)
 
-    pub texting-more : (number : ℕ) → number ≡ packedOf (valueOf (getD text i 0)) (valueOf (getD text (i + 1) 0)) (valueOf (getD text (i + 2) 0)) → number ≤ 64000 → Texting text out₀ start (set (set out at (number / 256)) (at + 1) (number % 256)) (at + 2) (i + 3)
+    pub texting-more :
+        (number : ℕ) →
+        number ≡ packedOf (valueOf (getD text i 0)) (valueOf (getD text (i + 1) 0)) (valueOf (getD text (i + 2) 0)) →
+        number ≤ 64000 →
+        Texting text out₀ start (set (set out at (number / 256)) (at + 1) (number % 256)) (at + 2) (i + 3)
     texting-more number e small =
         let pair = (number / 256) ∷ (number % 256) ∷ [] in
-        let form : be 2 (packedOf (valueOf (getD text i 0)) (valueOf (getD text (i + 1) 0)) (valueOf (getD text (i + 2) 0))) ≡ pair = ap (be 2) (sym e) ∙ be-two number (omega arith) in
+        let form : be 2 (packedOf (valueOf (getD text i 0)) (valueOf (getD text (i + 1) 0)) (valueOf (getD text (i + 2) 0))) ≡ pair =
+        ap (be 2) (sym e) ∙ be-two number (omega arith) in
         let rest = c40 (drop (i + 3) text) in record {
           before = p .before ++ pair;
           reached = omega (arith, p .reached, length-append (p .before) pair);
-          is = over-two out at (number / 256) (number % 256) texting-room ∙ ap (λ o. over o at pair) (p .is) ∙ ap (λ k. over (over out₀ start (p .before)) k pair) (p .reached) ∙ over-over out₀ start (p .before) pair (omega (arith, sum, p .room));
+          is =
+              over-two out at (number / 256) (number % 256) texting-room
+              ∙ ap (λ o. over o at pair) (p .is)
+              ∙ ap (λ k. over (over out₀ start (p .before)) k pair) (p .reached)
+              ∙ over-over out₀ start (p .before) pair (omega (arith, sum, p .room));
           whole = p .whole ∙ ap (λ z. p .before ++ z) (next-pair ∙ ap (λ f. f ++ rest) form) ∙ sym (append-assoc (p .before) pair rest);
           room = p .room;
           inside = omega arith;
@@ -234,7 +319,9 @@ pub zone-none : (v : Version) (values : List ℕ) → messageZone v (map (featur
 unfolding messageZone
 zone-none v values = refl
 
-pub zone-cons : (v : Version) (values : List ℕ) (r : Row) (rows : List Row) → messageZone v (map (featureOf values) (r ∷ rows)) ≡ feature v (featureOf values r) ++ messageZone v (map (featureOf values) rows)
+pub zone-cons :
+    (v : Version) (values : List ℕ) (r : Row) (rows : List Row) →
+    messageZone v (map (featureOf values) (r ∷ rows)) ≡ feature v (featureOf values r) ++ messageZone v (map (featureOf values) rows)
 unfolding messageZone
 zone-cons v values r rows = refl
 
@@ -243,15 +330,21 @@ pub record Putting (version : Version) (values t out₀ : List ℕ) (start : ℕ
   pub before : List ℕ
   pub reached : at ≡ start + length before
   pub is : out ≡ over out₀ start before
-  pub whole : messageZone version (map (featureOf values) (rowsOf t)) ≡ before ++ messageZone version (map (featureOf values) (rowsOf (drop row t)))
+  pub whole :
+      messageZone version (map (featureOf values) (rowsOf t)) ≡ before ++ messageZone version (map (featureOf values) (rowsOf (drop row t)))
   pub fits : Fitting version (length values) (rowsOf (drop row t))
   pub room : Room out₀ start (messageZone version (map (featureOf values) (rowsOf t)))
 
-pub putting-start : (version : Version) (values t out : List ℕ) (start : ℕ) → Fitting version (length values) (rowsOf t) → Room out start (messageZone version (map (featureOf values) (rowsOf t))) → Putting version values t out start out start 0
+pub putting-start :
+    (version : Version) (values t out : List ℕ) (start : ℕ) →
+    Fitting version (length values) (rowsOf t) →
+    Room out start (messageZone version (map (featureOf values) (rowsOf t))) →
+    Putting version values t out start out start 0
 putting-start version values t out start fits room =
     record { before = []; reached = omega arith; is = sym (over-none out start); whole = refl; fits = fits; room = room }
 
-module _ (version : Version) (values t out₀ : List ℕ) (start : ℕ) (out : List ℕ) (at row : ℕ) (p : Putting version values t out₀ start out at row) where
+module _ (version : Version) (values t out₀ : List ℕ) (start : ℕ) (out : List ℕ) (at row : ℕ)
+    (p : Putting version values t out₀ start out at row) where
   long : length (p .before) ≤ length (messageZone version (map (featureOf values) (rowsOf t)))
   long = omega (arith, ap length (p .whole), length-append (p .before) (messageZone version (map (featureOf values) (rowsOf (drop row t)))))
 

@@ -62,7 +62,8 @@ pub listed : (g : Given) (room : ℕ) → FromList (writing g room)
 unfolding writing
 listed g room = listed-in g room (versionOf (g .header .version))
 
--- "Writer: 20 to 28 in order": the number is that of the first test that is not passed, and 0 where all are; without a version there is nothing
+-- "Writer: 20 to 28 in order": the number is that of the first test that is not passed, and 0 where all are; without a
+-- version there is nothing
 -- to test the others by
 abbrev pub testsOf : Given → ℕ → Option Version → List Test
 testsOf g room none = test 20 0 false ∷ []
@@ -90,5 +91,8 @@ pub zero-done : (g : Given) (room : ℕ) → writing g room .number ≡ 0 → wr
 zero-done g room z = ⊎-elim (λ e. e) (λ e. absurd (omega (arith, e .0 .0, z))) (listed g room)
 
 -- the seal stands at the buffer's start, as long as the count
-pub stands : (g : Given) (out s : List ℕ) → writing g (length out) ≡ done s → take (told (writing g (length out)) .count) (filled (writing g (length out)) out) ≡ s
+pub stands :
+    (g : Given) (out s : List ℕ) →
+    writing g (length out) ≡ done s →
+    take (told (writing g (length out)) .count) (filled (writing g (length out)) out) ≡ s
 stands g out s e = ap (λ o. take (told o .count) (filled o out)) e ∙ take-at s _ (length s) refl

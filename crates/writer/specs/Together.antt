@@ -61,32 +61,52 @@ names-size three t s =
     ap length (names-three three t refl) ∙ six
 names-size four t s =
     let least = size-four four (length t) refl s in
-    let long : length (c40 (spelled t)) ≡ (length t + 4) / 3 * 2 = omega (arith, length-publish (spelled t), spelled-long t (omega arith)) in
+    let long : length (c40 (spelled t)) ≡ (length t + 4) / 3 * 2 =
+    omega (arith, length-publish (spelled t), spelled-long t (omega arith)) in
     ap length (names-four four t refl) ∙ long
 
 pub front-size : (v : Version) (h : Header) (t : List ℕ) → Headed v h t → length (front v h t) ≡ 4 + namesSize v (length t)
 front-size v h t d =
     let n = names v (take 4 t) (drop 4 t) in
-    omega (arith, length-append (c40 (map carried (threeOf (h .country)))) n, code-size (h .country), names-size v t (headed-named v h t d .size))
+    omega
+    (arith, length-append (c40 (map carried (threeOf (h .country)))) n, code-size (h .country), names-size v t (headed-named v h t d .size))
 
 pub rest-size : (h : Header) → length (rest h) ≡ 8
 rest-size h =
     let last : List ℕ = h .definition ∷ h .category ∷ [] in
-    omega (arith, length-append (date (h .issued)) (date (h .signed) ++ last), length-append (date (h .signed)) last, length-date (h .issued), length-date (h .signed))
+    omega (
+      arith,
+      length-append (date (h .issued)) (date (h .signed) ++ last),
+      length-append (date (h .signed)) last,
+      length-date (h .issued),
+      length-date (h .signed),
+    )
 
 -- the front put down
 module _ (v : Version) (h : Header) (t out : List ℕ) (room : Room out 0 (front v h t)) (b : ℕ) (is-byte : b ≡ versionByte v) where
   pub front-room : (code : List ℕ) → map carried (threeOf (h .country)) ≡ code → Room (set (set out 0 0xDC) 1 b) 2 (c40 code)
   front-room code e =
       let n = names v (take 4 t) (drop 4 t) in
-      omega (arith, length-append (c40 (map carried (threeOf (h .country)))) n, ap (λ l. length (c40 l)) e, length-set (set out 0 0xDC) 1 b, length-set out 0 0xDC)
+      omega (
+        arith,
+        length-append (c40 (map carried (threeOf (h .country)))) n,
+        ap (λ l. length (c40 l)) e,
+        length-set (set out 0 0xDC) 1 b,
+        length-set out 0 0xDC,
+      )
 
-  module _ (code out1 : List ℕ) (at1 : ℕ) (e : map carried (threeOf (h .country)) ≡ code) (e1 : at1 ≡ 2 + length (c40 code)) (o1 : out1 ≡ over (set (set out 0 0xDC) 1 b) 2 (c40 code)) where
+  module _ (code out1 : List ℕ) (at1 : ℕ) (e : map carried (threeOf (h .country)) ≡ code) (e1 : at1 ≡ 2 + length (c40 code))
+      (o1 : out1 ≡ over (set (set out 0 0xDC) 1 b) 2 (c40 code)) where
     first : Held out (set (set out 0 0xDC) 1 b) 2 (0xDC ∷ b ∷ [])
-    first = record { many = refl; is = over-two out 0 0xDC b (omega (arith, length-append (c40 (map carried (threeOf (h .country)))) (names v (take 4 t) (drop 4 t)))) }
+    first = record {
+      many = refl;
+      is = over-two out 0 0xDC b (omega (arith, length-append (c40 (map carried (threeOf (h .country)))) (names v (take 4 t) (drop 4 t))));
+    }
 
     sum : length (front v h t) ≡ at1 + length (names v (take 4 t) (drop 4 t))
-    sum = omega (arith, length-append (c40 (map carried (threeOf (h .country)))) (names v (take 4 t) (drop 4 t)), ap (λ l. length (c40 l)) e, e1)
+    sum =
+        omega
+        (arith, length-append (c40 (map carried (threeOf (h .country)))) (names v (take 4 t) (drop 4 t)), ap (λ l. length (c40 l)) e, e1)
 
     second : Held out out1 at1 (0xDC ∷ b ∷ c40 code)
     second = held-more out (set (set out 0 0xDC) 1 b) 2 (0xDC ∷ b ∷ []) first (c40 code) out1 at1 o1 (sym e1) (omega (arith, sum))
@@ -94,19 +114,39 @@ module _ (v : Version) (h : Header) (t out : List ℕ) (room : Room out 0 (front
     pub names-room : Room out1 at1 (names v (take 4 t) (drop 4 t))
     names-room = omega (arith, sum, ap length (second .is) ∙ length-over out 0 (0xDC ∷ b ∷ c40 code) (omega (arith, second .many, sum)))
 
-    pub put-front : (out2 : List ℕ) (at2 : ℕ) → at2 ≡ at1 + length (names v (take 4 t) (drop 4 t)) → out2 ≡ over out1 at1 (names v (take 4 t) (drop 4 t)) → (at2 ≡ length (front v h t)) × (out2 ≡ over out 0 (front v h t))
+    pub put-front :
+        (out2 : List ℕ) (at2 : ℕ) →
+        at2 ≡ at1 + length (names v (take 4 t) (drop 4 t)) →
+        out2 ≡ over out1 at1 (names v (take 4 t) (drop 4 t)) →
+        (at2 ≡ length (front v h t)) × (out2 ≡ over out 0 (front v h t))
     put-front out2 at2 e2 o2 =
         let n = names v (take 4 t) (drop 4 t) in
-        let third = held-more out out1 at1 (0xDC ∷ b ∷ c40 code) second n out2 at2 o2 (sym e2) (omega (arith, sum)) in
-        (omega (arith, sum), third .is ∙ ap (λ x. over out 0 (0xDC ∷ x ∷ (c40 code ++ n))) is-byte ∙ ap (λ l. over out 0 (0xDC ∷ versionByte v ∷ (c40 l ++ n))) (sym e))
+        let third = held-more out out1 at1 (0xDC ∷ b ∷ c40 code) second n out2 at2 o2 (sym e2) (omega (arith, sum)) in (
+          omega (arith, sum),
+          third .is
+              ∙ ap (λ x. over out 0 (0xDC ∷ x ∷ (c40 code ++ n))) is-byte
+              ∙ ap (λ l. over out 0 (0xDC ∷ versionByte v ∷ (c40 l ++ n))) (sym e),
+        )
 
 -- a part after a part
-pub over-then : (out : List ℕ) (at : ℕ) (p q out1 : List ℕ) (at1 : ℕ) (out2 : List ℕ) → Room out at (p ++ q) → out1 ≡ over out at p → at1 ≡ at + length p → out2 ≡ over out1 at1 q → out2 ≡ over out at (p ++ q)
+pub over-then :
+    (out : List ℕ) (at : ℕ) (p q out1 : List ℕ) (at1 : ℕ) (out2 : List ℕ) →
+    Room out at (p ++ q) →
+    out1 ≡ over out at p →
+    at1 ≡ at + length p →
+    out2 ≡ over out1 at1 q →
+    out2 ≡ over out at (p ++ q)
 over-then out at p q out1 at1 out2 room o1 e1 o2 =
     o2 ∙ ap (λ o. over o at1 q) o1 ∙ ap (λ k. over (over out at p) k q) e1 ∙ over-over out at p q (omega (arith, length-append p q))
 
-pub then-room : (out : List ℕ) (at : ℕ) (p q out1 : List ℕ) (at1 : ℕ) → Room out at (p ++ q) → out1 ≡ over out at p → at1 ≡ at + length p → Room out1 at1 q
-then-room out at p q out1 at1 room o1 e1 = omega (arith, length-append p q, ap length o1 ∙ length-over out at p (omega (arith, length-append p q)))
+pub then-room :
+    (out : List ℕ) (at : ℕ) (p q out1 : List ℕ) (at1 : ℕ) →
+    Room out at (p ++ q) →
+    out1 ≡ over out at p →
+    at1 ≡ at + length p →
+    Room out1 at1 q
+then-room out at p q out1 at1 room o1 e1 =
+    omega (arith, length-append p q, ap length o1 ∙ length-over out at p (omega (arith, length-append p q)))
 
 pub front-part : (out : List ℕ) (at : ℕ) (p q : List ℕ) → Room out at (p ++ q) → Room out at p
 front-part out at p q room = omega (arith, length-append p q)
@@ -124,19 +164,28 @@ rows-inside n before (r ∷ rows) e =
     let u = both-true (pick (used (r .tag) before) false true) _ (t .1) in
     ((leb-true (r .tag) 254 (t .0), leb-true (r .place + r .size) n (u .1)), rows-inside n (r ∷ before) rows (b .1))
 
-zone-size : (v : Version) (values : List ℕ) (rows : List Row) → All (Inside (length values)) rows → length (messageZone v (map (featureOf values) rows)) ≡ rowsSize v rows
+zone-size :
+    (v : Version) (values : List ℕ) (rows : List Row) →
+    All (Inside (length values)) rows →
+    length (messageZone v (map (featureOf values) rows)) ≡ rowsSize v rows
 unfolding rowsSize
 zone-size v values [] a = ap length (zone-none v values)
 zone-size v values (r ∷ rows) a =
     let ih = zone-size v values rows (a .1) in
     let value = take (r .size) (drop (r .place) values) in
-    let long : length value ≡ r .size = length-take-le (r .size) (drop (r .place) values) (omega (arith, a .0 .1, length-drop (r .place) values)) in
+    let long : length value ≡ r .size =
+    length-take-le (r .size) (drop (r .place) values) (omega (arith, a .0 .1, length-drop (r .place) values)) in
     let f = feature v (featureOf values r) in
     let part : length f ≡ 1 + length (lengthOf v (r .size)) + r .size =
     omega (arith, length-append (lengthOf v (length value)) value, ap (λ k. length (lengthOf v k)) long) in
     ap length (zone-cons v values r rows) ∙ length-append f (messageZone v (map (featureOf values) rows)) ∙ omega arith
 
-short-fit : (v : Version) (n : ℕ) (rows : List Row) → All (Inside n) rows → rowsSize v rows ≤ 4096 → areSized v rows ≡ true → Fitting v n rows
+short-fit :
+    (v : Version) (n : ℕ) (rows : List Row) →
+    All (Inside n) rows →
+    rowsSize v rows ≤ 4096 →
+    areSized v rows ≡ true →
+    Fitting v n rows
 unfolding rowsSize
 short-fit v n [] a h s = tt
 short-fit v n (r ∷ rows) a h s =
@@ -145,7 +194,12 @@ short-fit v n (r ∷ rows) a h s =
     ((a .0 .0, a .0 .1, (omega arith, b .0)), ih)
 
 -- the published form, part by part
-pub seal-parts : (v : Version) (g : Given) → publish (contentAs g v) ≡ front v (g .header) (g .text) ++ (rest (g .header) ++ (messageZone v (map (featureOf (g .values)) (rowsOf (g .table))) ++ feature four (record { tag = 0xFF; value = g .signature })))
+pub seal-parts :
+    (v : Version) (g : Given) →
+    publish (contentAs g v)
+    ≡ front v (g .header) (g .text)
+    ++ (rest (g .header)
+    ++ (messageZone v (map (featureOf (g .values)) (rowsOf (g .table))) ++ feature four (record { tag = 0xFF; value = g .signature })))
 unfolding publish signedBytes headerZone signatureZone contentAs
 seal-parts v g = simp append-assoc
 
@@ -163,7 +217,16 @@ module _ (v : Version) (g : Given) (h : Headed v (g .header) (g .text)) (table :
       let z = messageZone v (map (featureOf (g .values)) (rowsOf (g .table))) in
       let s = feature four (record { tag = 0xFF; value = g .signature }) in
       ap length (seal-parts v g)
-      ∙ omega (arith, length-append a (b ++ (z ++ s)), length-append b (z ++ s), length-append z s, length-append (form (length (g .signature))) (g .signature), front-size v (g .header) (g .text) h, rest-size (g .header), zone-size v (g .values) (rowsOf (g .table)) inside)
+      ∙ omega (
+        arith,
+        length-append a (b ++ (z ++ s)),
+        length-append b (z ++ s),
+        length-append z s,
+        length-append (form (length (g .signature))) (g .signature),
+        front-size v (g .header) (g .text) h,
+        rest-size (g .header),
+        zone-size v (g .values) (rowsOf (g .table)) inside,
+      )
 
 pub passed-fit : (v : Version) (g : Given) → Passed v g → Fitting v (length (g .values)) (rowsOf (g .table))
 passed-fit v g p =
@@ -184,7 +247,8 @@ dated-last h d =
     (within-both 1 254 (h .definition) (b .0) .1, within-both 1 254 (h .category) (b .1) .1)
 
 -- the header's last items put down
-module _ (h : Header) (out : List ℕ) (at : ℕ) (room : Room out at (rest h)) (out1 : List ℕ) (at1 : ℕ) (e1 : at1 ≡ at + 3) (o1 : out1 ≡ over out at (date (h .issued))) where
+module _ (h : Header) (out : List ℕ) (at : ℕ) (room : Room out at (rest h)) (out1 : List ℕ) (at1 : ℕ) (e1 : at1 ≡ at + 3)
+    (o1 : out1 ≡ over out at (date (h .issued))) where
   abbrev last : List ℕ
   last = h .definition ∷ h .category ∷ []
 
@@ -207,8 +271,10 @@ module _ (h : Header) (out : List ℕ) (at : ℕ) (room : Room out at (rest h)) 
     pub put-rest : (at2 + 2 ≡ at + 8) × (set (set out2 at2 (h .definition)) (at2 + 1) (h .category) ≡ over out at (rest h))
     put-rest = (
       omega arith,
-      over-then out at (date (h .issued)) (date (h .signed) ++ last) out1 at1 (set (set out2 at2 (h .definition)) (at2 + 1) (h .category)) room o1 sum1
-          (over-then out1 at1 (date (h .signed)) last out2 at2 (set (set out2 at2 (h .definition)) (at2 + 1) (h .category)) room1 o2 sum2 (over-two out2 at2 (h .definition) (h .category) rest-last)),
+      over-then out at (date (h .issued)) (date (h .signed) ++ last) out1 at1 (set (set out2 at2 (h .definition)) (at2 + 1) (h .category))
+          room o1 sum1
+          (over-then out1 at1 (date (h .signed)) last out2 at2 (set (set out2 at2 (h .definition)) (at2 + 1) (h .category)) room1 o2 sum2
+          (over-two out2 at2 (h .definition) (h .category) rest-last)),
     )
 
 -- the seal's parts put down
@@ -225,7 +291,8 @@ module _ (v : Version) (g : Given) (out : List ℕ) (room : Room out 0 (publish 
   pub seal-front : Room out 0 (front v (g .header) (g .text))
   seal-front = front-part out 0 (front v (g .header) (g .text)) (rest (g .header) ++ (zone ++ mark)) whole-room
 
-  module _ (out1 : List ℕ) (at1 : ℕ) (e1 : at1 ≡ length (front v (g .header) (g .text))) (o1 : out1 ≡ over out 0 (front v (g .header) (g .text))) where
+  module _ (out1 : List ℕ) (at1 : ℕ) (e1 : at1 ≡ length (front v (g .header) (g .text)))
+      (o1 : out1 ≡ over out 0 (front v (g .header) (g .text))) where
     zero-first : at1 ≡ 0 + length (front v (g .header) (g .text))
     zero-first = e1 ∙ sym (zero-add (length (front v (g .header) (g .text))))
 
@@ -245,13 +312,18 @@ module _ (v : Version) (g : Given) (out : List ℕ) (room : Room out 0 (publish 
       pub seal-rows : Room out2 at2 (messageZone v (map (featureOf (g .values)) (rowsOf (g .table))))
       seal-rows = front-part out2 at2 zone mark past-rest
 
-      module _ (out3 : List ℕ) (at3 : ℕ) (e3 : at3 ≡ at2 + length (messageZone v (map (featureOf (g .values)) (rowsOf (g .table))))) (o3 : out3 ≡ over out2 at2 (messageZone v (map (featureOf (g .values)) (rowsOf (g .table))))) where
+      module _ (out3 : List ℕ) (at3 : ℕ) (e3 : at3 ≡ at2 + length (messageZone v (map (featureOf (g .values)) (rowsOf (g .table)))))
+          (o3 : out3 ≡ over out2 at2 (messageZone v (map (featureOf (g .values)) (rowsOf (g .table))))) where
         pub seal-mark : Room out3 at3 (feature four (record { tag = 0xFF; value = g .signature }))
         seal-mark = then-room out2 at2 zone mark out3 at3 past-rest o3 e3
 
-        pub put-seal : (out4 : List ℕ) → out4 ≡ over out3 at3 (feature four (record { tag = 0xFF; value = g .signature })) → out4 ≡ over out 0 (publish (contentAs g v))
+        pub put-seal :
+            (out4 : List ℕ) →
+            out4 ≡ over out3 at3 (feature four (record { tag = 0xFF; value = g .signature })) →
+            out4 ≡ over out 0 (publish (contentAs g v))
         put-seal out4 o4 =
             let third = over-then out2 at2 zone mark out3 at3 out4 past-rest o3 e3 o4 in
             let second = over-then out1 at1 (rest (g .header)) (zone ++ mark) out2 at2 out4 past-front o2 eight third in
-            over-then out 0 (front v (g .header) (g .text)) (rest (g .header) ++ (zone ++ mark)) out1 at1 out4 whole-room o1 zero-first second
+            over-then out 0 (front v (g .header) (g .text)) (rest (g .header) ++ (zone ++ mark)) out1 at1 out4 whole-room o1 zero-first
+            second
             ∙ ap (over out 0) (sym (seal-parts v g))

@@ -1,4 +1,5 @@
--- Each answer from 20 to 28 is given for some call, so none is dead: a call for each, under one statement; the order in which they are given; and Seal A and one seal more written.
+-- Each answer from 20 to 28 is given for some call, so none is dead: a call for each, under one statement; the order in
+-- which they are given; and Seal A and one seal more written.
 -- Assumes nothing.
 use mathlib.Core.Path.{_≡_, refl}
 use Prim.Native.Nat.{ℕ}
@@ -24,7 +25,8 @@ use Rattle.writer.specs.Calls.{writingAs, writing}
 
 -- Seal A as it is given: header, text, one row over four bytes, signature
 abbrev headed : ℕ → List ℕ → ℕ → Date → ℕ → Header
-headed version country size signed category = record { version = version; country = country; length = size; issued = spring; signed = signed; definition = 1; category = category }
+headed version country size signed category =
+    record { version = version; country = country; length = size; issued = spring; signed = signed; definition = 1; category = category }
 
 abbrev pub header-a : Header
 header-a = headed 3 uto 5 spring 2
@@ -53,7 +55,8 @@ unfolding writing writingAs contentAs areRows areShort isDay publish signedBytes
     theChart valueOf form numbers rowAt table firstRows rowsOf
 seal-a-written = refl
 
--- B, version 4, where no two fields are alike: the rows stand in another order than their values, and the last value is empty at the buffer's end
+-- B, version 4, where no two fields are alike: the rows stand in another order than their values, and the last value is
+-- empty at the buffer's end
 abbrev pub given-b : Given
 given-b =
     given
@@ -128,13 +131,24 @@ witnesses =
 pub each-is-given : All Refused witnesses
 unfolding writing writingAs contentAs areRows areShort isDay publish signedBytes headerZone messageZone signatureZone date be c40 triple
     theChart valueOf form numbers rowAt table firstRows rowsOf
-each-is-given = (refl, (refl, (refl, (refl, (refl, (refl, (refl, (refl, (refl, (refl, (refl, (refl, (refl, (refl, (refl, (refl, (refl, (refl, (refl, tt)))))))))))))))))))
+each-is-given = (
+  refl,
+  (
+    refl,
+    (
+      refl,
+      (refl, (refl, (refl, (refl, (refl, (refl, (refl, (refl, (refl, (refl, (refl, (refl, (refl, (refl, (refl, (refl, tt)))))))))))))))),
+    ),
+  ),
+)
 
 -- they are 20 to 28, none left out
-pub all-of-them : map (λ w. w .number) witnesses ≡ 20 ∷ 21 ∷ 21 ∷ 21 ∷ 21 ∷ 21 ∷ 21 ∷ 22 ∷ 23 ∷ 23 ∷ 24 ∷ 24 ∷ 24 ∷ 24 ∷ 24 ∷ 25 ∷ 26 ∷ 27 ∷ 28 ∷ []
+pub all-of-them :
+    map (λ w. w .number) witnesses ≡ 20 ∷ 21 ∷ 21 ∷ 21 ∷ 21 ∷ 21 ∷ 21 ∷ 22 ∷ 23 ∷ 23 ∷ 24 ∷ 24 ∷ 24 ∷ 24 ∷ 24 ∷ 25 ∷ 26 ∷ 27 ∷ 28 ∷ []
 all-of-them = refl
 
--- "20 to 28 in order": a call with every fault, and after it the faults put right one by one from the left; past 26 a seal that would be too long for which there is no room
+-- "20 to 28 in order": a call with every fault, and after it the faults put right one by one from the left; past 26 a
+-- seal that would be too long for which there is no room
 abbrev faults : Header → List ℕ → List ℕ → List ℕ → ℕ → Witness
 faults h text t values number = record { call = given h text t values (replicate 57 0xAA); room = 0; number = number }
 

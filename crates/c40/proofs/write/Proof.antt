@@ -46,7 +46,8 @@ same-length c = search needs
 returns-4 : tie.Need-returns-4
 returns-4 c =
     let text = now (c .before .before .before .before .before .before .before .before .before .before .before .before .args .text) in
-    gives _ _ _ _ _ (writing-done text _ (omega arith) (omega arith) (omega arith)) (omega (arith, length-publish text)) (c .before .before .put .ensures)
+    gives _ _ _ _ _ (writing-done text _ (omega arith) (omega arith) (omega arith)) (omega (arith, length-publish text))
+    (c .before .before .put .ensures)
 
 pub write-spec : {M : Type 1} → statement M
 write-spec =

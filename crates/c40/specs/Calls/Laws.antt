@@ -70,7 +70,10 @@ module _ (s : List ℕ) (room : ℕ) where
 
     module _ (even : length s % 2 ≡ 1 → ⊥) where
       -- what is decoded, and whether there is room for it
-      pairs : (d : Decoded) → decode 0 s ≡ d → reading s room ≡ pick (isText d) (pick (leb (length (textOf d)) room) (done (textOf d)) (refused 42 0)) (refused 41 (wrongAt d))
+      pairs :
+          (d : Decoded) →
+          decode 0 s ≡ d →
+          reading s room ≡ pick (isText d) (pick (leb (length (textOf d)) room) (done (textOf d)) (refused 42 0)) (refused 41 (wrongAt d))
       unfolding reading
       pairs d e = simp (le-leb (length s) 4096 size, eq-eqb (length s % 2) 0 (omega arith), e)
 

@@ -64,8 +64,10 @@ module _ (s : List ℕ) (i : ℕ) where
   decode-pair h =
       let next : i + 1 + 1 ≡ i + 2 = omega arith in
       let two : drop i s ≡ getD s i 0 ∷ getD s (i + 1) 0 ∷ drop (i + 2) s =
-      at-place s i 0 (omega arith) ∙ ap (λ t. getD s i 0 ∷ t) (at-place s (i + 1) 0 (omega arith) ∙ ap (λ k. getD s (i + 1) 0 ∷ drop k s) next) in
-      let last : none (drop (i + 2) s) ≡ eqb (i + 2) (length s) = none-by-length (drop (i + 2) s) (length s) (i + 2) (length-drop (i + 2) s) h in
+      at-place s i 0 (omega arith)
+      ∙ ap (λ t. getD s i 0 ∷ t) (at-place s (i + 1) 0 (omega arith) ∙ ap (λ k. getD s (i + 1) 0 ∷ drop k s) next) in
+      let last : none (drop (i + 2) s) ≡ eqb (i + 2) (length s) =
+      none-by-length (drop (i + 2) s) (length s) (i + 2) (length-drop (i + 2) s) h in
       ap (decode i) two ∙ ap (λ l. follow i (pairOf theChart l (getD s i 0) (getD s (i + 1) 0)) (decode (i + 2) (drop (i + 2) s))) last
 
   pub decode-end : length s ≤ i → decode i (drop i s) ≡ text []
@@ -124,7 +126,8 @@ module _ (s : List ℕ) (i : ℕ) (before : List ℕ) (sofar : Sofar s i before)
         let is : p ≡ pairOf theChart (eqb (i + 2) (length s)) (getD s i 0) (getD s (i + 1) 0) =
         ap (λ l. pairOf theChart l (getD s i 0) (getD s (i + 1) 0)) (sym inner) in
         let good = sofar-good (omega arith) p is t whole in
-        let three : length (charsOf p) ≡ 3 = ap (λ q. length (charsOf q)) (pair-full false (getD s i 0) (getD s (i + 1) 0) refl (chars-some p (good .0)) .2) in
+        let three : length (charsOf p) ≡ 3 =
+        ap (λ q. length (charsOf q)) (pair-full false (getD s i 0) (getD s (i + 1) 0) refl (chars-some p (good .0)) .2) in
         record { three = three; room = omega arith; next = sofar-more (omega arith) p is (good .0) }
 
     pub sofar-last : i + 2 ≡ length s → Last s i before t

@@ -34,7 +34,8 @@ publish-bytes (a ∷ []) h =
     bytes-cons 0xFE ((a + 1) ∷ []) (omega arith) (bytes-cons (a + 1) [] (omega arith) bytes-nil)
 publish-bytes (a ∷ b ∷ []) h = be-bytes 2 (packedOf (valueOf a) (valueOf b) 0)
 publish-bytes (a ∷ b ∷ c ∷ t) h =
-    bytes-append (be 2 (packedOf (valueOf a) (valueOf b) (valueOf c))) (publish t) (be-bytes 2 (packedOf (valueOf a) (valueOf b) (valueOf c))) (publish-bytes t (h .1 .1 .1))
+    bytes-append (be 2 (packedOf (valueOf a) (valueOf b) (valueOf c))) (publish t)
+    (be-bytes 2 (packedOf (valueOf a) (valueOf b) (valueOf c))) (publish-bytes t (h .1 .1 .1))
 
 -- the form of what is left, by how much is left
 pub publish-three : (a b c : ℕ) (t : List ℕ) → publish (a ∷ b ∷ c ∷ t) ≡ triple (valueOf a) (valueOf b) (valueOf c) ++ publish t
@@ -65,7 +66,10 @@ publish-pair (Wrong fault) = publish-none
 
 -- what is left of text at a place, three characters at a time: three or more, two, one, none
 module _ (t : List ℕ) (i : ℕ) where
-  pub left-three : i + 3 ≤ length t → publish (drop i t) ≡ be 2 (packedOf (valueOf (getD t i 0)) (valueOf (getD t (i + 1) 0)) (valueOf (getD t (i + 2) 0))) ++ publish (drop (i + 3) t)
+  pub left-three :
+      i + 3 ≤ length t →
+      publish (drop i t)
+      ≡ be 2 (packedOf (valueOf (getD t i 0)) (valueOf (getD t (i + 1) 0)) (valueOf (getD t (i + 2) 0))) ++ publish (drop (i + 3) t)
   unfolding triple
   left-three h =
       let one : i + 1 + 1 ≡ i + 2 = omega arith in

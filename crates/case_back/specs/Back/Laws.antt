@@ -21,7 +21,10 @@ no-tells n = (
 )
 
 pub begins-all : (s t : List ℕ) → length t ≤ length s → ((i : ℕ) → i < length t → getD s i 0 ≡ getD t i 0) → take (length t) s ≡ t
-begins-all s t fits same = ext-getD 0 (take (length t) s) t (length-take-le (length t) s fits) (λ i h. let inside : i < length t = omega (arith, h, length-take-le (length t) s fits) in getD-take (length t) s i 0 inside ∙ same i inside)
+begins-all s t fits same =
+    ext-getD 0 (take (length t) s) t (length-take-le (length t) s fits)
+    (λ i h.
+    let inside : i < length t = omega (arith, h, length-take-le (length t) s fits) in getD-take (length t) s i 0 inside ∙ same i inside)
 
 pub begins-at : (s t : List ℕ) (i : ℕ) → i < length t → take (length t) s ≡ t → getD s i 0 ≡ getD t i 0
 begins-at s t i h e = sym (getD-take (length t) s i 0 h) ∙ ap (λ (l : List ℕ). getD l i 0) e

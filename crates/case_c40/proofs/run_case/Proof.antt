@@ -11,7 +11,8 @@ slice-relend-prefix-call : tie.Need-slice-relend-prefix-call
 slice-relend-prefix-call c = search needs
 
 slice-aggregate-call : tie.Need-slice-aggregate-call
-slice-aggregate-call c = let start = c .before .before .before .before in sym (length-take-le (start .args .room) (now (start .args .buffer)) (start .pre))
+slice-aggregate-call c =
+    let start = c .before .before .before .before in sym (length-take-le (start .args .room) (now (start .args .buffer)) (start .pre))
 
 call-requires : tie.Need-call-requires
 call-requires c κs = search needs

@@ -36,7 +36,14 @@ returns-3 c =
     let same-a = first .fields-of .ensures in
     let same-b = second .fields-of2 .ensures in
     tells-through
-    (λ e. (numbers .if1 .left, (places .if2 .left, ext-getD 0 (fieldsOf (args .a)) (fieldsOf (args .b)) refl (λ i h. sym (ap (λ (l : List ℕ). getD l i 0) same-a) ∙ e i h ∙ ap (λ (l : List ℕ). getD l i 0) same-b))))
+    (λ e. (
+      numbers .if1 .left,
+      (
+        places .if2 .left,
+        ext-getD 0 (fieldsOf (args .a)) (fieldsOf (args .b)) refl
+            (λ i h. sym (ap (λ (l : List ℕ). getD l i 0) same-a) ∙ e i h ∙ ap (λ (l : List ℕ). getD l i 0) same-b),
+      ),
+    ))
     (λ e i h. ap (λ (l : List ℕ). getD l i 0) (same-a ∙ e .1 .1 ∙ sym same-b))
     (c .same .ensures)
 

@@ -30,7 +30,14 @@ hex-more (x ∷ xs) b = ap (λ (t : List ℕ). hexDigit (x / 16) ∷ hexDigit (x
 
 -- a turn of the loop that puts down numbers, and of the one that puts down bytes in hex
 module _ (s old : List ℕ) (at i : ℕ) (here : i < length s) (mid : List ℕ) (m : ℕ) (long : length mid ≡ length old) where
-  pub words-turn : (mid′ : List ℕ) (m′ : ℕ) → length mid′ ≡ length mid → (new : List ℕ) (r : ℕ) → Put old at (wordsOf (take i s)) mid m → Put mid m (32 ∷ []) mid′ m′ → Put mid′ m′ (decimalOf (getD s i 0)) new r → Put old at (wordsOf (take (i + 1) s)) new r
+  pub words-turn :
+      (mid′ : List ℕ) (m′ : ℕ) →
+      length mid′ ≡ length mid →
+      (new : List ℕ) (r : ℕ) →
+      Put old at (wordsOf (take i s)) mid m →
+      Put mid m (32 ∷ []) mid′ m′ →
+      Put mid′ m′ (decimalOf (getD s i 0)) new r →
+      Put old at (wordsOf (take (i + 1) s)) new r
   words-turn mid′ m′ g new r p q t =
       let both : Put mid m (32 ∷ decimalOf (getD s i 0)) new r = put-more mid m (32 ∷ []) mid′ m′ (decimalOf (getD s i 0)) new r q g t in
       rw (add-one, take-suc s i 0, words-more) (put-more old at (wordsOf (take i s)) mid m _ new r p long both)
@@ -62,7 +69,10 @@ pub total-turn : (s : List ℕ) (i : ℕ) → i < length s → total (drop i s) 
 unfolding total
 total-turn s i h = rw (drop-cons s i 0)
 
-pub weighted-turn : (s : List ℕ) (i : ℕ) → i < length s → weighted 1 (drop i s) ≡ getD s i 0 + total (drop (suc i) s) + weighted 1 (drop (suc i) s)
+pub weighted-turn :
+    (s : List ℕ) (i : ℕ) →
+    i < length s →
+    weighted 1 (drop i s) ≡ getD s i 0 + total (drop (suc i) s) + weighted 1 (drop (suc i) s)
 unfolding weighted
 weighted-turn s i h =
     let e : weighted 2 (drop (suc i) s) ≡ weighted 1 (drop (suc i) s) + total (drop (suc i) s) = further 1 (drop (suc i) s) in

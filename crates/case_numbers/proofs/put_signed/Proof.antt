@@ -30,10 +30,16 @@ put-requires : tie.Need-put-requires
 put-requires c κs = search needs
 
 cast-put-number : tie.Need-cast-put-number
-cast-put-number c = let o = c .before .before .before .before .before .before .before in below-cast (o .args .value) (o .fits .value) (c .before .before .before .before .before .if1 .taken)
+cast-put-number c =
+    let o = c .before .before .before .before .before .before .before in
+    below-cast (o .args .value) (o .fits .value) (c .before .before .before .before .before .if1 .taken)
 
 add-put-number : tie.Need-add-put-number
-add-put-number c = let o = c .before .before .before .before .before .before .before in record { fits = omega (arith, most _ (below-fits (o .args .value) (o .fits .value) (c .before .before .before .before .before .if1 .taken))) }
+add-put-number c =
+    let o = c .before .before .before .before .before .before .before in
+    record {
+      fits = omega (arith, most _ (below-fits (o .args .value) (o .fits .value) (c .before .before .before .before .before .if1 .taken)));
+    }
 
 put-number-requires : tie.Need-put-number-requires
 put-number-requires c κs = search needs

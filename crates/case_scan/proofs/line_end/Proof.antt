@@ -31,7 +31,13 @@ loop-less : tie.Need-loop-less Inv-loop μ-loop
 loop-less c = omega arith
 
 loop-again : tie.Need-loop-again Inv-loop μ-loop
-loop-again c = (omega arith, omega arith, below-more (λ k. c .before .before .before .before .args .from ≤ k → getD (c .before .before .before .before .args .s .now) k 0 ≡ 10 → ⊥) _ (c .before .before .before .loop .inv .2) (λ g. c .if1 .left))
+loop-again c = (
+  omega arith,
+  omega arith,
+  below-more
+      (λ k. c .before .before .before .before .args .from ≤ k → getD (c .before .before .before .before .args .s .now) k 0 ≡ 10 → ⊥) _
+      (c .before .before .before .loop .inv .2) (λ g. c .if1 .left),
+)
 
 returns-2 : tie.Need-returns-2 Inv-loop μ-loop
 returns-2 c = record { on = omega arith; within = omega arith; ends = λ h. absurd (omega arith); none = c .before .loop .inv .2 }

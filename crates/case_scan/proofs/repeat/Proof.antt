@@ -13,7 +13,8 @@ use Rattle.case_scan.proofs.repeat.Statement.{statement}
 use Rattle.case_scan.proofs.repeat.Tie as tie
 
 abbrev Inv-loop : tie.InvT-loop
-Inv-loop s from count out₀ to k₀ o₀ out k o = (length out ≡ length out₀) × (1 ≤ k) × (k - 1 ≤ count - 1) × Put out₀ to (times (k - 1) (pairsAt s from)) out o
+Inv-loop s from count out₀ to k₀ o₀ out k o =
+    (length out ≡ length out₀) × (1 ≤ k) × (k - 1 ≤ count - 1) × Put out₀ to (times (k - 1) (pairsAt s from)) out o
 
 abbrev μ-loop : tie.MeasureT-loop
 μ-loop s from count out₀ to k₀ o₀ out k o = count - k
@@ -34,8 +35,12 @@ loop-less c = omega arith
 loop-again : tie.Need-loop-again Inv-loop μ-loop
 loop-again c =
     let call = c .before .before in
-    let on = call .before .before .before in
-    (call .take-pairs .kept .1 .1 .0 ∙ on .loop .inv .0, omega arith, omega arith, times-turn _ (on .loop .k) (on .loop .inv .1) _ _ _ _ _ _ (on .loop .inv .3) (on .loop .inv .0) (call .take-pairs .ensures .1))
+    let on = call .before .before .before in (
+      call .take-pairs .kept .1 .1 .0 ∙ on .loop .inv .0,
+      omega arith,
+      omega arith,
+      times-turn _ (on .loop .k) (on .loop .inv .1) _ _ _ _ _ _ (on .loop .inv .3) (on .loop .inv .0) (call .take-pairs .ensures .1),
+    )
 
 same-length : tie.Need-same-length Inv-loop μ-loop
 same-length c = c .before .loop .inv .0

@@ -14,7 +14,8 @@ use Rattle.case_scan.proofs.runs.Statement.{statement}
 use Rattle.case_scan.proofs.runs.Tie as tie
 
 abbrev Inv-loop : tie.InvT-loop
-Inv-loop s from out₀ i₀ to₀ out i to = (length out ≡ length out₀) × (to ≤ length out₀) × (bytes : List ℕ) × RunsTo s from i bytes × Put out₀ 0 bytes out to
+Inv-loop s from out₀ i₀ to₀ out i to =
+    (length out ≡ length out₀) × (to ≤ length out₀) × (bytes : List ℕ) × RunsTo s from i bytes × Put out₀ 0 bytes out to
 
 abbrev μ-loop : tie.MeasureT-loop
 μ-loop s from out₀ i₀ to₀ out i to = length s - i
@@ -30,8 +31,11 @@ same-length c = c .before .before .before .loop .inv .0
 
 returns : tie.Need-returns Inv-loop μ-loop
 returns c =
-    let on = c .before .before .before in
-    (counts _ _ (omega (arith, on .loop .inv .0)), runs-other (now (on .before .before .before .args .s)) _ _ _ (on .loop .inv .3) _ _ _ _ (on .loop .inv .4) (omega arith) (c .if1 .taken))
+    let on = c .before .before .before in (
+      counts _ _ (omega (arith, on .loop .inv .0)),
+      runs-other (now (on .before .before .before .args .s)) _ _ _ (on .loop .inv .3) _ _ _ _ (on .loop .inv .4) (omega arith)
+          (c .if1 .taken),
+    )
 
 add-take-run : tie.Need-add-take-run Inv-loop μ-loop
 add-take-run c = omega arith
@@ -51,16 +55,25 @@ loop-again : tie.Need-loop-again Inv-loop μ-loop
 loop-again c =
     let call = c .before .before in
     let test = call .before .before in
-    let on = test .before .before .before in
-    (call .take-run .kept .1 .1 .0 ∙ on .loop .inv .0, omega (arith, call .take-run .ensures .1 .within), _, runs-go (now (on .before .before .before .args .s)) _ (on .loop .i) _ (on .loop .inv .3) (now (on .before .before .before .args .out)) 0 (omega arith) (test .if1 .left) _ (call .take-run .ensures .0), put-more _ _ _ _ _ _ _ _ (on .loop .inv .4) (on .loop .inv .0) (call .take-run .ensures .1))
+    let on = test .before .before .before in (
+      call .take-run .kept .1 .1 .0 ∙ on .loop .inv .0,
+      omega (arith, call .take-run .ensures .1 .within),
+      _,
+      runs-go (now (on .before .before .before .args .s)) _ (on .loop .i) _ (on .loop .inv .3) (now (on .before .before .before .args .out))
+          0
+          (omega arith) (test .if1 .left) _ (call .take-run .ensures .0),
+      put-more _ _ _ _ _ _ _ _ (on .loop .inv .4) (on .loop .inv .0) (call .take-run .ensures .1),
+    )
 
 same-length-2 : tie.Need-same-length-2 Inv-loop μ-loop
 same-length-2 c = c .before .loop .inv .0
 
 returns-2 : tie.Need-returns-2 Inv-loop μ-loop
 returns-2 c =
-    let on = c .before in
-    (counts _ _ (omega (arith, on .loop .inv .0)), runs-ended (now (on .before .before .before .args .s)) _ _ _ (on .loop .inv .3) _ _ _ _ (on .loop .inv .4) (omega arith))
+    let on = c .before in (
+      counts _ _ (omega (arith, on .loop .inv .0)),
+      runs-ended (now (on .before .before .before .args .s)) _ _ _ (on .loop .inv .3) _ _ _ _ (on .loop .inv .4) (omega arith),
+    )
 
 pub runs-spec : {M : Type 1} → statement M
 runs-spec =

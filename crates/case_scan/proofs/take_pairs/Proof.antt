@@ -9,7 +9,8 @@ use denote.Ref.{now}
 use lib.ListN.{length}
 use Rattle.lines.specs.Line.{Put}
 use Rattle.lines.specs.Line.Laws.{put-none, put-more}
-use Rattle.case_scan.specs.Scan.Laws.{PairsTo, pairs-none, pairs-past, pairs-no-high, pairs-no-low, pairs-more, pairs-turn, pairs-done}
+use Rattle.case_scan.specs.Scan.Laws.{PairsTo, pairs-none, pairs-past, pairs-no-high, pairs-no-low, pairs-more, pairs-turn}
+use Rattle.case_scan.specs.Scan.Laws.{pairs-done}
 use Rattle.case_scan.specs.Scan.Laws.{digit-small, digit-at}
 use Rattle.case_scan.proofs.take_pairs.Statement.{statement}
 use Rattle.case_scan.proofs.take_pairs.Tie as tie
@@ -36,7 +37,10 @@ returns : tie.Need-returns Inv-loop μ-loop
 returns c =
     let on = c .before .before .before .before in
     let s = now (on .before .before .before .args .s) in
-    pairs-done s _ (on .loop .i) _ (on .loop .inv .2) (pairs-no-high s (on .loop .i) (omega arith) _ (digit-at _ _ _ (c .before .before .at .ensures) (c .before .hex-value .ensures)) (c .if1 .taken)) _ _ _ _ (on .loop .inv .3)
+    pairs-done s _ (on .loop .i) _ (on .loop .inv .2)
+    (pairs-no-high s (on .loop .i) (omega arith) _ (digit-at _ _ _ (c .before .before .at .ensures) (c .before .hex-value .ensures))
+    (c .if1 .taken))
+    _ _ _ _ (on .loop .inv .3)
 
 add-at : tie.Need-add-at Inv-loop μ-loop
 add-at c = omega arith
@@ -55,7 +59,10 @@ returns-2 c =
     let first = c .before .before .before in
     let on = first .before .before .before .before in
     let s = now (on .before .before .before .args .s) in
-    pairs-done s _ (on .loop .i) _ (on .loop .inv .2) (pairs-no-low s (on .loop .i) (omega arith) _ (digit-at _ _ _ (first .before .before .at .ensures) (first .before .hex-value .ensures)) (first .if1 .left) _ (digit-at _ _ _ (c .before .before .at2 .ensures) (c .before .hex-value2 .ensures)) (c .if2 .taken)) _ _ _ _ (on .loop .inv .3)
+    pairs-done s _ (on .loop .i) _ (on .loop .inv .2)
+    (pairs-no-low s (on .loop .i) (omega arith) _ (digit-at _ _ _ (first .before .before .at .ensures) (first .before .hex-value .ensures))
+    (first .if1 .left) _ (digit-at _ _ _ (c .before .before .at2 .ensures) (c .before .hex-value2 .ensures)) (c .if2 .taken))
+    _ _ _ _ (on .loop .inv .3)
 
 -- both are digits
 small : (c : tie.Else2 Inv-loop μ-loop) → (c .before .before .before .before .hex-value .result < 16) × (c .before .hex-value2 .result < 16)
@@ -91,8 +98,14 @@ loop-again c =
     let first = second .before .before .before in
     let on = first .before .before .before .before in
     let s = now (on .before .before .before .args .s) in
-    let pair = pairs-more s (on .loop .i) (omega arith) _ (digit-at _ _ _ (first .before .before .at .ensures) (first .before .hex-value .ensures)) (first .if1 .left) _ (digit-at _ _ _ (second .before .before .at2 .ensures) (second .before .hex-value2 .ensures)) (second .if2 .left) in
-    (call .put .kept .0 ∙ on .loop .inv .0, _, pairs-turn s _ (on .loop .i) _ _ (on .loop .inv .2) (pair .1), put-more _ _ _ _ _ _ _ _ (on .loop .inv .3) (on .loop .inv .0) (call .put .ensures))
+    let pair = pairs-more s (on .loop .i) (omega arith) _
+    (digit-at _ _ _ (first .before .before .at .ensures) (first .before .hex-value .ensures)) (first .if1 .left) _
+    (digit-at _ _ _ (second .before .before .at2 .ensures) (second .before .hex-value2 .ensures)) (second .if2 .left) in (
+      call .put .kept .0 ∙ on .loop .inv .0,
+      _,
+      pairs-turn s _ (on .loop .i) _ _ (on .loop .inv .2) (pair .1),
+      put-more _ _ _ _ _ _ _ _ (on .loop .inv .3) (on .loop .inv .0) (call .put .ensures),
+    )
 
 same-length-3 : tie.Need-same-length-3 Inv-loop μ-loop
 same-length-3 c = c .before .loop .inv .0

@@ -31,7 +31,9 @@ returns c =
     let count = again .before .before in
     let star = count .before in
     let once = star .before .before .before .before .before in
-    run-counted (now (once .before .before .before .before .args .s)) _ _ (once .take-pairs .ensures .0) _ _ (omega arith) (star .if2 .taken) _ _ (count .number .ensures .1 .0) (count .number .ensures .1 .1) _ _ _ _ (once .take-pairs .ensures .1) (once .take-pairs .kept .1 .1 .0) (again .repeat .ensures)
+    run-counted (now (once .before .before .before .before .args .s)) _ _ (once .take-pairs .ensures .0) _ _ (omega arith)
+    (star .if2 .taken) _ _ (count .number .ensures .1 .0) (count .number .ensures .1 .1) _ _ _ _ (once .take-pairs .ensures .1)
+    (once .take-pairs .kept .1 .1 .0) (again .repeat .ensures)
 
 same-length-2 : tie.Need-same-length-2
 same-length-2 c = search needs
@@ -39,7 +41,8 @@ same-length-2 c = search needs
 returns-2 : tie.Need-returns-2
 returns-2 c =
     let once = c .before .before .before .before .before in
-    run-other (now (once .before .before .before .before .args .s)) _ _ (once .take-pairs .ensures .0) _ _ _ _ (once .take-pairs .ensures .1) (omega arith) (c .if2 .left)
+    run-other (now (once .before .before .before .before .args .s)) _ _ (once .take-pairs .ensures .0) _ _ _ _
+    (once .take-pairs .ensures .1) (omega arith) (c .if2 .left)
 
 same-length-3 : tie.Need-same-length-3
 same-length-3 c = search needs
@@ -47,7 +50,8 @@ same-length-3 c = search needs
 returns-3 : tie.Need-returns-3
 returns-3 c =
     let once = c .before .before .before in
-    run-ended (now (once .before .before .before .before .args .s)) _ _ (once .take-pairs .ensures .0) _ _ _ _ (once .take-pairs .ensures .1) (omega arith)
+    run-ended (now (once .before .before .before .before .args .s)) _ _ (once .take-pairs .ensures .0) _ _ _ _
+    (once .take-pairs .ensures .1) (omega arith)
 
 pub take-run-spec : {M : Type 1} → statement M
 take-run-spec =

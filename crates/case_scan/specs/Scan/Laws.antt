@@ -17,7 +17,8 @@ use Rattle.format.specs.Hex.{hexValue}
 use Rattle.format.specs.Hex.Laws.{value-most}
 use Rattle.lines.specs.Line.{Put}
 use Rattle.lines.specs.Line.Laws.{put-more}
-use Rattle.case_scan.specs.Scan.{Numeral, valueOf, pairsOf, pairsAt, pairsEnd, goesOn, numberOf, widthOf, numberAt, numberEnd, times, runAt, runEnd, someRuns, runsAt}
+use Rattle.case_scan.specs.Scan.{Numeral, valueOf, pairsOf, pairsAt, pairsEnd, goesOn, numberOf, widthOf, numberAt, numberEnd, times}
+use Rattle.case_scan.specs.Scan.{runAt, runEnd, someRuns, runsAt}
 
 -- an element that is there does not depend on what stands for one that is not
 pub there : (l : List ℕ) (i d e : ℕ) → i < length l → getD l i d ≡ getD l i e
@@ -31,7 +32,13 @@ numeral-none s from =
     let e : 0 ≡ from - from = omega arith in
     record { on = omega arith; within = omega arith; digits = λ i h g. absurd (omega arith); is = ap (valueOf s from) e }
 
-pub numeral-more : (s : List ℕ) (from value i : ℕ) → Numeral s from value i → i < length s → 48 ≤ getD s i 0 → getD s i 0 ≤ 57 → Numeral s from (value * 10 + (getD s i 0 - 48)) (i + 1)
+pub numeral-more :
+    (s : List ℕ) (from value i : ℕ) →
+    Numeral s from value i →
+    i < length s →
+    48 ≤ getD s i 0 →
+    getD s i 0 ≤ 57 →
+    Numeral s from (value * 10 + (getD s i 0 - 48)) (i + 1)
 unfolding valueOf
 numeral-more s from value i n h low high =
     let on = n .on in
@@ -41,7 +48,10 @@ numeral-more s from value i n h low high =
       on = omega arith;
       within = omega (arith, n .within);
       digits = below-more (λ k. from ≤ k → (48 ≤ getD s k 0) × (getD s k 0 ≤ 57)) i (n .digits) (λ g. (low, high));
-      is = ap (λ v. v * 10 + (getD s i 0 - 48)) (n .is) ∙ ap (λ k. valueOf s from (i - from) * 10 + (getD s k 0 - 48)) place ∙ ap (valueOf s from) width;
+      is =
+          ap (λ v. v * 10 + (getD s i 0 - 48)) (n .is)
+          ∙ ap (λ k. valueOf s from (i - from) * 10 + (getD s k 0 - 48)) place
+          ∙ ap (valueOf s from) width;
     }
 
 -- what stands at a place, and past the end
@@ -104,7 +114,8 @@ module _ (s : List ℕ) (i : ℕ) where
       more f (yes p) =
           let next : i + 1 + 1 ≡ i + 2 = omega arith in
           let two : drop i s ≡ getD s i 10 ∷ getD s (i + 1) 10 ∷ drop (i + 2) s =
-          at-place s i 10 here ∙ ap (λ t. getD s i 10 ∷ t) (at-place s (i + 1) 10 (omega arith) ∙ ap (λ k. getD s (i + 1) 10 ∷ drop k s) next) in
+          at-place s i 10 here
+          ∙ ap (λ t. getD s i 10 ∷ t) (at-place s (i + 1) 10 (omega arith) ∙ ap (λ k. getD s (i + 1) 10 ∷ drop k s) next) in
           let value : hexValue (getD s i 10) * 16 + hexValue (getD s (i + 1) 10) ≡ high * 16 + low = omega (arith, h, l) in
           (p, ap pairsOf two ∙ pairs-two _ _ _ below (omega (arith, l)) ∙ ap (λ v. v ∷ pairsOf (drop (i + 2) s)) value)
       more f (no p) =
@@ -124,7 +135,11 @@ pub record PairsTo (s : List ℕ) (from i : ℕ) (bytes : List ℕ) : Type 0 whe
 pub pairs-none : (s : List ℕ) (from : ℕ) → PairsTo s from from []
 pairs-none s from = record { so-far = refl; count = omega arith }
 
-pub pairs-turn : (s : List ℕ) (from i : ℕ) (bytes : List ℕ) (b : ℕ) → PairsTo s from i bytes → pairsAt s i ≡ b ∷ pairsAt s (i + 2) → PairsTo s from (i + 2) (bytes ++ (b ∷ []))
+pub pairs-turn :
+    (s : List ℕ) (from i : ℕ) (bytes : List ℕ) (b : ℕ) →
+    PairsTo s from i bytes →
+    pairsAt s i ≡ b ∷ pairsAt s (i + 2) →
+    PairsTo s from (i + 2) (bytes ++ (b ∷ []))
 pairs-turn s from i bytes b p e =
     let c = p .count in
     record {
@@ -141,7 +156,10 @@ module _ (s : List ℕ) (from i : ℕ) (bytes : List ℕ) (p : PairsTo s from i 
   unfolding pairsEnd
   pairs-end = p .count ∙ ap (λ (t : List ℕ). from + 2 * length t) (sym pairs-all)
 
-  pub pairs-done : (old : List ℕ) (at : ℕ) (new : List ℕ) (r : ℕ) → Put old at bytes new r → (i ≡ pairsEnd s from) × Put old at (pairsAt s from) new r
+  pub pairs-done :
+      (old : List ℕ) (at : ℕ) (new : List ℕ) (r : ℕ) →
+      Put old at bytes new r →
+      (i ≡ pairsEnd s from) × Put old at (pairsAt s from) new r
   pairs-done old at new r q = (pairs-end, rw pairs-all q)
 
 -- a value that was found to be a digit's
@@ -176,8 +194,10 @@ module _ (s : List ℕ) (from v i : ℕ) (n : NumberTo s from v i) where
     stop : goesOn v (getD s i 0) ≡ false → Ended
     unfolding numberOf widthOf
     stop f =
-        let a : numberOf v (drop i s) ≡ v = ap (numberOf v) (at-place s i 0 here) ∙ ap (λ b. cond b (numberOf (v * 10 + (getD s i 0 - 48)) (drop (i + 1) s)) v) f in
-        let e : widthOf v (drop i s) ≡ 0 = ap (widthOf v) (at-place s i 0 here) ∙ ap (λ b. cond b (suc (widthOf (v * 10 + (getD s i 0 - 48)) (drop (i + 1) s))) 0) f in
+        let a : numberOf v (drop i s) ≡ v =
+        ap (numberOf v) (at-place s i 0 here) ∙ ap (λ b. cond b (numberOf (v * 10 + (getD s i 0 - 48)) (drop (i + 1) s)) v) f in
+        let e : widthOf v (drop i s) ≡ 0 =
+        ap (widthOf v) (at-place s i 0 here) ∙ ap (λ b. cond b (suc (widthOf (v * 10 + (getD s i 0 - 48)) (drop (i + 1) s))) 0) f in
         let p = n .place in
         (sym (n .value ∙ a), omega arith)
 
@@ -195,20 +215,35 @@ module _ (s : List ℕ) (from v i : ℕ) (n : NumberTo s from v i) where
         pub number-go : v ≤ 922337203685477580 → NumberTo s from (v * 10 + (getD s i 0 - 48)) (i + 1)
         unfolding numberOf widthOf
         number-go h =
-            let t : goesOn v (getD s i 0) ≡ true = simp (le-ltb (getD s i 0) 48 low, le-leb (getD s i 0) 57 high, le-leb v 922337203685477580 h) in
-            let a : numberOf v (drop i s) ≡ numberOf (v * 10 + (getD s i 0 - 48)) (drop (i + 1) s) = ap (numberOf v) (at-place s i 0 here) ∙ ap (λ b. cond b (numberOf (v * 10 + (getD s i 0 - 48)) (drop (i + 1) s)) v) t in
-            let e : widthOf v (drop i s) ≡ suc (widthOf (v * 10 + (getD s i 0 - 48)) (drop (i + 1) s)) = ap (widthOf v) (at-place s i 0 here) ∙ ap (λ b. cond b (suc (widthOf (v * 10 + (getD s i 0 - 48)) (drop (i + 1) s))) 0) t in
+            let t : goesOn v (getD s i 0) ≡ true =
+            simp (le-ltb (getD s i 0) 48 low, le-leb (getD s i 0) 57 high, le-leb v 922337203685477580 h) in
+            let a : numberOf v (drop i s) ≡ numberOf (v * 10 + (getD s i 0 - 48)) (drop (i + 1) s) =
+            ap (numberOf v) (at-place s i 0 here) ∙ ap (λ b. cond b (numberOf (v * 10 + (getD s i 0 - 48)) (drop (i + 1) s)) v) t in
+            let e : widthOf v (drop i s) ≡ suc (widthOf (v * 10 + (getD s i 0 - 48)) (drop (i + 1) s)) =
+            ap (widthOf v) (at-place s i 0 here) ∙ ap (λ b. cond b (suc (widthOf (v * 10 + (getD s i 0 - 48)) (drop (i + 1) s))) 0) t in
             let p = n .place in
             record { value = n .value ∙ a; place = omega arith }
 
 -- once more
-pub times-turn : (bytes : List ℕ) (k : ℕ) → 1 ≤ k → (old : List ℕ) (at : ℕ) (mid : List ℕ) (m : ℕ) (new : List ℕ) (r : ℕ) → Put old at (times (k - 1) bytes) mid m → length mid ≡ length old → Put mid m bytes new r → Put old at (times (k + 1 - 1) bytes) new r
+pub times-turn :
+    (bytes : List ℕ) (k : ℕ) →
+    1 ≤ k →
+    (old : List ℕ) (at : ℕ) (mid : List ℕ) (m : ℕ) (new : List ℕ) (r : ℕ) →
+    Put old at (times (k - 1) bytes) mid m →
+    length mid ≡ length old →
+    Put mid m bytes new r →
+    Put old at (times (k + 1 - 1) bytes) new r
 unfolding times
 times-turn bytes k h old at mid m new r p e q =
     let next : k + 1 - 1 ≡ suc (k - 1) = omega arith in
     rw next (put-more old at (times (k - 1) bytes) mid m bytes new r p e q)
 
-pub times-done : (bytes : List ℕ) (k n : ℕ) → k ≡ n → (old : List ℕ) (at : ℕ) (new : List ℕ) (r : ℕ) → Put old at (times k bytes) new r → Put old at (times n bytes) new r
+pub times-done :
+    (bytes : List ℕ) (k n : ℕ) →
+    k ≡ n →
+    (old : List ℕ) (at : ℕ) (new : List ℕ) (r : ℕ) →
+    Put old at (times k bytes) new r →
+    Put old at (times n bytes) new r
 times-done bytes k n e old at new r p = rw e at p
 
 -- a run, with a count and without
@@ -228,11 +263,18 @@ module _ (s : List ℕ) (from after : ℕ) (is : after ≡ pairsEnd s from) (old
         let e = List·getD-eq-default s 10 h in
         bare (λ f. omega arith)
 
-  module _ (h : after < length s) (star : getD s after 0 ≡ 42) (v n : ℕ) (value : v ≡ numberAt s (after + 1)) (place : n ≡ numberEnd s (after + 1)) where
-    pub run-counted : (mid : List ℕ) (m : ℕ) (new : List ℕ) (r : ℕ) → Put old at (pairsAt s from) mid m → length mid ≡ length old → Put mid m (times (v - 1) (pairsAt s from)) new r → (n ≡ runEnd s from) × Put old at (runAt s from) new r
+  module _ (h : after < length s) (star : getD s after 0 ≡ 42) (v n : ℕ) (value : v ≡ numberAt s (after + 1))
+      (place : n ≡ numberEnd s (after + 1)) where
+    pub run-counted :
+        (mid : List ℕ) (m : ℕ) (new : List ℕ) (r : ℕ) →
+        Put old at (pairsAt s from) mid m →
+        length mid ≡ length old →
+        Put mid m (times (v - 1) (pairsAt s from)) new r →
+        (n ≡ runEnd s from) × Put old at (runAt s from) new r
     unfolding runEnd runAt
     run-counted mid m new r p e q =
-        let t : eqb (getD s (pairsEnd s from) 10) 42 ≡ true = ap (λ k. eqb (getD s k 10) 42) (sym is) ∙ eq-eqb (getD s after 10) 42 (sym (there s after 0 10 h) ∙ star) in
+        let t : eqb (getD s (pairsEnd s from) 10) 42 ≡ true =
+        ap (λ k. eqb (getD s k 10) 42) (sym is) ∙ eq-eqb (getD s after 10) 42 (sym (there s after 0 10 h) ∙ star) in
         let count : v ≡ numberAt s (pairsEnd s from + 1) = value ∙ ap (λ k. numberAt s (k + 1)) is in
         let last : n ≡ numberEnd s (pairsEnd s from + 1) = place ∙ ap (λ k. numberEnd s (k + 1)) is in
         let both : Put old at (pairsAt s from ++ times (numberAt s (pairsEnd s from + 1) - 1) (pairsAt s from)) new r =
@@ -246,7 +288,8 @@ either-on from a b false h g = g
 
 pub run-on : (s : List ℕ) (from : ℕ) → from ≤ runEnd s from
 unfolding runEnd numberEnd pairsEnd
-run-on s from = either-on from (numberEnd s (pairsEnd s from + 1)) (pairsEnd s from) (eqb (getD s (pairsEnd s from) 10) 42) (omega arith) (omega arith)
+run-on s from =
+    either-on from (numberEnd s (pairsEnd s from + 1)) (pairsEnd s from) (eqb (getD s (pairsEnd s from) 10) 42) (omega arith) (omega arith)
 
 -- runs, each after a space: how far they are taken, one more, the end of them
 pub record RunsTo (s : List ℕ) (from i : ℕ) (bytes : List ℕ) : Type 0 where
@@ -263,7 +306,12 @@ unfolding someRuns
 no-space zero s i f = refl
 no-space (suc k) s i f = simp (ne-eqb (getD s i 10) 32 f)
 
-one-run : (k : ℕ) (s : List ℕ) (i : ℕ) → i < length s → length s ≤ i + k → getD s i 10 ≡ 32 → (j : ℕ) × (k ≡ suc j) × (someRuns k s i ≡ runAt s (i + 1) ++ someRuns j s (runEnd s (i + 1)))
+one-run :
+    (k : ℕ) (s : List ℕ) (i : ℕ) →
+    i < length s →
+    length s ≤ i + k →
+    getD s i 10 ≡ 32 →
+    (j : ℕ) × (k ≡ suc j) × (someRuns k s i ≡ runAt s (i + 1) ++ someRuns j s (runEnd s (i + 1)))
 unfolding someRuns
 one-run zero s i h g e = absurd (omega arith)
 one-run (suc k) s i h g e = (k, refl, simp (eq-eqb (getD s i 10) 32 e))
@@ -292,5 +340,8 @@ module _ (s : List ℕ) (from i : ℕ) (bytes : List ℕ) (p : RunsTo s from i b
       record {
         left = one .0;
         enough = omega arith;
-        so-far = p .so-far ∙ ap (λ (t : List ℕ). bytes ++ t) (one .2 ∙ ap (λ k. runAt s (i + 1) ++ someRuns (one .0) s k) (sym is)) ∙ sym (append-assoc bytes (runAt s (i + 1)) (someRuns (one .0) s n));
+        so-far =
+            p .so-far
+            ∙ ap (λ (t : List ℕ). bytes ++ t) (one .2 ∙ ap (λ k. runAt s (i + 1) ++ someRuns (one .0) s k) (sym is))
+            ∙ sym (append-assoc bytes (runAt s (i + 1)) (someRuns (one .0) s n));
       }

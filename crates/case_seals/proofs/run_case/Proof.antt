@@ -11,13 +11,17 @@ slice-relend-prefix-read : tie.Need-slice-relend-prefix-read
 slice-relend-prefix-read c = search needs
 
 slice-aggregate-read : tie.Need-slice-aggregate-read
-slice-aggregate-read c = let start = c .before .before .before .before .before in sym (length-take-le (start .args .numbers) (now (start .args .table)) (start .pre .0))
+slice-aggregate-read c =
+    let start = c .before .before .before .before .before in
+    sym (length-take-le (start .args .numbers) (now (start .args .table)) (start .pre .0))
 
 slice-relend-prefix-read-2 : tie.Need-slice-relend-prefix-read-2
 slice-relend-prefix-read-2 c = search needs
 
 slice-aggregate-read-2 : tie.Need-slice-aggregate-read-2
-slice-aggregate-read-2 c = let start = c .before .before .before .before .before .before in sym (length-take-le (start .args .room) (now (start .args .text)) (start .pre .1))
+slice-aggregate-read-2 c =
+    let start = c .before .before .before .before .before .before in
+    sym (length-take-le (start .args .room) (now (start .args .text)) (start .pre .1))
 
 read-requires : tie.Need-read-requires
 read-requires c κs = search needs

@@ -52,7 +52,10 @@ loop-less : tie.Need-loop-less Inv-loop μ-loop
 loop-less c = omega (arith, c .before .before .before .number .ensures .0)
 
 loop-again : tie.Need-loop-again Inv-loop μ-loop
-loop-again c = (simp length-set (c .before .before .before .before .before .loop .inv .0), omega (arith, c .before .before .before .before .before .loop .inv .0))
+loop-again c = (
+  simp length-set (c .before .before .before .before .before .loop .inv .0),
+  omega (arith, c .before .before .before .before .before .loop .inv .0),
+)
 
 same-length-3 : tie.Need-same-length-3 Inv-loop μ-loop
 same-length-3 c = c .before .loop .inv .0

@@ -65,16 +65,22 @@ number-requires : tie.Need-number-requires
 number-requires c κs = search needs
 
 array-share-prefix-text : tie.Need-array-share-prefix-text
-array-share-prefix-text c = c .before .before .before .before .before .before .before .before .before .before .before .before .before .before .before .before .runs2 .ensures .0 .0
+array-share-prefix-text c =
+    c .before .before .before .before .before .before .before .before .before .before .before .before .before .before
+    .before .before .runs2 .ensures .0 .0
 
 slice-aggregate-run-case : tie.Need-slice-aggregate-run-case
-slice-aggregate-run-case c = c .before .before .before .before .before .before .before .before .before .before .before .before .before .before .before .before .before .runs2 .ensures .0 .1
+slice-aggregate-run-case c =
+    c .before .before .before .before .before .before .before .before .before .before .before .before .before .before
+    .before .before .before .runs2 .ensures .0 .1
 
 array-share-prefix-rows : tie.Need-array-share-prefix-rows
-array-share-prefix-rows c = c .before .before .before .before .before .before .before .before .before .before .before .before .before .numbers2 .ensures .0
+array-share-prefix-rows c =
+    c .before .before .before .before .before .before .before .before .before .before .before .before .before .numbers2 .ensures .0
 
 slice-aggregate-run-case-2 : tie.Need-slice-aggregate-run-case-2
-slice-aggregate-run-case-2 c = c .before .before .before .before .before .before .before .before .before .before .before .before .before .before .numbers2 .ensures .1
+slice-aggregate-run-case-2 c =
+    c .before .before .before .before .before .before .before .before .before .before .before .before .before .before .numbers2 .ensures .1
 
 array-share-prefix-values : tie.Need-array-share-prefix-values
 array-share-prefix-values c = search needs

@@ -1,4 +1,5 @@
--- Laws of dates: the bounds of a day, there and back between a day and its number, and that a date's three bytes are cut off in one way only.
+-- Laws of dates: the bounds of a day, there and back between a day and its number, and that a date's three bytes are
+-- cut off in one way only.
 -- Assumes nothing.
 use mathlib.Core.Path.{_≡_, refl, sym}
 use mathlib.Core.Bool.{true, false}

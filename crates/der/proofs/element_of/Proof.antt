@@ -1,4 +1,5 @@
--- `der::element_of` meets its contract: each answer is one case of the definition. A length that was read is whole, so the body starts inside.
+-- `der::element_of` meets its contract: each answer is one case of the definition. A length that was read is whole, so
+-- the body starts inside.
 -- Assumes nothing.
 use borrow.Author.Needs.{needs}
 use native.Mathlib.Omega.{arith}
@@ -16,7 +17,9 @@ use Rattle.der.proofs.element_of.Statement.{statement}
 use Rattle.der.proofs.element_of.Tie as tie
 
 -- the length is read after the tag
-rest : (c : tie.After-read-length) → c .read-length .result ≡ readLength (drop 1 (now (c .before .before .before .before .before .before .args .s)))
+rest :
+    (c : tie.After-read-length) →
+    c .read-length .result ≡ readLength (drop 1 (now (c .before .before .before .before .before .before .args .s)))
 rest c =
     let s = now (c .before .before .before .before .before .before .args .s) in
     c .read-length .ensures ∙ ap readLength (take-all (length s - 1) (drop 1 s) (omega (arith, length-drop 1 s)))
@@ -54,7 +57,8 @@ body-in-requires c κs =
     let start = on .before .before .before .before .before .before in
     let s = now (start .args .s) in
     let bytes = bytes-drop 1 s (λ i. on .before .before .before .before .before .shared-slice-known .given i .fits) in
-    let taken = read-is-form (drop 1 s) bytes (c .before .read .given .0 .0) (c .before .read .given .0 .1 .0) (sym (rest on) ∙ c .before .read .given .1) in
+    let taken = read-is-form (drop 1 s) bytes (c .before .read .given .0 .0) (c .before .read .given .0 .1 .0)
+    (sym (rest on) ∙ c .before .read .given .1) in
     (omega (arith, taken .there, length-drop 1 s), omega arith)
 
 enum-told : tie.Need-enum-told
@@ -64,7 +68,9 @@ returns-3 : tie.Need-returns-3
 returns-3 c =
     let on = c .before .before .before .before in
     let s = now (on .before .before .before .before .before .before .args .s) in
-    c .body-in .ensures ∙ ap (bodyIn (length s - 1)) (sym (c .before .before .read .given .1) ∙ rest on) ∙ element-read _ s (omega arith) (on .before .before .if2 .left)
+    c .body-in .ensures
+    ∙ ap (bodyIn (length s - 1)) (sym (c .before .before .read .given .1) ∙ rest on)
+    ∙ element-read _ s (omega arith) (on .before .before .if2 .left)
 
 returns-4 : tie.Need-returns-4
 returns-4 c =

@@ -21,7 +21,10 @@ record Long (s x : ℕ) : Type 0 where
   high : x < 0x85
   there : x - 0x80 ≤ s - 1
 
-long : (c : tie.Else5) → Long (length (now (c .before .before .before .before .before .before .before .before .args .s))) (c .before .before .before .before .wide .result)
+long :
+    (c : tie.Else5) →
+    Long (length (now (c .before .before .before .before .before .before .before .before .args .s)))
+    (c .before .before .before .before .wide .result)
 long c = record { some = omega arith; low = omega (arith, c .before .before .if3 .left); high = omega arith; there = omega arith }
 
 part : (d s k : ℕ) → d ≡ s - 1 → k ≤ s - 1 → k ≤ d
@@ -31,12 +34,17 @@ eight : (x : ℕ) → x < 0x85 → x - 0x80 ≤ 8
 eight x h = omega arith
 
 -- the number in the bytes after the first
-value : (c : tie.After-number) → c .number .result ≡ val (drop 1 (now (c .before .before .before .before .before .before .before .before .before .before .args .s))) (c .before .before .before .before .before .before .wide .result - 0x80)
+value :
+    (c : tie.After-number) →
+    c .number .result
+    ≡ val (drop 1 (now (c .before .before .before .before .before .before .before .before .before .before .args .s)))
+    (c .before .before .before .before .before .before .wide .result - 0x80)
 value c =
     let s = now (c .before .before .before .before .before .before .before .before .before .before .args .s) in
     let k = c .before .before .before .before .before .before .wide .result - 0x80 in
     let l = long (c .before .before) in
-    c .number .ensures ∙ val-part k _ (drop 1 s) (add-sub-cancel k 1) (part (length (drop 1 s)) (length s) k (length-drop 1 s) (l .there)) (eight _ (l .high))
+    c .number .ensures
+    ∙ val-part k _ (drop 1 s) (add-sub-cancel k 1) (part (length (drop 1 s)) (length s) k (length-drop 1 s) (l .there)) (eight _ (l .high))
 
 returns : tie.Need-returns
 returns c = length-none _ (omega arith)
@@ -60,7 +68,9 @@ sub-if5 : tie.Need-sub-if5
 sub-if5 c = search needs
 
 returns-5 : tie.Need-returns-5
-returns-5 c = length-cut _ _ (c .before .before .before .before .wide .ensures) (omega arith) (omega (arith, c .before .before .if3 .left)) (omega arith) (omega arith)
+returns-5 c =
+    length-cut _ _ (c .before .before .before .before .wide .ensures) (omega arith) (omega (arith, c .before .before .if3 .left))
+    (omega arith) (omega arith)
 
 add-end : tie.Need-add-end
 add-end c = search needs
@@ -84,13 +94,15 @@ returns-6 : tie.Need-returns-6
 returns-6 c =
     let on = c .before .before in
     let l = long (on .before .before) in
-    length-loose _ _ (on .before .before .before .before .before .before .wide .ensures) (l .some) (l .low) (l .high) _ (value on) (l .there) (subst (λ n. on .number .result < n) (c .before .least .ensures) (c .if6 .taken))
+    length-loose _ _ (on .before .before .before .before .before .before .wide .ensures) (l .some) (l .low) (l .high) _ (value on)
+    (l .there) (subst (λ n. on .number .result < n) (c .before .least .ensures) (c .if6 .taken))
 
 returns-7 : tie.Need-returns-7
 returns-7 c =
     let on = c .before .before in
     let l = long (on .before .before) in
-    length-is _ _ (on .before .before .before .before .before .before .wide .ensures) (l .some) (l .low) (l .high) _ (value on) (l .there) (subst (λ n. n ≤ on .number .result) (c .before .least .ensures) (c .if6 .left))
+    length-is _ _ (on .before .before .before .before .before .before .wide .ensures) (l .some) (l .low) (l .high) _ (value on) (l .there)
+    (subst (λ n. n ≤ on .number .result) (c .before .least .ensures) (c .if6 .left))
 
 pub read-length-spec : {M : Type 1} → statement M
 read-length-spec =

@@ -26,7 +26,10 @@ abbrev pub start : List ℕ → ℕ
 start body = length (form (length body)) + 1
 
 -- complete: an element, followed by anything, is found with its body's places
-pub element-found : (tag : ℕ) (body rest : List ℕ) → Sized (length body) → elementIn tag (element tag body ++ rest) ≡ Body (start body) (start body + length body)
+pub element-found :
+    (tag : ℕ) (body rest : List ℕ) →
+    Sized (length body) →
+    elementIn tag (element tag body ++ rest) ≡ Body (start body) (start body + length body)
 unfolding elementIn
 element-found tag body rest sized =
     let m = length body in
@@ -40,7 +43,8 @@ element-found tag body rest sized =
 pub element-body : (tag : ℕ) (body rest : List ℕ) → drop (start body) (element tag body ++ rest) ≡ body ++ rest
 element-body tag body rest =
     let m = length body in
-    ap (drop (start body)) (ap (λ t. tag ∷ t) (append-assoc (form m) body rest)) ∙ drop-at (tag ∷ form m) (body ++ rest) (start body) (sym (add-one (length (form m))))
+    ap (drop (start body)) (ap (λ t. tag ∷ t) (append-assoc (form m) body rest))
+    ∙ drop-at (tag ∷ form m) (body ++ rest) (start body) (sym (add-one (length (form m))))
 
 pub element-rest : (tag : ℕ) (body rest : List ℕ) → drop (start body + length body) (element tag body ++ rest) ≡ rest
 element-rest tag body rest =
@@ -84,11 +88,14 @@ element-whole tag (x ∷ t) bytes from to e =
     read : x ≡ tag → (r : Length) → readLength t ≡ r → bodyIn (length t) (readLength t) ≡ Body from to → Found tag (x ∷ t) from to
     read same (is.Is m w) f g =
         by-test (ltb (length t) (w + m))
-        (λ h. absurd (nothing {from = from} {to = to} (ap (bodyIn (length t)) f ∙ sym (body-not (length t) m w (ltb-true (length t) (w + m) h))) g))
+        (λ h.
+        absurd
+        (nothing {from = from} {to = to} (ap (bodyIn (length t)) f ∙ sym (body-not (length t) m w (ltb-true (length t) (w + m) h))) g))
         (λ h.
         let room = ltb-false (length t) (w + m) h in
         let is-body : Body (w + 1) (w + 1 + m) ≡ Body from to = body-is (length t) m w room ∙ sym (ap (bodyIn (length t)) f) ∙ g in
         let a : w + 1 ≡ from = cc in
         let b : w + 1 + m ≡ to = cc in
-        subst (λ z. Found z (x ∷ t) from to) same (subst₂ (λ y z. Found x (x ∷ t) y z) a b (found x t m w (read-is-form t (λ i. bytes (suc i)) m w f) room)))
+        subst (λ z. Found z (x ∷ t) from to) same
+        (subst₂ (λ y z. Found x (x ∷ t) y z) a b (found x t m w (read-is-form t (λ i. bytes (suc i)) m w f) room)))
     read same (is.Not fault) f g = absurd (nothing {from = from} {to = to} (ap (bodyIn (length t)) f) g)

@@ -101,7 +101,14 @@ differs : {n w : ℕ} {fault : Fault} {r : Length} → r ≡ is.Not fault → r 
 differs e f = let z : _≡_ {A = ℕ} 0 1 = cc in omega arith
 
 -- the long form, where its bytes are there and are the shortest
-took-long : (x : ℕ) (t : List ℕ) → Bytes t → 0x80 < x → x < 0x85 → x - 0x80 ≤ length t → least (x - 0x80) ≤ val t (x - 0x80) → Taken (x ∷ t) (val t (x - 0x80)) (x - 0x80 + 1)
+took-long :
+    (x : ℕ) (t : List ℕ) →
+    Bytes t →
+    0x80 < x →
+    x < 0x85 →
+    x - 0x80 ≤ length t →
+    least (x - 0x80) ≤ val t (x - 0x80) →
+    Taken (x ∷ t) (val t (x - 0x80)) (x - 0x80 + 1)
 took-long x t bytes low high there least-is =
     let k = x - 0x80 in
     let below = val-below k t bytes in
@@ -119,9 +126,16 @@ took : (x : ℕ) (t : List ℕ) → Bytes t → (n width : ℕ) → readLength (
 took x t bytes n width e =
     by-test (ltb x 0x80)
     (λ h. same (first-short x t (ltb-true x 0x80 h))
-    (record { sized = omega (arith, ltb-true x 0x80 h); there = omega arith; front = form-short x (ltb-true x 0x80 h); size = ap length (form-short x (ltb-true x 0x80 h)) }))
+    (record {
+      sized = omega (arith, ltb-true x 0x80 h);
+      there = omega arith;
+      front = form-short x (ltb-true x 0x80 h);
+      size = ap length (form-short x (ltb-true x 0x80 h));
+    }))
     (λ a. by-test (ltb 0x80 x)
-    (λ b. by-test (ltb x 0x85) (λ c. long (ltb-true 0x80 x b) (ltb-true x 0x85 c)) (λ c. absurd (differs (first-high x t (ltb-false x 0x85 c)) e)))
+    (λ b.
+    by-test (ltb x 0x85) (λ c. long (ltb-true 0x80 x b) (ltb-true x 0x85 c))
+    (λ c. absurd (differs (first-high x t (ltb-false x 0x85 c)) e)))
     (λ b. let low = ltb-false x 0x80 a in let high = ltb-false 0x80 x b in absurd (differs (first-bad x t (omega arith)) e)))
   where
     same : {m v : ℕ} → readLength (x ∷ t) ≡ is.Is m v → Taken (x ∷ t) m v → Taken (x ∷ t) n width

@@ -67,7 +67,8 @@ module _ (s : List ℕ) (x : ℕ) (e : x ≡ getD s 0 0) (h : 0 < length s) wher
   -- the long form
   module _ (low : 0x80 < x) (high : x < 0x85) where
     pub length-cut : length s - 1 < x - 0x80 → is.Not fault.Cut ≡ readLength s
-    length-cut l = sym (ap readLength first ∙ first-long x (drop 1 s) low high ∙ long-cut (x - 0x80) (drop 1 s) (omega (arith, length-drop 1 s)))
+    length-cut l =
+        sym (ap readLength first ∙ first-long x (drop 1 s) low high ∙ long-cut (x - 0x80) (drop 1 s) (omega (arith, length-drop 1 s)))
 
     module _ (value : ℕ) (v : value ≡ val (drop 1 s) (x - 0x80)) (there : x - 0x80 ≤ length s - 1) where
       pub length-loose : value < least (x - 0x80) → is.Not fault.NotShortest ≡ readLength s

@@ -77,7 +77,8 @@ returns-3 c =
     let raw = now (a .raw) in
     let out = now (a .out) in
     let e : formed (take (a .n) raw) (take (length raw - a .n) (drop (a .n) raw)) (length out) ≡ toDer (a .n) raw (length out) =
-    ap (λ s. formed (take (a .n) raw) s (length out)) (rest (a .n) raw) ∙ sym (to-der-formed (a .n) raw (length out) (sized (on .before)) (on .if2 .left)) in
+    ap (λ s. formed (take (a .n) raw) s (length out)) (rest (a .n) raw)
+    ∙ sym (to-der-formed (a .n) raw (length out) (sized (on .before)) (on .if2 .left)) in
     (c .before .before .put-pair .ensures .0 ∙ ap told e, c .before .before .put-pair .ensures .1 ∙ ap (λ o. filled o out) e)
 
 pub to-der-spec : {M : Type 1} → statement M

@@ -22,7 +22,8 @@ use Rattle.der.specs.declared.Element.the-variants as found
 use Rattle.ecdsa.specs.Signature.{isSize, unsigned, pairOf, derOf}
 use Rattle.ecdsa.specs.Strict.{part, lead, digitsIn, numberIn, padded, Raw, rawOf}
 use Rattle.ecdsa.specs.Signature.Laws.{size-bounds}
-use Rattle.ecdsa.specs.Strict.Laws.{length-part, length-padded, digits-is, number-at, lead-small, lead-at-most, number-read, number-inside, raw-none, raw-more, raw-no-r, raw-no-s, raw-left, raw-is}
+use Rattle.ecdsa.specs.Strict.Laws.{length-part, length-padded, digits-is, number-at, lead-small, lead-at-most, number-read}
+use Rattle.ecdsa.specs.Strict.Laws.{number-inside, raw-none, raw-more, raw-no-r, raw-no-s, raw-left, raw-is}
 use Rattle.ecdsa.specs.Strict.Shortest.{Carries, shortest-carries, padded-shortest}
 use Rattle.ecdsa.specs.declared.raw_form.Number.{Number}
 use Rattle.ecdsa.specs.declared.raw_form.Number.the-variants.{Digits, Nothing}
@@ -31,7 +32,10 @@ use Rattle.ecdsa.specs.declared.raw_form.Number.the-variants.{Digits, No
 drop-part : (k m : ℕ) (l : List ℕ) → k ≤ m → m ≤ length l → take (m - k) (drop k l) ≡ drop k (take m l)
 drop-part k m l h room =
     let sum : m ≡ k + (m - k) = omega arith in
-    sym (ap (λ j. drop k (take j l)) sum ∙ ap (drop k) (take-add k (m - k) l) ∙ drop-at (take k l) (take (m - k) (drop k l)) k (length-take-le k l (omega arith)))
+    sym
+    (ap (λ j. drop k (take j l)) sum
+    ∙ ap (drop k) (take-add k (m - k) l)
+    ∙ drop-at (take k l) (take (m - k) (drop k l)) k (length-take-le k l (omega arith)))
 
 -- the digits, by where the content starts
 digits-part : (from to k : ℕ) (t : List ℕ) → to ≤ length t → k ≤ to - from → part (from + k) to t ≡ drop k (part from to t)
@@ -62,7 +66,14 @@ content-size r c h =
     one-more : (m k n : ℕ) → m - k ≤ n → k ≤ 1 → m ≤ suc n
     one-more m k n h l = omega arith
 
-content-found : (n : ℕ) (r c rest : List ℕ) → length r ≡ n → n < 127 → Carries r c → (let t = element 0x02 c ++ rest in let a = start c + lead c in let b = start c + length c in (numberIn n t ≡ Digits a b) × (padded n (part a b t) ≡ r) × (b ≡ length (element 0x02 c)))
+content-found :
+    (n : ℕ) (r c rest : List ℕ) →
+    length r ≡ n →
+    n < 127 →
+    Carries r c →
+    (let t = element 0x02 c ++ rest in
+    let a = start c + lead c in
+    let b = start c + length c in (numberIn n t ≡ Digits a b) × (padded n (part a b t) ≡ r) × (b ≡ length (element 0x02 c)))
 content-found n r c rest many small h =
     let t = element 0x02 c ++ rest in
     let m = length c in
@@ -103,12 +114,15 @@ number-sound n t bytes a b e =
     let c = part from b t in
     let f = element-whole 0x02 t bytes from b (r .is) in
     let size = length-part from b t (f .inside) in
-    let digits : part a b t ≡ drop (lead c) c = ap (λ k. part k b t) (r .start) ∙ digits-part from b (lead c) t (f .inside) (lead-at-most c (b - from) (r .is-strict) size) in
+    let digits : part a b t ≡ drop (lead c) c =
+    ap (λ k. part k b t) (r .start) ∙ digits-part from b (lead c) t (f .inside) (lead-at-most c (b - from) (r .is-strict) size) in
     record {
       many = length-padded n (part a b t) (omega (arith, length-part a b t (i .end), i .small));
       whole = f .whole ∙ ap (element 0x02) (sym (ap (λ d. shortest (0 ∷ padded n d)) digits ∙ padded-shortest n c (r .is-strict) (r .low)));
       end = f .inside;
-      bytes = bytes-append (replicate (n - length (part a b t)) 0) (part a b t) (bytes-replicate (n - length (part a b t)) 0 (omega arith)) (bytes-take (b - a) (drop a t) (bytes-drop a t bytes));
+      bytes =
+          bytes-append (replicate (n - length (part a b t)) 0) (part a b t) (bytes-replicate (n - length (part a b t)) 0 (omega arith))
+          (bytes-take (b - a) (drop a t) (bytes-drop a t bytes));
     }
 
 -- complete, both numbers: the DER form of a raw signature is read as that signature
@@ -165,7 +179,16 @@ none-raw : {bytes : List ℕ} {r : Raw} → r ≡ Raw.none → r ≡ Raw.raw byt
 none-raw e f = let z : _≡_ {A = ℕ} 0 1 = cc in omega arith
 
 -- where both are read and nothing is left over
-both-sound : (n : ℕ) (s t u : List ℕ) (a b x y from : ℕ) → Bytes s → elementIn 0x30 s ≡ found.Body from (length s) → drop from s ≡ t → numberIn n t ≡ Digits a b → drop b t ≡ u → numberIn n u ≡ Digits x y → y ≡ length u → RawSound n s (padded n (part a b t) ++ padded n (part x y u))
+both-sound :
+    (n : ℕ) (s t u : List ℕ) (a b x y from : ℕ) →
+    Bytes s →
+    elementIn 0x30 s ≡ found.Body from (length s) →
+    drop from s ≡ t →
+    numberIn n t ≡ Digits a b →
+    drop b t ≡ u →
+    numberIn n u ≡ Digits x y →
+    y ≡ length u →
+    RawSound n s (padded n (part a b t) ++ padded n (part x y u))
 both-sound n s t u a b x y from bytes is at-t f at-u g left =
     let t-bytes : Bytes t = subst (λ v. Bytes v) at-t (bytes-drop from s bytes) in
     let u-bytes : Bytes u = subst (λ v. Bytes v) at-u (bytes-drop b t t-bytes) in
@@ -176,7 +199,8 @@ both-sound n s t u a b x y from bytes is at-t f at-u g left =
     let second : unsigned q ≡ u = sym (two .whole) ∙ take-all y u (omega arith) in
     let pair : unsigned p ++ unsigned q ≡ t = ap₂ (λ v w. v ++ w) (sym (one .whole)) (second ∙ sym at-u) ∙ take-append-drop b t in
     let whole = element-whole 0x30 s bytes from (length s) is in
-    let body : take (length s - from) (drop from s) ≡ t = take-all (length s - from) (drop from s) (omega (arith, length-drop from s)) ∙ at-t in
+    let body : take (length s - from) (drop from s) ≡ t =
+    take-all (length s - from) (drop from s) (omega (arith, length-drop from s)) ∙ at-t in
     record {
       many = length-append p q ∙ omega (arith, one .many, two .many);
       whole =
@@ -190,21 +214,36 @@ both-sound n s t u a b x y from bytes is at-t f at-u g left =
 pub raw-sound : (n : ℕ) (s : List ℕ) → Bytes s → (bytes : List ℕ) → rawOf n s ≡ Raw.raw bytes → RawSound n s bytes
 raw-sound n s bytes raw e = opened (elementIn 0x30 s) refl
   where
-    last : (from to : ℕ) → elementIn 0x30 s ≡ found.Body from to → to ≡ length s → (a b : ℕ) → numberIn n (drop from s) ≡ Digits a b → (r : Number) → numberIn n (drop b (drop from s)) ≡ r → RawSound n s raw
+    last :
+        (from to : ℕ) →
+        elementIn 0x30 s ≡ found.Body from to →
+        to ≡ length s →
+        (a b : ℕ) →
+        numberIn n (drop from s) ≡ Digits a b →
+        (r : Number) →
+        numberIn n (drop b (drop from s)) ≡ r →
+        RawSound n s raw
     last from to is whole a b f (Digits x y) g =
         let t = drop from s in
         let u = drop b t in
         by-test (eqb y (length u))
         (λ h.
         let left = eqb-true y (length u) h in
-        let same : Raw.raw (padded n (part a b t) ++ padded n (part x y u)) ≡ Raw.raw raw = sym (raw-is n s from to is whole t refl a b f u refl x y g left) ∙ e in
+        let same : Raw.raw (padded n (part a b t) ++ padded n (part x y u)) ≡ Raw.raw raw =
+        sym (raw-is n s from to is whole t refl a b f u refl x y g left) ∙ e in
         let read : padded n (part a b t) ++ padded n (part x y u) ≡ raw = cc in
         subst (λ v. RawSound n s v) read (both-sound n s t u a b x y from bytes (is ∙ ap (found.Body from) whole) refl f refl g left))
         (λ h. absurd (none-raw (raw-left n s from to is whole t refl a b f u refl x y g (eqb-false y (length u) h)) e))
     last from to is whole a b f Nothing g =
         absurd (none-raw (raw-no-s n s from to is whole (drop from s) refl a b f (drop b (drop from s)) refl g) e)
 
-    pair : (from to : ℕ) → elementIn 0x30 s ≡ found.Body from to → to ≡ length s → (r : Number) → numberIn n (drop from s) ≡ r → RawSound n s raw
+    pair :
+        (from to : ℕ) →
+        elementIn 0x30 s ≡ found.Body from to →
+        to ≡ length s →
+        (r : Number) →
+        numberIn n (drop from s) ≡ r →
+        RawSound n s raw
     pair from to is whole (Digits a b) f = last from to is whole a b f (numberIn n (drop b (drop from s))) refl
     pair from to is whole Nothing f = absurd (none-raw (raw-no-r n s from to is whole (drop from s) refl f) e)
 

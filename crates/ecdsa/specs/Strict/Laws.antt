@@ -1,4 +1,5 @@
--- Reading strict DER by the tests that lead there: the digits of content, the INTEGER at the head, both numbers; and leading zeros put down.
+-- Reading strict DER by the tests that lead there: the digits of content, the INTEGER at the head, both numbers; and
+-- leading zeros put down.
 -- Assumes nothing.
 use mathlib.Core.Path.{_≡_, refl, ap, sym, subst₂, _∙_}
 use mathlib.Core.Bool.{true, false}
@@ -127,7 +128,11 @@ pub record Read (n : ℕ) (t : List ℕ) (a b : ℕ) : Type 0 where
 nothing : {a b : ℕ} {r : Number} → Nothing ≡ r → r ≡ Digits a b → ⊥
 nothing e f = let z : _≡_ {A = ℕ} 0 1 = cc in omega arith
 
-digits-read : (n : ℕ) (t : List ℕ) (from to a b : ℕ) → elementIn 0x02 t ≡ found.Body from to → digitsIn n from to (part from to t) ≡ Digits a b → Read n t a b
+digits-read :
+    (n : ℕ) (t : List ℕ) (from to a b : ℕ) →
+    elementIn 0x02 t ≡ found.Body from to →
+    digitsIn n from to (part from to t) ≡ Digits a b →
+    Read n t a b
 digits-read n t from to a b is e =
     by-test (strict c)
     (λ s. by-test (ltb (getD c 0 0) 0x80) (λ h. sized s (ltb-true (getD c 0 0) 0x80 h))
@@ -162,7 +167,8 @@ pub record Inside (n : ℕ) (t : List ℕ) (a b : ℕ) : Type 0 where
   pub small : b - a ≤ n
 
 pub lead-at-most : (c : List ℕ) (size : ℕ) → strict c ≡ true → length c ≡ size → lead c ≤ size
-lead-at-most c size s e = by-test (both (eqb (getD c 0 0) 0) (ltb 1 (length c))) (λ h. simp h (omega (arith, strict-some c s))) (λ h. simp h (omega arith))
+lead-at-most c size s e =
+    by-test (both (eqb (getD c 0 0) 0) (ltb 1 (length c))) (λ h. simp h (omega (arith, strict-some c s))) (λ h. simp h (omega arith))
 
 placed : (n from a b k : ℕ) (t : List ℕ) → from ≤ b → b ≤ length t → k ≤ b - from → a ≡ from + k → b - from - k ≤ n → Inside n t a b
 placed n from a b k t order end h start small = record { order = omega arith; end = end; small = omega arith }
@@ -177,10 +183,14 @@ number-inside n t bytes a b e =
 
 -- a number in n bytes has n bytes
 pub length-padded : (n : ℕ) (digits : List ℕ) → length digits ≤ n → length (padded n digits) ≡ n
-length-padded n digits h = length-append (replicate (n - length digits) 0) digits ∙ omega (arith, length-replicate {A = ℕ} (n - length digits) 0)
+length-padded n digits h =
+    length-append (replicate (n - length digits) 0) digits ∙ omega (arith, length-replicate {A = ℕ} (n - length digits) 0)
 
 -- one more leading zero
-pub zero-more : (out : List ℕ) (at i : ℕ) → at + i < length out → set (over out at (replicate i 0)) (at + i) 0 ≡ over out at (replicate (i + 1) 0)
+pub zero-more :
+    (out : List ℕ) (at i : ℕ) →
+    at + i < length out →
+    set (over out at (replicate i 0)) (at + i) 0 ≡ over out at (replicate (i + 1) 0)
 zero-more out at i h =
     let many : length (replicate {A = ℕ} i 0) ≡ i = length-replicate i 0 in
     ap (λ k. set (over out at (replicate i 0)) (at + k) 0) (sym many)
@@ -188,7 +198,13 @@ zero-more out at i h =
     ∙ ap (over out at) (replicate-append-replicate i 1 0)
 
 -- the digits after the zeros
-pub padded-put : (out digits : List ℕ) (n at i : ℕ) (filled : List ℕ) → length digits ≤ n → at + n ≤ length out → i ≡ n - length digits → filled ≡ over out at (replicate i 0) → over filled (at + (n - length digits)) digits ≡ over out at (padded n digits)
+pub padded-put :
+    (out digits : List ℕ) (n at i : ℕ) (filled : List ℕ) →
+    length digits ≤ n →
+    at + n ≤ length out →
+    i ≡ n - length digits →
+    filled ≡ over out at (replicate i 0) →
+    over filled (at + (n - length digits)) digits ≡ over out at (padded n digits)
 padded-put out digits n at i filled h room e f =
     let zeros = replicate {A = ℕ} (n - length digits) 0 in
     let many : length zeros ≡ n - length digits = length-replicate (n - length digits) 0 in

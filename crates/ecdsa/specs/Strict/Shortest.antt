@@ -10,7 +10,8 @@ use lib.Dec.{ltb, eqb}
 use lib.ListN.{length, getD, drop, replicate}
 use Rattle.format.specs.Choice.Laws.{by-test}
 use Rattle.der.specs.Content.{shortest, strict}
-use Rattle.der.specs.Content.Laws.{strict-none, strict-one, strict-more, shortest-drop, shortest-keep, shortest-one, strict-shortest, zero-redundant, zero-needed, byte-needed}
+use Rattle.der.specs.Content.Laws.{strict-none, strict-one, strict-more, shortest-drop, shortest-keep, shortest-one, strict-shortest}
+use Rattle.der.specs.Content.Laws.{zero-redundant, zero-needed, byte-needed}
 use Rattle.ecdsa.specs.Strict.{lead, padded}
 use Rattle.ecdsa.specs.Strict.Laws.{never, lead-one, lead-not, lead-short}
 
@@ -76,12 +77,15 @@ front y r rest =
     some : y < 0x80 → (y ≡ 0 → ⊥) → Carries (y ∷ r) (shortest (0 ∷ y ∷ r))
     some h e =
         let k = kept y r (omega (arith, e)) h in
-        subst (λ c. Carries (y ∷ r) c) (sym (shortest-drop 0 y r (zero-redundant y h) ∙ k .1)) (carries-all y r (k .0) h (lead-not (y ∷ r) e))
+        subst (λ c. Carries (y ∷ r) c) (sym (shortest-drop 0 y r (zero-redundant y h) ∙ k .1))
+        (carries-all y r (k .0) h (lead-not (y ∷ r) e))
 
 -- what the number's shortest form carries is the number
 pub shortest-carries : (y : ℕ) (r : List ℕ) → Carries (y ∷ r) (shortest (0 ∷ y ∷ r))
 shortest-carries y [] =
-    front y [] (subst (λ c. Carries (0 ∷ []) c) (sym (shortest-one 0)) (carries-all 0 [] (sym (strict-one (0 ∷ []) refl)) (omega arith) (lead-short (0 ∷ []) (omega arith))))
+    front y []
+    (subst (λ c. Carries (0 ∷ []) c) (sym (shortest-one 0))
+    (carries-all 0 [] (sym (strict-one (0 ∷ []) refl)) (omega arith) (lead-short (0 ∷ []) (omega arith))))
 shortest-carries y (z ∷ r) =
     let ih = shortest-carries z r in
     front y (z ∷ r) (carries-zero (z ∷ r) (shortest (0 ∷ z ∷ r)) ih)
@@ -97,7 +101,9 @@ zeros-go (suc j) d =
 zero-before : (c : List ℕ) → strict c ≡ true → getD c 0 0 < 0x80 → shortest (0 ∷ drop (lead c) c) ≡ c
 zero-before [] s h = absurd (never (strict-none [] refl ∙ s))
 zero-before (x ∷ []) s h =
-    ap (λ k. shortest (0 ∷ drop k (x ∷ []))) (lead-short (x ∷ []) (omega arith)) ∙ shortest-drop 0 x [] (zero-redundant x h) ∙ shortest-one x
+    ap (λ k. shortest (0 ∷ drop k (x ∷ []))) (lead-short (x ∷ []) (omega arith))
+    ∙ shortest-drop 0 x [] (zero-redundant x h)
+    ∙ shortest-one x
 zero-before (x ∷ y ∷ c) s h =
     by-test (eqb x 0)
     (λ e.

@@ -30,7 +30,10 @@ module _ (n : ℕ) (s : List ℕ) (room : ℕ) where
   toRaw-no-size e = simp e
 
   module _ (size : isSize n ≡ true) where
-    sized : (r : Raw) → rawOf n s ≡ r → toRaw n s room ≡ pick (isRaw r) (pick (leb (2 * n) room) (done (bytesIn r)) (refused 63 0)) (refused 62 0)
+    sized :
+        (r : Raw) →
+        rawOf n s ≡ r →
+        toRaw n s room ≡ pick (isRaw r) (pick (leb (2 * n) room) (done (bytesIn r)) (refused 63 0)) (refused 62 0)
     unfolding toRaw
     sized r e = simp (size, e)
 
@@ -67,7 +70,13 @@ pub record Second (n : ℕ) (s t : List ℕ) (a b : ℕ) (u : List ℕ) (x y : �
 behind : (k : ℕ) (s : List ℕ) → take (length s - k) (drop k s) ≡ drop k s
 behind k s = take-all (length s - k) (drop k s) (omega (arith, length-drop k s))
 
-pub opens : (n : ℕ) (s : List ℕ) (from to : ℕ) → isSize n ≡ true → Bytes s → elementIn 0x30 s ≡ found.Body from to → to ≡ length s → Opened n s (take (length s - from) (drop from s))
+pub opens :
+    (n : ℕ) (s : List ℕ) (from to : ℕ) →
+    isSize n ≡ true →
+    Bytes s →
+    elementIn 0x30 s ≡ found.Body from to →
+    to ≡ length s →
+    Opened n s (take (length s - from) (drop from s))
 opens n s from to size bytes e whole = record {
   size = size;
   from = from;
@@ -76,11 +85,19 @@ opens n s from to size bytes e whole = record {
   bytes = subst (λ t. Bytes t) (sym (behind from s)) (bytes-drop from s bytes);
 }
 
-pub reads-first : (n : ℕ) (s t : List ℕ) (a b : ℕ) → Opened n s t → numberIn n t ≡ Digits a b → First n s t a b (take (length t - b) (drop b t))
+pub reads-first :
+    (n : ℕ) (s t : List ℕ) (a b : ℕ) →
+    Opened n s t →
+    numberIn n t ≡ Digits a b →
+    First n s t a b (take (length t - b) (drop b t))
 reads-first n s t a b o e =
     record { opened = o; is = e; at = sym (behind b t); inside = number-inside n t (o .bytes) a b e }
 
-pub reads-second : (n : ℕ) (s t : List ℕ) (a b : ℕ) (u : List ℕ) (x y : ℕ) → First n s t a b u → numberIn n u ≡ Digits x y → Second n s t a b u x y
+pub reads-second :
+    (n : ℕ) (s t : List ℕ) (a b : ℕ) (u : List ℕ) (x y : ℕ) →
+    First n s t a b u →
+    numberIn n u ≡ Digits x y →
+    Second n s t a b u x y
 reads-second n s t a b u x y f e =
     record { first = f; is = e; inside = number-inside n u (subst (λ v. Bytes v) (f .at) (bytes-drop b t (f .opened .bytes))) x y e }
 
@@ -134,7 +151,12 @@ module _ (n : ℕ) (s : List ℕ) (room : ℕ) (t : List ℕ) where
         pub r-kept : length mid ≡ length out
         r-kept = ap length put ∙ length-over out 0 (padded n (part a b t)) (omega (arith, r-many))
 
-        pub both-put : (after : List ℕ) → after ≡ over mid n (padded n (part x y u)) → after ≡ over out 0 (padded n (part a b t) ++ padded n (part x y u))
+        pub both-put :
+            (after : List ℕ) →
+            after ≡ over mid n (padded n (part x y u)) →
+            after ≡ over out 0 (padded n (part a b t) ++ padded n (part x y u))
         both-put after e =
             let place : n ≡ 0 + length (padded n (part a b t)) = omega (arith, r-many) in
-            e ∙ ap₂ (λ o k. over o k (padded n (part x y u))) put place ∙ over-over out 0 (padded n (part a b t)) (padded n (part x y u)) (omega (arith, r-many))
+            e
+            ∙ ap₂ (λ o k. over o k (padded n (part x y u))) put place
+            ∙ over-over out 0 (padded n (part a b t)) (padded n (part x y u)) (omega (arith, r-many))

@@ -31,7 +31,8 @@ val-be zero n h = omega arith
 val-be (suc k) n h =
     let small : n / 256 < 256 ^ k = omega (arith, simp pow-suc at h) in
     let ih = val-be k (n / 256) small in
-    let front : val (be k (n / 256) ++ (n % 256 ∷ [])) k ≡ n / 256 = val-append k (be k (n / 256)) (n % 256 ∷ []) (omega (arith, length-be k (n / 256))) ∙ ih in
+    let front : val (be k (n / 256) ++ (n % 256 ∷ [])) k ≡ n / 256 =
+    val-append k (be k (n / 256)) (n % 256 ∷ []) (omega (arith, length-be k (n / 256))) ∙ ih in
     let last : getD (be k (n / 256) ++ (n % 256 ∷ [])) k 0 ≡ n % 256 = getD-at (be k (n / 256)) (n % 256) [] 0 k (length-be k (n / 256)) in
     omega arith
 

@@ -23,7 +23,10 @@ unfolding over
 length-over out at bytes h = simp (length-append, length-take, length-drop) (omega arith)
 
 -- a write that starts where another ends is one write of both
-pub over-over : (out : List ℕ) (at : ℕ) (p q : List ℕ) → at + length p ≤ length out → over (over out at p) (at + length p) q ≡ over out at (p ++ q)
+pub over-over :
+    (out : List ℕ) (at : ℕ) (p q : List ℕ) →
+    at + length p ≤ length out →
+    over (over out at p) (at + length p) q ≡ over out at (p ++ q)
 unfolding over
 over-over out at p q h =
     let n = at + length p in
@@ -31,9 +34,12 @@ over-over out at p q h =
     let head : length (take at out ++ p) ≡ n = simp (length-append, length-take) (omega arith) in
     let front : take n (take at out ++ p ++ rest) ≡ take at out ++ p = take-at (take at out ++ p) rest n head in
     let back : drop (n + length q) (take at out ++ p ++ rest) ≡ drop (n + length q) out =
-    sym (drop-drop (length q) n (take at out ++ p ++ rest)) ∙ ap (drop (length q)) (drop-at (take at out ++ p) rest n head) ∙ drop-drop (length q) n out in
+    sym (drop-drop (length q) n (take at out ++ p ++ rest))
+    ∙ ap (drop (length q)) (drop-at (take at out ++ p) rest n head)
+    ∙ drop-drop (length q) n out in
     let sum : n + length q ≡ at + length (p ++ q) = simp length-append (omega arith) in
-    ap₂ (λ a b. a ++ q ++ b) front (back ∙ ap (λ k. drop k out) sum) ∙ ap (λ a. a ++ drop (at + length (p ++ q)) out) (append-assoc (take at out) p q)
+    ap₂ (λ a b. a ++ q ++ b) front (back ∙ ap (λ k. drop k out) sum)
+    ∙ ap (λ a. a ++ drop (at + length (p ++ q)) out) (append-assoc (take at out) p q)
 
 -- a store is a write of one byte
 pub set-over : (out : List ℕ) (at x : ℕ) → at < length out → set out at x ≡ over out at (x ∷ [])
@@ -41,15 +47,22 @@ unfolding over
 set-over out at x h = simp (set-split, add-one, append-assoc)
 
 -- a store where a write ends makes it longer by one byte
-pub over-set : (out : List ℕ) (at : ℕ) (p : List ℕ) (x : ℕ) → at + length p < length out → set (over out at p) (at + length p) x ≡ over out at (p ++ (x ∷ []))
+pub over-set :
+    (out : List ℕ) (at : ℕ) (p : List ℕ) (x : ℕ) →
+    at + length p < length out →
+    set (over out at p) (at + length p) x ≡ over out at (p ++ (x ∷ []))
 over-set out at p x h =
-    set-over (over out at p) (at + length p) x (omega (arith, length-over out at p (omega arith))) ∙ over-over out at p (x ∷ []) (omega arith)
+    set-over (over out at p) (at + length p) x (omega (arith, length-over out at p (omega arith)))
+    ∙ over-over out at p (x ∷ []) (omega arith)
 
 -- two stores in a row, and three
 pub over-two : (out : List ℕ) (at x y : ℕ) → at + 2 ≤ length out → set (set out at x) (at + 1) y ≡ over out at (x ∷ y ∷ [])
 over-two out at x y h = ap (λ o. set o (at + 1) y) (set-over out at x (omega arith)) ∙ over-set out at (x ∷ []) y (omega arith)
 
-pub over-three : (out : List ℕ) (at x y z : ℕ) → at + 3 ≤ length out → set (set (set out at x) (at + 1) y) (at + 2) z ≡ over out at (x ∷ y ∷ z ∷ [])
+pub over-three :
+    (out : List ℕ) (at x y z : ℕ) →
+    at + 3 ≤ length out →
+    set (set (set out at x) (at + 1) y) (at + 2) z ≡ over out at (x ∷ y ∷ z ∷ [])
 over-three out at x y z h = ap (λ o. set o (at + 2) z) (over-two out at x y (omega arith)) ∙ over-set out at (x ∷ y ∷ []) z (omega arith)
 
 -- Writes one after another from the start: these bytes stand there so far, up to a place, and the rest is as it was.
@@ -64,7 +77,12 @@ module _ (entry out : List ℕ) (at : ℕ) (before : List ℕ) (held : Held entr
   pub held-length : at ≤ length entry → length out ≡ length entry
   held-length h = ap length (held .is) ∙ length-over entry 0 before (omega (arith, held .many))
 
-  pub held-more : (p after : List ℕ) (to : ℕ) → after ≡ over out at p → at + length p ≡ to → to ≤ length entry → Held entry after to (before ++ p)
+  pub held-more :
+      (p after : List ℕ) (to : ℕ) →
+      after ≡ over out at p →
+      at + length p ≡ to →
+      to ≤ length entry →
+      Held entry after to (before ++ p)
   held-more p after to e f h = record {
     many = length-append before p ∙ omega (arith, held .many);
     is =

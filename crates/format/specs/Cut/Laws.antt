@@ -28,13 +28,20 @@ module _ {A : Type 0} (Legal : A → Type 0) (publish : A → List ℕ) (cut : C
   no-front a b t la lb e = cut a b t [] la lb (e ∙ sym (append-nil (publish b)))
 
   -- a part seen through a map with a way back
-  pub cut-through : {B : Type 0} (LegalB : B → Type 0) (to : B → A) (back : A → B) → ((b : B) → LegalB b → Legal (to b)) → ((b : B) → LegalB b → back (to b) ≡ b) → Cut LegalB (λ b. publish (to b))
+  pub cut-through :
+      {B : Type 0} (LegalB : B → Type 0) (to : B → A) (back : A → B) →
+      ((b : B) → LegalB b → Legal (to b)) →
+      ((b : B) → LegalB b → back (to b) ≡ b) →
+      Cut LegalB (λ b. publish (to b))
   cut-through LegalB to back legal way a b t u la lb e =
       let c = cut (to a) (to b) t u (legal a la) (legal b lb) e in
       (sym (way a la) ∙ ap back (c .0) ∙ way b lb, c .1)
 
   -- two parts one after the other; the second's rule and form may go by the first's value
-  pub cut-then : {B : Type 0} (LegalB : A → B → Type 0) (publishB : A → B → List ℕ) → ((a : A) → Legal a → Cut (LegalB a) (publishB a)) → Cut {A = A × B} (λ p. Legal (p .0) × LegalB (p .0) (p .1)) (λ p. publish (p .0) ++ publishB (p .0) (p .1))
+  pub cut-then :
+      {B : Type 0} (LegalB : A → B → Type 0) (publishB : A → B → List ℕ) →
+      ((a : A) → Legal a → Cut (LegalB a) (publishB a)) →
+      Cut {A = A × B} (λ p. Legal (p .0) × LegalB (p .0) (p .1)) (λ p. publish (p .0) ++ publishB (p .0) (p .1))
   cut-then LegalB publishB cutB p q t u lp lq e =
       let c = cut (p .0) (q .0) (publishB (p .0) (p .1) ++ t) (publishB (q .0) (q .1) ++ u) (lp .0) (lq .0) (simp append-assoc at e) in
       let same : publishB (p .0) (p .1) ++ t ≡ publishB (p .0) (q .1) ++ u = c .1 ∙ ap (λ a. publishB a (q .1) ++ u) (sym (c .0)) in
@@ -52,18 +59,24 @@ module _ {A : Type 0} (Legal : A → Type 0) (publish : A → List ℕ) (cut : C
   -- items one after another up to a byte with which no item begins
   pub cut-until : (m : ℕ) → ((a : A) → Legal a → NotFrom m (publish a)) → Cut (All Legal) (λ s. each publish s ++ (m ∷ []))
   cut-until m not-from [] [] t u la lb e = (refl, tail-of e)
-  cut-until m not-from [] (b ∷ ys) t u la lb e = absurd (off m b t (each publish ys ++ (m ∷ []) ++ u) (not-from b (lb .0)) (e ∙ simp append-assoc))
-  cut-until m not-from (a ∷ xs) [] t u la lb e = absurd (off m a u (each publish xs ++ (m ∷ []) ++ t) (not-from a (la .0)) (sym e ∙ simp append-assoc))
+  cut-until m not-from [] (b ∷ ys) t u la lb e =
+      absurd (off m b t (each publish ys ++ (m ∷ []) ++ u) (not-from b (lb .0)) (e ∙ simp append-assoc))
+  cut-until m not-from (a ∷ xs) [] t u la lb e =
+      absurd (off m a u (each publish xs ++ (m ∷ []) ++ t) (not-from a (la .0)) (sym e ∙ simp append-assoc))
   cut-until m not-from (a ∷ xs) (b ∷ ys) t u la lb e =
-      let c = cut a b (each publish xs ++ (m ∷ []) ++ t) (each publish ys ++ (m ∷ []) ++ u) (la .0) (lb .0) (simp append-assoc (simp append-assoc at e)) in
+      let c = cut a b (each publish xs ++ (m ∷ []) ++ t) (each publish ys ++ (m ∷ []) ++ u) (la .0) (lb .0)
+      (simp append-assoc (simp append-assoc at e)) in
       let d = cut-until m not-from xs ys t u (la .1) (lb .1) (c .1) in
       (λ i. c .0 i ∷ d .0 i, d .1)
 
 -- a number below 256 ^ k in k bytes
 pub cut-be : (k : ℕ) → Cut (λ n. n < 256 ^ k) (be k)
 cut-be k a b t u la lb e =
-    let back : (n : ℕ) (s : List ℕ) → n < 256 ^ k → val (be k n ++ s) k ≡ n = λ n s h. val-append k (be k n) s (le-of-eq (sym (length-be k n))) ∙ val-be k n h in
-    (sym (back a t la) ∙ ap (λ s. val s k) e ∙ back b u lb, sym (drop-at (be k a) t k (length-be k a)) ∙ ap (drop k) e ∙ drop-at (be k b) u k (length-be k b))
+    let back : (n : ℕ) (s : List ℕ) → n < 256 ^ k → val (be k n ++ s) k ≡ n =
+    λ n s h. val-append k (be k n) s (le-of-eq (sym (length-be k n))) ∙ val-be k n h in (
+      sym (back a t la) ∙ ap (λ s. val s k) e ∙ back b u lb,
+      sym (drop-at (be k a) t k (length-be k a)) ∙ ap (drop k) e ∙ drop-at (be k b) u k (length-be k b),
+    )
 
 -- a number as one byte
 pub cut-byte : Cut (λ (n : ℕ). Unit) (λ n. n ∷ [])

@@ -19,7 +19,11 @@ module _ {A : Type 0} (refuse : ℕ → ℕ → A) where
   all-passed (t ∷ tests) a p =
       ap (λ b. pick b (firstFailed refuse tests a) (refuse (t .number) (t .place))) (p .0) ∙ all-passed tests a (p .1)
 
-  pub first-failed : (before : List Test) (t : Test) (after : List Test) (a : A) → Passed before → t .passed ≡ false → firstFailed refuse (before ++ (t ∷ after)) a ≡ refuse (t .number) (t .place)
+  pub first-failed :
+      (before : List Test) (t : Test) (after : List Test) (a : A) →
+      Passed before →
+      t .passed ≡ false →
+      firstFailed refuse (before ++ (t ∷ after)) a ≡ refuse (t .number) (t .place)
   first-failed [] t after a p e = ap (λ b. pick b (firstFailed refuse after a) (refuse (t .number) (t .place))) e
   first-failed (x ∷ before) t after a p e =
       ap (λ b. pick b (firstFailed refuse (before ++ (t ∷ after)) a) (refuse (x .number) (x .place))) (p .0)
@@ -30,7 +34,11 @@ module _ {A : Type 0} (refuse : ℕ → ℕ → A) where
   by-pick P false x y p q = q
 
   -- what holds of each test's refusal, and of the answer where all are passed, holds of what is answered
-  pub each-way : (P : A → Type 0) (tests : List Test) (a : A) → All (λ t. P (refuse (t .number) (t .place))) tests → P a → P (firstFailed refuse tests a)
+  pub each-way :
+      (P : A → Type 0) (tests : List Test) (a : A) →
+      All (λ t. P (refuse (t .number) (t .place))) tests →
+      P a →
+      P (firstFailed refuse tests a)
   each-way P [] a h p = p
   each-way P (t ∷ tests) a h p =
       by-pick P (t .passed) (firstFailed refuse tests a) (refuse (t .number) (t .place)) (each-way P tests a (h .1) p) (h .0)
@@ -40,7 +48,11 @@ chosen true x y n e = e
 chosen false x y n e = refl
 
 -- what is done passed every test
-pub done-passed : (tests : List Test) (o : Outcome) (s : List ℕ) → All (λ t. 0 < t .number) tests → inOrder tests o ≡ done s → Passed tests × (o ≡ done s)
+pub done-passed :
+    (tests : List Test) (o : Outcome) (s : List ℕ) →
+    All (λ t. 0 < t .number) tests →
+    inOrder tests o ≡ done s →
+    Passed tests × (o ≡ done s)
 done-passed [] o s n e = (tt, e)
 done-passed (t ∷ tests) o s n e =
     by-test (t .passed)
@@ -54,7 +66,8 @@ done-passed (t ∷ tests) o s n e =
 -- the number answered is that of the first test that is not passed
 pub first-number : (tests : List Test) (s : List ℕ) → inOrder tests (done s) .number ≡ firstNumber tests
 first-number [] s = refl
-first-number (t ∷ tests) s = chosen (t .passed) (inOrder tests (done s)) (refused (t .number) (t .place)) (firstNumber tests) (first-number tests s)
+first-number (t ∷ tests) s =
+    chosen (t .passed) (inOrder tests (done s)) (refused (t .number) (t .place)) (firstNumber tests) (first-number tests s)
 
 -- bytes in a room, by the room
 module _ (number : ℕ) (bytes : List ℕ) (room : ℕ) where

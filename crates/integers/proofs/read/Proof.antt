@@ -12,10 +12,14 @@ use borrow.Author.Needs.{needs}
 use Rattle.integers.proofs.read.Statement.{statement}
 use Rattle.integers.proofs.read.Tie as tie
 
-is-body : (c : tie.After-found) → elementIn 0x02 (now (c .before .before .before .before .args .s)) ≡ Body (c .found .given .0 .0) (c .found .given .0 .1 .0)
+is-body :
+    (c : tie.After-found) →
+    elementIn 0x02 (now (c .before .before .before .before .args .s)) ≡ Body (c .found .given .0 .0) (c .found .given .0 .1 .0)
 is-body c = sym (c .before .before .element-of .ensures) ∙ c .found .given .1
 
-whole : (c : tie.After-found) → Found 0x02 (now (c .before .before .before .before .args .s)) (c .found .given .0 .0) (c .found .given .0 .1 .0)
+whole :
+    (c : tie.After-found) →
+    Found 0x02 (now (c .before .before .before .before .args .s)) (c .found .given .0 .0) (c .found .given .0 .1 .0)
 whole c = element-whole 0x02 _ (λ i. c .before .before .before .shared-slice-known .given i .fits) _ _ (is-body c)
 
 element-of-requires : tie.Need-element-of-requires

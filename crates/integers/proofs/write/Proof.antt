@@ -15,10 +15,17 @@ use Rattle.integers.proofs.write.Statement.{statement}
 use Rattle.integers.proofs.write.Tie as tie
 
 -- the eight bytes, and where their shortest form starts
-from : (c : tie.After-start-of) → (c .before .before .bytes-of .result ≡ be 8 (word (c .before .before .before .before .before .args .v))) × (c .start-of .result < 8) × (shortest (c .before .before .bytes-of .result) ≡ drop (c .start-of .result) (c .before .before .bytes-of .result))
+from :
+    (c : tie.After-start-of) →
+    (c .before .before .bytes-of .result ≡ be 8 (word (c .before .before .before .before .before .args .v)))
+    × (c .start-of .result < 8)
+    × (shortest (c .before .before .bytes-of .result) ≡ drop (c .start-of .result) (c .before .before .bytes-of .result))
 from c =
-    let o = c .before .before in
-    (o .bytes-of .ensures ∙ ap (be 8) (o .before .word .ensures ∙ ap word (toZ-ofZ (o .before .before .before .fits .v))), c .start-of .ensures .0, c .start-of .ensures .1)
+    let o = c .before .before in (
+      o .bytes-of .ensures ∙ ap (be 8) (o .before .word .ensures ∙ ap word (toZ-ofZ (o .before .before .before .fits .v))),
+      c .start-of .ensures .0,
+      c .start-of .ensures .1,
+    )
 
 word-requires : tie.Need-word-requires
 word-requires c κs = search needs
@@ -36,7 +43,9 @@ add-if1 : tie.Need-add-if1
 add-if1 c = search needs
 
 returns : tie.Need-returns
-returns c = let a = c .before .before .before .before .before .before .args in let f = from (c .before) in no-room (a .v) _ _ (f .0) (f .1) (f .2) (now (a .out)) (omega arith)
+returns c =
+    let a = c .before .before .before .before .before .before .args in
+    let f = from (c .before) in no-room (a .v) _ _ (f .0) (f .1) (f .2) (now (a .out)) (omega arith)
 
 slice-write-out : tie.Need-slice-write-out
 slice-write-out c = search needs

@@ -91,10 +91,13 @@ module _ (v : ℤ) (bytes : List ℕ) (start : ℕ) (e : bytes ≡ be 8 (word v)
 
   -- where it fits, in a buffer: the tag, the size, and the content copied behind them
   module _ (out : List ℕ) where
-    pub no-room : length out < 8 - start + 2 → (record { number = 63; place = 0; count = 0 } ≡ told (writing v (length out))) × (out ≡ filled (writing v (length out)) out)
+    pub no-room :
+        length out < 8 - start + 2 →
+        (record { number = 63; place = 0; count = 0 } ≡ told (writing v (length out))) × (out ≡ filled (writing v (length out)) out)
     no-room l = refuses (writing v (length out)) 63 0 out (writing-not v (length out) (omega (arith, integer-size)))
 
-    module _ (l : 8 - start + 2 ≤ length out) (after : List ℕ) (g : after ≡ copied (take (8 - start) (drop start bytes)) (set (set out 0 0x02) 1 (8 - start)) 2) where
+    module _ (l : 8 - start + 2 ≤ length out) (after : List ℕ)
+        (g : after ≡ copied (take (8 - start) (drop start bytes)) (set (set out 0 0x02) 1 (8 - start)) 2) where
       put : after ≡ over out 0 (integerOf v)
       put =
           let p = drop start bytes in
@@ -110,6 +113,9 @@ module _ (v : ℤ) (bytes : List ℕ) (start : ℕ) (e : bytes ≡ be 8 (word v)
       pub written-size : length after ≡ length out
       written-size = ap length put ∙ length-over out 0 (integerOf v) (omega (arith, integer-size))
 
-      pub written : (record { number = 0; place = 0; count = 8 - start + 2 } ≡ told (writing v (length out))) × (after ≡ filled (writing v (length out)) out)
+      pub written :
+          (record { number = 0; place = 0; count = 8 - start + 2 } ≡ told (writing v (length out)))
+          × (after ≡ filled (writing v (length out)) out)
       written =
-          gives (writing v (length out)) (integerOf v) (8 - start + 2) out after (writing-done v (length out) (omega (arith, integer-size))) (sym integer-size) put
+          gives (writing v (length out)) (integerOf v) (8 - start + 2) out after (writing-done v (length out) (omega (arith, integer-size)))
+          (sym integer-size) put

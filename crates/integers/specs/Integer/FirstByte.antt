@@ -56,14 +56,24 @@ high-small (x ∷ s) b h l =
     (half-high x (val s (length s)) (256 ^ length s) l (val-below (length s) s (λ i. b (suc i))) (few (length s) (omega arith)))
 
 -- how far below the next power a number lies, a byte more
-pub flip-more : (s : List ℕ) (i value x : ℕ) → x ≡ getD s i 0 → x < 256 → suc (value + val s i) ≡ 256 ^ i → suc (value * 256 + (255 - x) + val s (i + 1)) ≡ 256 ^ (i + 1)
+pub flip-more :
+    (s : List ℕ) (i value x : ℕ) →
+    x ≡ getD s i 0 →
+    x < 256 →
+    suc (value + val s i) ≡ 256 ^ i →
+    suc (value * 256 + (255 - x) + val s (i + 1)) ≡ 256 ^ (i + 1)
 flip-more s i value x e h f =
     let more = val-more s i in
     let next : 256 ^ (i + 1) ≡ 256 ^ i * 256 = ap (λ n. 256 ^ n) (add-one i) ∙ pow-suc 256 i in
     omega arith
 
 -- a number in eight bytes, one by one
-pub be-eight : (w : ℕ) → w < 2 ^ 64 → (w / 72057594037927936) ∷ (w / 281474976710656 % 256) ∷ (w / 1099511627776 % 256) ∷ (w / 4294967296 % 256) ∷ (w / 16777216 % 256) ∷ (w / 65536 % 256) ∷ (w / 256 % 256) ∷ (w % 256) ∷ [] ≡ be 8 w
+pub be-eight :
+    (w : ℕ) →
+    w < 2 ^ 64 →
+    (w / 72057594037927936) ∷ (w / 281474976710656 % 256) ∷ (w / 1099511627776 % 256) ∷ (w / 4294967296 % 256) ∷ (w / 16777216 % 256)
+    ∷ (w / 65536 % 256) ∷ (w / 256 % 256) ∷ (w % 256) ∷ []
+    ≡ be 8 w
 unfolding be
 be-eight w h =
     let two = div-div-eq-div-mul w 256 256 in
@@ -73,4 +83,7 @@ be-eight w h =
     let six = ap (λ n. n / 256) five ∙ div-div-eq-div-mul w 1099511627776 256 in
     let seven = ap (λ n. n / 256) six ∙ div-div-eq-div-mul w 281474976710656 256 in
     let top : w / 72057594037927936 % 256 ≡ w / 72057594037927936 = omega arith in
-    sym (λ i. (ap (λ n. n % 256) seven ∙ top) i ∷ (six i % 256) ∷ (five i % 256) ∷ (four i % 256) ∷ (three i % 256) ∷ (two i % 256) ∷ (w / 256 % 256) ∷ (w % 256) ∷ [])
+    sym
+    (λ i.
+    (ap (λ n. n % 256) seven ∙ top) i ∷ (six i % 256) ∷ (five i % 256) ∷ (four i % 256) ∷ (three i % 256) ∷ (two i % 256) ∷ (w / 256 % 256)
+    ∷ (w % 256) ∷ [])

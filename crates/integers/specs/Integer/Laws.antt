@@ -60,7 +60,13 @@ module _ (x y : ℕ) (s : List ℕ) where
   strict-not e = ap not e
 
 -- what holds of strict content, and past a redundant byte, holds of all content with its shortest form
-pub by-shortest : (C : List ℕ → List ℕ → Type 0) → C [] [] → ((s : List ℕ) → strict s ≡ true → C s s) → ((x y : ℕ) (s t : List ℕ) → redundant x y ≡ true → C (y ∷ s) t → C (x ∷ y ∷ s) t) → (s : List ℕ) → C s (shortest s)
+pub by-shortest :
+    (C : List ℕ → List ℕ → Type 0) →
+    C [] [] →
+    ((s : List ℕ) → strict s ≡ true → C s s) →
+    ((x y : ℕ) (s t : List ℕ) → redundant x y ≡ true → C (y ∷ s) t → C (x ∷ y ∷ s) t) →
+    (s : List ℕ) →
+    C s (shortest s)
 unfolding shortest strict
 by-shortest C none stop more [] = none
 by-shortest C none stop more (x ∷ []) = stop (x ∷ []) refl
@@ -103,7 +109,9 @@ module _ (s : List ℕ) (i : ℕ) where
 
   pub start-drop : i + 1 < length s → redundant (getD s i 0) (getD s (i + 1) 0) ≡ true → shortest (drop i s) ≡ shortest (drop (i + 1) s)
   start-drop h e =
-      ap shortest (two-at h) ∙ shortest-drop (getD s i 0) (getD s (i + 1) 0) (drop (i + 1 + 1) s) e ∙ ap shortest (sym (at-place s (i + 1) 0 h))
+      ap shortest (two-at h)
+      ∙ shortest-drop (getD s i 0) (getD s (i + 1) 0) (drop (i + 1 + 1) s) e
+      ∙ ap shortest (sym (at-place s (i + 1) 0 h))
 
   pub start-keep : i + 1 < length s → redundant (getD s i 0) (getD s (i + 1) 0) ≡ false → shortest (drop i s) ≡ drop i s
   start-keep h e =
@@ -135,7 +143,8 @@ shortest-extended (suc d) s h =
     ap shortest (one-extended d s) ∙ shortest-sign (extended d s) (omega (arith, length-extended d s)) ∙ ih
 
 pub sign-byte : (y : ℕ) → sign y < 256
-sign-byte y = by-test (ltb y 0x80) (λ e. omega (arith, sign-low y (ltb-true y 0x80 e))) (λ e. omega (arith, sign-high y (ltb-false y 0x80 e)))
+sign-byte y =
+    by-test (ltb y 0x80) (λ e. omega (arith, sign-low y (ltb-true y 0x80 e))) (λ e. omega (arith, sign-high y (ltb-false y 0x80 e)))
 
 pub bytes-extended : (d : ℕ) (s : List ℕ) → Bytes s → Bytes (extended d s)
 bytes-extended zero s b = b

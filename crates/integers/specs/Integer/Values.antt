@@ -19,7 +19,8 @@ use Rattle.format.specs.BigEndian.Laws.{length-be, val-be, be-val, val-below, b
 use Rattle.der.specs.Content.{shortest, strict}
 use Rattle.integers.specs.Integer.{word, valueOf}
 use Rattle.der.specs.Content.Laws.{strict-shortest}
-use Rattle.integers.specs.Integer.Laws.{sign, sign-low, sign-high, redundant-is, by-shortest, strict-some, extended, one-extended, length-extended, shortest-extended, bytes-extended}
+use Rattle.integers.specs.Integer.Laws.{sign, sign-low, sign-high, redundant-is, by-shortest, strict-some, extended, one-extended}
+use Rattle.integers.specs.Integer.Laws.{length-extended, shortest-extended, bytes-extended}
 use Rattle.integers.specs.Integer.FirstByte.{val-cons, val-low, val-high, low-small, high-small}
 
 module _ (s : List ℕ) where
@@ -36,7 +37,10 @@ value-sign s =
     (λ t. let h = ltb-true (getD s 0 0) 0x80 t in
     ap (λ x. valueOf (x ∷ s)) (sign-low (getD s 0 0) h) ∙ value-low (0 ∷ s) (omega arith) ∙ ap pos (val-low s) ∙ sym (value-low s h))
     (λ t. let h = ltb-false (getD s 0 0) 0x80 t in
-    ap (λ x. valueOf (x ∷ s)) (sign-high (getD s 0 0) h) ∙ value-high (0xFF ∷ s) (omega arith) ∙ ap negsuc (val-high s) ∙ sym (value-high s h))
+    ap (λ x. valueOf (x ∷ s)) (sign-high (getD s 0 0) h)
+    ∙ value-high (0xFF ∷ s) (omega arith)
+    ∙ ap negsuc (val-high s)
+    ∙ sym (value-high s h))
 
 pub value-shortest : (s : List ℕ) → valueOf (shortest s) ≡ valueOf s
 value-shortest =
@@ -74,7 +78,8 @@ value-be v f = go v f
         let w = 2 ^ 64 - suc k in
         let is : val (be 8 w) 8 ≡ w = val-be 8 w (omega arith) in
         let e : 256 ^ 8 - suc (val (be 8 w) 8) ≡ k = omega (arith, f .sfits) in
-        value-high (be 8 w) (top-high (be 8 w) (be-bytes 8 w) (eight w) (omega (arith, f .sfits))) ∙ ap negsuc (ap (λ n. 256 ^ n - suc (val (be 8 w) n)) (eight w) ∙ e)
+        value-high (be 8 w) (top-high (be 8 w) (be-bytes 8 w) (eight w) (omega (arith, f .sfits)))
+        ∙ ap negsuc (ap (λ n. 256 ^ n - suc (val (be 8 w) n)) (eight w) ∙ e)
 
 pub word-value : (s : List ℕ) → Bytes s → length s ≡ 8 → be 8 (word (valueOf s)) ≡ s
 word-value s b h = ap (be 8) is ∙ be-val 8 s b (omega arith) ∙ take-all 8 s (omega arith)
@@ -83,7 +88,9 @@ word-value s b h = ap (be 8) is ∙ be-val 8 s b (omega arith) ∙ take-all 8 s 
     is =
         by-test (ltb (getD s 0 0) 0x80)
         (λ t. ap word (value-low s (ltb-true (getD s 0 0) 0x80 t)) ∙ ap (val s) h)
-        (λ t. ap word (value-high s (ltb-false (getD s 0 0) 0x80 t) ∙ ap (λ n. negsuc (256 ^ n - suc (val s n))) h) ∙ omega (arith, val-below 8 s b))
+        (λ t.
+        ap word (value-high s (ltb-false (getD s 0 0) 0x80 t) ∙ ap (λ n. negsuc (256 ^ n - suc (val s n))) h)
+        ∙ omega (arith, val-below 8 s b))
 
 pub value-extended : (d : ℕ) (s : List ℕ) → valueOf (extended d s) ≡ valueOf s
 value-extended zero s = refl

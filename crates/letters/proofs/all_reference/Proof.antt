@@ -26,7 +26,9 @@ is-reference-requires : tie.Need-is-reference-requires Inv-loop μ-loop
 is-reference-requires c κs = search needs
 
 returns : tie.Need-returns Inv-loop μ-loop
-returns c = all-stops (c .before .before .before .before .before .before .args .text .now) (c .before .before .before .before .loop .i) (c .before .before .before .before .loop .inv .1) (omega arith) (sym (c .before .is-reference .ensures) ∙ not-true _ (c .if1 .taken))
+returns c =
+    all-stops (c .before .before .before .before .before .before .args .text .now) (c .before .before .before .before .loop .i)
+    (c .before .before .before .before .loop .inv .1) (omega arith) (sym (c .before .is-reference .ensures) ∙ not-true _ (c .if1 .taken))
 
 add-i : tie.Need-add-i Inv-loop μ-loop
 add-i c = omega arith
@@ -35,8 +37,11 @@ loop-less : tie.Need-loop-less Inv-loop μ-loop
 loop-less c = omega arith
 
 loop-again : tie.Need-loop-again Inv-loop μ-loop
-loop-again c =
-    (omega arith, all-more (c .before .before .before .before .before .before .args .text .now) (c .before .before .before .before .loop .i) (c .before .before .before .before .loop .inv .1) (omega arith) (sym (c .before .is-reference .ensures) ∙ not-false _ (c .if1 .left)))
+loop-again c = (
+  omega arith,
+  all-more (c .before .before .before .before .before .before .args .text .now) (c .before .before .before .before .loop .i)
+      (c .before .before .before .before .loop .inv .1) (omega arith) (sym (c .before .is-reference .ensures) ∙ not-false _ (c .if1 .left)),
+)
 
 returns-2 : tie.Need-returns-2 Inv-loop μ-loop
 returns-2 c = all-end (c .before .before .before .args .text .now) (c .before .loop .i) (c .before .loop .inv .1) (omega arith)

@@ -16,7 +16,9 @@ is-digit-requires : tie.Need-is-digit-requires
 is-digit-requires c κs = search needs
 
 returns-2 : tie.Need-returns-2
-returns-2 c = c .is-digit .ensures ∙ then-digit (c .before .before .before .args .c) (sym (c .before .before .is-letter .ensures) ∙ c .before .if1 .left)
+returns-2 c =
+    c .is-digit .ensures
+    ∙ then-digit (c .before .before .before .args .c) (sym (c .before .before .is-letter .ensures) ∙ c .before .if1 .left)
 
 pub is-letter-or-digit-spec : {M : Type 1} → statement M
 is-letter-or-digit-spec = tie.close (tie.spec is-letter-requires returns is-digit-requires returns-2)

@@ -38,7 +38,8 @@ signer-passes [] l = let e = l .size in absurd (omega arith)
 signer-passes (a ∷ []) l = let e = l .size in absurd (omega arith)
 signer-passes (a ∷ b ∷ []) l = let e = l .size in absurd (omega arith)
 signer-passes (a ∷ b ∷ c ∷ []) l = let e = l .size in absurd (omega arith)
-signer-passes (a ∷ b ∷ c ∷ d ∷ []) l = rw (letter a (l .first), letter b (l .second), letter-or-digit c (l .third), letter-or-digit d (l .fourth)) refl
+signer-passes (a ∷ b ∷ c ∷ d ∷ []) l =
+    rw (letter a (l .first), letter b (l .second), letter-or-digit c (l .third), letter-or-digit d (l .fourth)) refl
 signer-passes (a ∷ b ∷ c ∷ d ∷ e ∷ t) l = let f = l .size in absurd (omega arith)
 
 -- what passes the tests is legal

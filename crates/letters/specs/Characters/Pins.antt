@@ -24,11 +24,22 @@ references : (isReference 71 ≡ true) × (isReference 90 ≡ true) × (isRefere
 references = (refl, refl, refl, refl, refl)
 
 -- UTO, D and two fillers, UT and one; a filler first, a letter after a filler, a space for a filler
-countries : (isCountry 60 (85 ∷ 84 ∷ 79 ∷ []) ≡ true) × (isCountry 60 (68 ∷ 60 ∷ 60 ∷ []) ≡ true) × (isCountry 60 (85 ∷ 84 ∷ 60 ∷ []) ≡ true) × (isCountry 60 (60 ∷ 60 ∷ 60 ∷ []) ≡ false) × (isCountry 60 (68 ∷ 60 ∷ 65 ∷ []) ≡ false) × (isCountry 60 (68 ∷ 32 ∷ 32 ∷ []) ≡ false) × (isCountry 32 (68 ∷ 32 ∷ 32 ∷ []) ≡ true)
+countries :
+    (isCountry 60 (85 ∷ 84 ∷ 79 ∷ []) ≡ true)
+    × (isCountry 60 (68 ∷ 60 ∷ 60 ∷ []) ≡ true)
+    × (isCountry 60 (85 ∷ 84 ∷ 60 ∷ []) ≡ true)
+    × (isCountry 60 (60 ∷ 60 ∷ 60 ∷ []) ≡ false)
+    × (isCountry 60 (68 ∷ 60 ∷ 65 ∷ []) ≡ false)
+    × (isCountry 60 (68 ∷ 32 ∷ 32 ∷ []) ≡ false)
+    × (isCountry 32 (68 ∷ 32 ∷ 32 ∷ []) ≡ true)
 countries = (refl, refl, refl, refl, refl, refl, refl)
 
 -- UTAB, UT42; a digit among the first two
-signers : (isSigner (85 ∷ 84 ∷ 65 ∷ 66 ∷ []) ≡ true) × (isSigner (85 ∷ 84 ∷ 52 ∷ 50 ∷ []) ≡ true) × (isSigner (85 ∷ 52 ∷ 65 ∷ 66 ∷ []) ≡ false) × (isSigner (52 ∷ 84 ∷ 65 ∷ 66 ∷ []) ≡ false)
+signers :
+    (isSigner (85 ∷ 84 ∷ 65 ∷ 66 ∷ []) ≡ true)
+    × (isSigner (85 ∷ 84 ∷ 52 ∷ 50 ∷ []) ≡ true)
+    × (isSigner (85 ∷ 52 ∷ 65 ∷ 66 ∷ []) ≡ false)
+    × (isSigner (52 ∷ 84 ∷ 65 ∷ 66 ∷ []) ≡ false)
 signers = (refl, refl, refl, refl)
 
 fillers : (shown 32 ≡ 60) × (shown 65 ≡ 65)

@@ -116,7 +116,9 @@ put-number-returns-2 : (t : ℕ) → put-number-lts.Need-returns-2 (
 put-number-returns-2 t c =
     let most = c .before .before .before .before .before .before in
     let start = most .before .before .before .before in
-    rw (decimal-more _ (most .before .before .if1 .left)) (put-more _ _ (decimalOf (start .args .n / 10)) _ _ ((48 + start .args .n % 10) ∷ []) _ _ (most .put-number .ensures) (most .put-number .kept .0) (c .before .before .put2 .ensures))
+    rw (decimal-more _ (most .before .before .if1 .left))
+    (put-more _ _ (decimalOf (start .args .n / 10)) _ _ ((48 + start .args .n % 10) ∷ []) _ _ (most .put-number .ensures)
+    (most .put-number .kept .0) (c .before .before .put2 .ensures))
 
 pub +put-number-spec : {M : Type 1} → statement M
 +put-number-spec = close μ-put-number λ t. put-number-lts.spec (

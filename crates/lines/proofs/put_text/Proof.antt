@@ -36,8 +36,12 @@ loop-less c = omega arith
 loop-again : tie.Need-loop-again Inv-loop μ-loop
 loop-again c =
     let on = c .before .before .before .before .before .before in
-    let call = c .before .before .put in
-    (omega arith, call .kept .0 ∙ on .loop .inv .1, text-turn (now (on .before .before .before .args .text)) _ _ (on .loop .i) (omega arith) _ _ (on .loop .inv .1) _ _ (on .loop .inv .2) (call .ensures))
+    let call = c .before .before .put in (
+      omega arith,
+      call .kept .0 ∙ on .loop .inv .1,
+      text-turn (now (on .before .before .before .args .text)) _ _ (on .loop .i) (omega arith) _ _ (on .loop .inv .1) _ _ (on .loop .inv .2)
+          (call .ensures),
+    )
 
 same-length : tie.Need-same-length Inv-loop μ-loop
 same-length c = c .before .loop .inv .1

@@ -50,7 +50,12 @@ with-all-append l [] ys = refl
 with-all-append l (x ∷ xs) ys = with-all-append (with l x) xs ys
 
 -- some bytes, and then others
-pub put-more : (old : List ℕ) (at : ℕ) (xs mid : List ℕ) (m : ℕ) (ys new : List ℕ) (r : ℕ) → Put old at xs mid m → length mid ≡ length old → Put mid m ys new r → Put old at (xs ++ ys) new r
+pub put-more :
+    (old : List ℕ) (at : ℕ) (xs mid : List ℕ) (m : ℕ) (ys new : List ℕ) (r : ℕ) →
+    Put old at xs mid m →
+    length mid ≡ length old →
+    Put mid m ys new r →
+    Put old at (xs ++ ys) new r
 put-more old at xs mid m ys new r p e q =
     record {
       is = q .is ∙ ap (λ (l : Line). withAll l ys) (p .is) ∙ sym (with-all-append (line old at) xs ys);
@@ -79,20 +84,32 @@ decimal-more n h =
 
 -- a turn of the loop that puts down a text
 module _ (s old : List ℕ) (at i : ℕ) (here : i < length s) (mid : List ℕ) (m : ℕ) (long : length mid ≡ length old) where
-  pub text-turn : (new : List ℕ) (r : ℕ) → Put old at (take i s) mid m → Put mid m (getD s i 0 ∷ []) new r → Put old at (take (i + 1) s) new r
+  pub text-turn :
+      (new : List ℕ) (r : ℕ) →
+      Put old at (take i s) mid m →
+      Put mid m (getD s i 0 ∷ []) new r →
+      Put old at (take (i + 1) s) new r
   text-turn new r p q = rw (add-one, take-suc s i 0) (put-more old at (take i s) mid m (getD s i 0 ∷ []) new r p long q)
 
 -- where there is room, the bytes stand there whole
-with-room : (old : List ℕ) (at : ℕ) (bytes : List ℕ) → at + length bytes ≤ length old → withAll (line old at) bytes ≡ line (over old at bytes) (at + length bytes)
+with-room :
+    (old : List ℕ) (at : ℕ) (bytes : List ℕ) →
+    at + length bytes ≤ length old →
+    withAll (line old at) bytes ≡ line (over old at bytes) (at + length bytes)
 unfolding withAll
 with-room old at [] h = let e : at + 0 ≡ at = omega arith in rw (over-none, e)
 with-room old at (b ∷ t) h =
     let ih = with-room (set old at b) (at + 1) t (simp length-set (omega arith)) in
-    let e : over (set old at b) (at + 1) t ≡ over old at (b ∷ t) = ap (λ (o : List ℕ). over o (at + 1) t) (set-over old at b (omega arith)) ∙ over-over old at (b ∷ []) t (omega arith) in
+    let e : over (set old at b) (at + 1) t ≡ over old at (b ∷ t) =
+    ap (λ (o : List ℕ). over o (at + 1) t) (set-over old at b (omega arith)) ∙ over-over old at (b ∷ []) t (omega arith) in
     let f : at + 1 + length t ≡ at + suc (length t) = omega arith in
     simp (lt-ltb at (length old) (omega arith)) (ih ∙ ap₂ line e f)
 
-pub put-whole : (old : List ℕ) (at : ℕ) (bytes new : List ℕ) (r : ℕ) → Put old at bytes new r → at + length bytes ≤ length old → (new ≡ over old at bytes) × (r ≡ at + length bytes)
+pub put-whole :
+    (old : List ℕ) (at : ℕ) (bytes new : List ℕ) (r : ℕ) →
+    Put old at bytes new r →
+    at + length bytes ≤ length old →
+    (new ≡ over old at bytes) × (r ≡ at + length bytes)
 put-whole old at bytes new r p h =
     let e = p .is ∙ with-room old at bytes h in
     (ap (λ (l : Line). l .text) e, ap (λ (l : Line). l .at) e)

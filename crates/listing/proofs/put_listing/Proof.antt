@@ -17,7 +17,8 @@ same-length c = search needs
 returns : tie.Need-returns
 returns c =
     let call = c .before .before in
-    let zero : eqb (call .before .before .before .before .before .before .before .args .reading .number) 0 ≡ true = eq-eqb _ _ (call .before .before .if1 .taken) in
+    let zero : eqb (call .before .before .before .before .before .before .before .args .reading .number) 0 ≡ true =
+    eq-eqb _ _ (call .before .before .if1 .taken) in
     rw zero (call .put-accepted .ensures)
 
 put-refused-requires : tie.Need-put-refused-requires
@@ -29,7 +30,8 @@ same-length-2 c = search needs
 returns-2 : tie.Need-returns-2
 returns-2 c =
     let call = c .before .before in
-    let other : eqb (call .before .before .before .before .before .before .before .args .reading .number) 0 ≡ false = ne-eqb _ _ (call .before .before .if1 .left) in
+    let other : eqb (call .before .before .before .before .before .before .before .args .reading .number) 0 ≡ false =
+    ne-eqb _ _ (call .before .before .if1 .left) in
     rw other (call .put-refused .ensures)
 
 pub put-listing-spec : {M : Type 1} → statement M

@@ -74,7 +74,9 @@ returns-3 c =
     let on = c .before in
     let a = on .before .before .before .args in (
       reached-all (now (a .from)) (now (a .out)) (a .at) (omega arith),
-      on .loop .inv .1 ∙ ap (over (now (a .out)) (a .at)) (take-all (on .loop .i) (now (a .from)) (omega arith)) ∙ copied-all (now (a .from)) (now (a .out)) (a .at) (omega arith),
+      on .loop .inv .1
+          ∙ ap (over (now (a .out)) (a .at)) (take-all (on .loop .i) (now (a .from)) (omega arith))
+          ∙ copied-all (now (a .from)) (now (a .out)) (a .at) (omega arith),
     )
 
 pub copy-spec : {M : Type 1} → statement M

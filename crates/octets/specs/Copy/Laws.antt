@@ -30,7 +30,11 @@ module _ (from out : List ℕ) (at : ℕ) where
   reached-all h = simp (le-ltb (length out) (at + length from) h)
 
   -- a byte more than the first i
-  pub one-more : (i : ℕ) → i < length from → at + length from ≤ length out → set (over out at (take i from)) (at + i) (getD from i 0) ≡ over out at (take (i + 1) from)
+  pub one-more :
+      (i : ℕ) →
+      i < length from →
+      at + length from ≤ length out →
+      set (over out at (take i from)) (at + i) (getD from i 0) ≡ over out at (take (i + 1) from)
   one-more i h fits =
       let many = length-take-le i from (omega arith) in
       ap (λ k. set (over out at (take i from)) (at + k) (getD from i 0)) (sym many)

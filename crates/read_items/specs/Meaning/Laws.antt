@@ -67,7 +67,10 @@ past-whole k at s after e =
     let w = whole-read k at s (past k at) tt after (sym e) in
     record { there = w .there; reached = ap placeOf (sym (w .read)) }
 
-pub judged : {A : Type 0} (k at : ℕ) (s : List ℕ) (after : ℕ) (f : List ℕ → Item A) → Past k at s after → whole k at s f ≡ f (take k (drop at s))
+pub judged :
+    {A : Type 0} (k at : ℕ) (s : List ℕ) (after : ℕ) (f : List ℕ → Item A) →
+    Past k at s after →
+    whole k at s f ≡ f (take k (drop at s))
 judged k at s after f p = whole-is k at s f (p .there)
 
 pub whole-none : {A : Type 0} (k at : ℕ) (s : List ℕ) (f : List ℕ → Item A) → not rule.There at ≡ whole k at s (past k at)
@@ -105,7 +108,10 @@ pub byte-none : {A : Type 0} (at : ℕ) (s : List ℕ) (f : ℕ → Item A) → 
 byte-none at s f e =
     by-test (ltb (length s) (at + 1))
     (λ less. ap (λ b. pick b (not rule.There at) (f (getD (take 1 (drop at s)) 0 0))) (sym less))
-    (λ more. absurd (unread rule.There at (getD (take 1 (drop at s)) 0 0) (at + 1) (e ∙ ap (λ b. pick b (not rule.There at) (plainIn at (getD (take 1 (drop at s)) 0 0))) more)))
+    (λ more.
+    absurd
+    (unread rule.There at (getD (take 1 (drop at s)) 0 0) (at + 1)
+    (e ∙ ap (λ b. pick b (not rule.There at) (plainIn at (getD (take 1 (drop at s)) 0 0))) more)))
 
 -- DC
 module _ (at : ℕ) (s : List ℕ) (x after : ℕ) (b : Read at s x after) where
@@ -149,13 +155,17 @@ module _ (at : ℕ) (s : List ℕ) (x after : ℕ) (b : Read at s x after) where
 three-bytes : (at : ℕ) (s : List ℕ) → val (take 3 (drop at s)) 3 ≡ val (getD s at 0 ∷ getD s (at + 1) 0 ∷ getD s (at + 2) 0 ∷ []) 3
 unfolding val
 three-bytes at s =
-    let byte-at : (i : ℕ) → i < 3 → getD (take 3 (drop at s)) i 0 ≡ getD s (at + i) 0 = λ i h. getD-take 3 (drop at s) i 0 h ∙ getD-drop at s i 0 in
+    let byte-at : (i : ℕ) → i < 3 → getD (take 3 (drop at s)) i 0 ≡ getD s (at + i) 0 =
+    λ i h. getD-take 3 (drop at s) i 0 h ∙ getD-drop at s i 0 in
     rw (byte-at 0 (omega arith), byte-at 1 (omega arith), byte-at 2 (omega arith), add-zero at) refl
 
-module _ (at : ℕ) (s : List ℕ) (after : ℕ) (p : Past 3 at s after) (d : Date) (is-date : dateOf (val (getD s at 0 ∷ getD s (at + 1) 0 ∷ getD s (at + 2) 0 ∷ []) 3) ≡ d) where
+module _ (at : ℕ) (s : List ℕ) (after : ℕ) (p : Past 3 at s after) (d : Date)
+    (is-date : dateOf (val (getD s at 0 ∷ getD s (at + 1) 0 ∷ getD s (at + 2) 0 ∷ []) 3) ≡ d) where
   date-read : date at s ≡ dateIn at d
   date-read =
-      judged 3 at s after (λ bytes. dateIn at (dateOf (val bytes 3))) p ∙ ap (λ n. dateIn at (dateOf n)) (three-bytes at s) ∙ ap (dateIn at) is-date
+      judged 3 at s after (λ bytes. dateIn at (dateOf (val bytes 3))) p
+      ∙ ap (λ n. dateIn at (dateOf n)) (three-bytes at s)
+      ∙ ap (dateIn at) is-date
 
   pub date-is : isDay d ≡ true → is d after ≡ date at s
   date-is h =

@@ -32,7 +32,8 @@ returns-2 c =
     let out = on .field .last .1 .1 .1 .0 in
     let size : length out ≡ 3 = omega arith in
     step-given _ (args .code .now) _ (country (args .at .place) (args .seal .now))
-    (country-is (args .at .place) (told .before .read .given .0 .0 .place) (args .seal .now) out (c .before .shown .result) (c .shown2 .result) size
+    (country-is (args .at .place) (told .before .read .given .0 .0 .place) (args .seal .now) out (c .before .shown .result)
+    (c .shown2 .result) size
     (sym (ap (stepOf out) (told .before .read .given .1)) ∙ on .field .ensures) (c .before .shown .ensures) (c .shown2 .ensures))
 
 slice-aggregate-field : tie.Need-slice-aggregate-field

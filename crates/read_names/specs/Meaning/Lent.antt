@@ -65,7 +65,8 @@ found-names found size p (is n at) e =
       long = ap (λ z. z .length) m;
     }
 found-names found size p (not why place) e =
-    absurd (unread why place (record { length = size; names = record { signer = take 4 found; reference = take size (drop 4 found) } }) p (sym e))
+    absurd
+    (unread why place (record { length = size; names = record { signer = take 4 found; reference = take size (drop 4 found) } }) p (sym e))
 
 module _ (found : List ℕ) (size p : ℕ) (i : Way Names) (f : Found found size p i) (whole : length found ≡ 259) where
   pub found-room : 4 + size ≤ 259
@@ -77,23 +78,33 @@ module _ (found : List ℕ) (size p : ℕ) (i : Way Names) (f : Found found size
   parts = take-add 4 size found ∙ ap₂ _++_ (sym (f .signer)) (sym (f .reference))
 
   -- copied to the start of a text, they are what is left there
-  pub names-given : (old new : List ℕ) → length old ≡ 259 → new ≡ copied (take (4 + size) found) old 0 → (is (record { length = size; names = record { signer = take 4 new; reference = take size (drop 4 new) } }) p ≡ through measured i) × (new ≡ textOver old i)
+  pub names-given :
+      (old new : List ℕ) →
+      length old ≡ 259 →
+      new ≡ copied (take (4 + size) found) old 0 →
+      (is (record { length = size; names = record { signer = take 4 new; reference = take size (drop 4 new) } }) p ≡ through measured i)
+      × (new ≡ textOver old i)
   unfolding copied over
   names-given old new room e =
       let n = f .names in
       let text = n .signer ++ n .reference in
       let front = take (4 + size) found in
       let front-long : length front ≡ 4 + size = length-take-le (4 + size) found (omega (arith, found-room, whole)) in
-      let fits : ltb (length old) (0 + length front) ≡ _ = le-ltb (length old) (0 + length front) (omega (arith, front-long, found-room, room)) in
+      let fits : ltb (length old) (0 + length front) ≡ _ =
+      le-ltb (length old) (0 + length front) (omega (arith, front-long, found-room, room)) in
       let none : 0 + length front ≡ length front = omega arith in
-      let over-front : new ≡ front ++ drop (length front) old = e ∙ ap (λ b. pick b old (over old 0 front)) fits ∙ ap (λ k. front ++ drop k old) none in
+      let over-front : new ≡ front ++ drop (length front) old =
+      e ∙ ap (λ b. pick b old (over old 0 front)) fits ∙ ap (λ k. front ++ drop k old) none in
       let over-text : new ≡ text ++ drop (length text) old = over-front ∙ ap (λ t. t ++ drop (length t) old) parts in
       let rest = drop (length text) old in
       let split : new ≡ n .signer ++ (n .reference ++ rest) = over-text ∙ append-assoc (n .signer) (n .reference) rest in
       let four-long : length (n .signer) ≡ 4 = ap length (f .signer) ∙ length-take-le 4 found (omega (arith, whole)) in
       let signer : take 4 new ≡ n .signer = ap (take 4) split ∙ take-at (n .signer) (n .reference ++ rest) 4 four-long in
       let reference : take size (drop 4 new) ≡ n .reference =
-      ap (λ t. take size (drop 4 t)) split ∙ ap (take size) (drop-at (n .signer) (n .reference ++ rest) 4 four-long) ∙ take-at (n .reference) rest size (sym (f .long)) in
-      let same : _≡_ {A = Way Measured} (is (record { length = size; names = record { signer = take 4 new; reference = take size (drop 4 new) } }) p) (is (measured n) p) =
+      ap (λ t. take size (drop 4 t)) split
+      ∙ ap (take size) (drop-at (n .signer) (n .reference ++ rest) 4 four-long)
+      ∙ take-at (n .reference) rest size (sym (f .long)) in
+      let same : _≡_ {A = Way Measured}
+      (is (record { length = size; names = record { signer = take 4 new; reference = take size (drop 4 new) } }) p) (is (measured n) p) =
       λ j. is (record { length = f .long j; names = record { signer = signer j; reference = reference j } }) p in
       (same ∙ ap (through measured) (sym (f .read)), over-text ∙ ap (textOver old) (sym (f .read)))

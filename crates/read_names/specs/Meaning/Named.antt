@@ -32,14 +32,22 @@ six-size at s t n e =
     let p = kept-all (isSigner (take 4 t)) rule.SignerCharacters _ (field-keeps 6 inSix at s t n (sym e)) in
     let q = kept-all (isHex t) rule.HexadecimalDigits _ (p .1) in
     let r = both-true (ltb (hexValue (getD t 4 0)) 16) (ltb (hexValue (getD t 5 0)) 16) (q .0) in
-    let some = kept-all (ltb 0 (lengthIn t)) rule.NotZero none (q .1) in
-    (ltb-true 0 (lengthIn t) (some .0), omega (arith, ltb-true (hexValue (getD t 4 0)) 16 (r .0), ltb-true (hexValue (getD t 5 0)) 16 (r .1)))
+    let some = kept-all (ltb 0 (lengthIn t)) rule.NotZero none (q .1) in (
+      ltb-true 0 (lengthIn t) (some .0),
+      omega (arith, ltb-true (hexValue (getD t 4 0)) 16 (r .0), ltb-true (hexValue (getD t 5 0)) 16 (r .1)),
+    )
 
 -- the country, with fillers shown: the first character is a letter, and no filler
 letter-in : (a b c : ℕ) → isCountry 32 (a ∷ b ∷ c ∷ []) ≡ true → shown a ≡ a
 letter-in a b c e = letter-shown a (within-both 65 90 a (both-true (isLetter a) _ e .0))
 
-shown-three : (out : List ℕ) (x y : ℕ) → length out ≡ 3 → isCountry 32 out ≡ true → x ≡ shown (getD out 1 0) → y ≡ shown (getD (set out 1 x) 2 0) → set (set out 1 x) 2 y ≡ map shown out
+shown-three :
+    (out : List ℕ) (x y : ℕ) →
+    length out ≡ 3 →
+    isCountry 32 out ≡ true →
+    x ≡ shown (getD out 1 0) →
+    y ≡ shown (getD (set out 1 x) 2 0) →
+    set (set out 1 x) 2 y ≡ map shown out
 shown-three [] x y l p e f = absurd (omega arith)
 shown-three (a ∷ []) x y l p e f = absurd (omega arith)
 shown-three (a ∷ b ∷ []) x y l p e f = absurd (omega arith)
@@ -63,11 +71,14 @@ measured-is size n names i e read = ap (λ k. is (record { length = k; names = n
 
 -- version 3: nine characters at the start of a text
 pub names-three : (at n : ℕ) (s t rest : List ℕ) → length t ≡ 9 → is t n ≡ field 9 inNine at s
-    → is (record { length = 5; names = record { signer = take 4 (t ++ rest); reference = take 5 (drop 4 (t ++ rest)) } }) n ≡ through measured (names three at s)
+    → is (record { length = 5; names = record { signer = take 4 (t ++ rest); reference = take 5 (drop 4 (t ++ rest)) } }) n
+    ≡ through measured (names three at s)
 names-three at n s t rest l read =
-    measured-is 5 n _ (names three at s) (length-take-le 5 (drop 4 (t ++ rest)) (omega (arith, length-drop 4 (t ++ rest), length-append t rest)))
+    measured-is 5 n _ (names three at s)
+    (length-take-le 5 (drop 4 (t ++ rest)) (omega (arith, length-drop 4 (t ++ rest), length-append t rest)))
     (ap (λ u. is (record { signer = u; reference = take 5 (drop 4 (t ++ rest)) }) n) (take-append-le 4 t rest (omega arith))
-    ∙ ap (λ u. is (record { signer = take 4 t; reference = u }) n) (ap (take 5) (drop-append-le 4 t rest (omega arith)) ∙ take-at (drop 4 t) rest 5 (length-drop 4 t ∙ omega arith))
+    ∙ ap (λ u. is (record { signer = take 4 t; reference = u }) n)
+    (ap (take 5) (drop-append-le 4 t rest (omega arith)) ∙ take-at (drop 4 t) rest 5 (length-drop 4 t ∙ omega arith))
     ∙ ap (λ i. next item.Names i (λ t at. is (record { signer = take 4 t; reference = drop 4 t }) at)) read)
 
 pub names-three-not : (at : ℕ) (s : List ℕ) (rule : Rule) (place : ℕ) (w : Refusal) → not rule place ≡ field 9 inNine at s
@@ -89,9 +100,16 @@ pub six-there : (at : ℕ) (s x rest : List ℕ) (m h l : ℕ) → length x ≡ 
     → l ≡ hexValue (getD (x ++ rest) 5 0) → Six at s x m (h * 16 + l)
 six-there at s x rest m h l long read high low =
     let same : h * 16 + l ≡ lengthIn x =
-    ap (λ k. k * 16 + l) (high ∙ ap hexValue (List·getD-append x rest 0 4 (omega arith))) ∙ ap (λ k. hexValue (getD x 4 0) * 16 + k) (low ∙ ap hexValue (List·getD-append x rest 0 5 (omega arith))) in
+    ap (λ k. k * 16 + l) (high ∙ ap hexValue (List·getD-append x rest 0 4 (omega arith)))
+    ∙ ap (λ k. hexValue (getD x 4 0) * 16 + k) (low ∙ ap hexValue (List·getD-append x rest 0 5 (omega arith))) in
     let size = six-size at s x m read in
-    record { long = long; read = read; is-size = same; some = subst (λ k. 0 < k) (sym same) (size .0); most = subst (λ k. k ≤ 255) (sym same) (size .1) }
+    record {
+      long = long;
+      read = read;
+      is-size = same;
+      some = subst (λ k. 0 < k) (sym same) (size .0);
+      most = subst (λ k. k ≤ 255) (sym same) (size .1);
+    }
 
 -- the part of a text that the reference is put into
 pub part-long : (t : List ℕ) (size : ℕ) → 4 + size ≤ length t → length (take (4 + size - 4) (drop 4 t)) ≡ size
@@ -107,12 +125,23 @@ module _ (at : ℕ) (s x : List ℕ) (m size : ℕ) (six : Six at s x m size) (k
       ∙ ap (λ i. next item.SignerAndLength i (after s)) (six .read)
 
   pub names-four : (y rest post : List ℕ) (n : ℕ) → length y ≡ size → is y n ≡ field k inReference m s
-      → is (record { length = size; names = record { signer = take 4 (take 4 (x ++ rest) ++ (y ++ post)); reference = take size (drop 4 (take 4 (x ++ rest) ++ (y ++ post))) } }) n ≡ through measured (names four at s)
+      → is
+      (record {
+        length = size;
+        names =
+            record {
+              signer = take 4 (take 4 (x ++ rest) ++ (y ++ post));
+              reference = take size (drop 4 (take 4 (x ++ rest) ++ (y ++ post)));
+            };
+      })
+      n
+      ≡ through measured (names four at s)
   names-four y rest post n long read =
       let f = take 4 (x ++ rest) in
       let front : f ≡ take 4 x = take-append-le 4 x rest (omega (arith, six .long)) in
       let four-long : length f ≡ 4 = ap length front ∙ length-take-le 4 x (omega (arith, six .long)) in
-      let back : take size (drop 4 (f ++ (y ++ post))) ≡ y = ap (take size) (drop-at f (y ++ post) 4 four-long) ∙ take-at y post size long in
+      let back : take size (drop 4 (f ++ (y ++ post))) ≡ y =
+      ap (take size) (drop-at f (y ++ post) 4 four-long) ∙ take-at y post size long in
       measured-is size n _ (names four at s) (ap length back ∙ long)
       (ap (λ u. is (record { signer = u; reference = take size (drop 4 (f ++ (y ++ post))) }) n) (take-at f (y ++ post) 4 four-long ∙ front)
       ∙ ap (λ u. is (record { signer = take 4 x; reference = u }) n) back

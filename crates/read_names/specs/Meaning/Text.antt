@@ -28,7 +28,8 @@ exactly-text k t h = ap (λ b. pick b (exact t) (wrongAt (width k - 2))) (eq-eqb
 exactly-other : (k : ℕ) (t : List ℕ) → (length t ≡ k → ⊥) → exactly k (text t) ≡ wrongAt (width k - 2)
 exactly-other k t h = ap (λ b. pick b (exact t) (wrongAt (width k - 2))) (ne-eqb (length t) k h)
 
-module _ (bytes room out : List ℕ) (sized : Sized bytes room) (r : Reading) (answer : readingOf r ≡ told (reading bytes (length room))) (buffer : out ≡ filled (reading bytes (length room)) room) where
+module _ (bytes room out : List ℕ) (sized : Sized bytes room) (r : Reading) (answer : readingOf r ≡ told (reading bytes (length room)))
+    (buffer : out ≡ filled (reading bytes (length room)) room) where
   few : length bytes ≤ 4096
   few = omega (arith, sized .0, sized .1 .1)
 

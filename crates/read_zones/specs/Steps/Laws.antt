@@ -85,7 +85,10 @@ module _ (s : List ℕ) where
         pub fields-names : (why : Why) (place : ℕ) → not why place ≡ through measured (names v p2 s) → not why place ≡ fields s
         fields-names why place e3 = ap (λ i. pass i with-names) e3 ∙ after-country
 
-        pub fields-all : (m : Measured) (p3 : ℕ) → is m p3 ≡ through measured (names v p2 s) → is (record { version = v; country = c; names = m }) p3 ≡ fields s
+        pub fields-all :
+            (m : Measured) (p3 : ℕ) →
+            is m p3 ≡ through measured (names v p2 s) →
+            is (record { version = v; country = c; names = m }) p3 ≡ fields s
         fields-all m p3 e3 = ap (λ i. pass i with-names) e3 ∙ after-country
 
 -- the fields from the dates on
@@ -109,7 +112,10 @@ module _ (s : List ℕ) (at : ℕ) where
         unfolding dated
         dated-category rule place e3 = rw (sym e0, sym e1, sym e2, sym e3) refl
 
-        pub dated-all : (category p3 : ℕ) → is category p3 ≡ last p2 s → is (record { issued = issued; signed = signed; definition = definition; category = category }) p3 ≡ dated at s
+        pub dated-all :
+            (category p3 : ℕ) →
+            is category p3 ≡ last p2 s →
+            is (record { issued = issued; signed = signed; definition = definition; category = category }) p3 ≡ dated at s
         unfolding dated
         dated-all category p3 e3 = rw (sym e0, sym e1, sym e2, sym e3) refl
 

@@ -36,7 +36,16 @@ pass-same (is a at) f g e = e a at
 pass-same (not why place) f g e = refl
 
 abbrev pub headerOf : Fields → Dated → Header
-headerOf f d = record { version = f .version; country = f .country; signer = f .names .names .signer; reference = f .names .names .reference; issued = d .issued; signed = d .signed; definition = d .definition; category = d .category }
+headerOf f d = record {
+  version = f .version;
+  country = f .country;
+  signer = f .names .names .signer;
+  reference = f .names .names .reference;
+  issued = d .issued;
+  signed = d .signed;
+  definition = d .definition;
+  category = d .category;
+}
 
 -- what follows each item, in the header and in the two steps
 module _ (s : List ℕ) where
@@ -47,7 +56,8 @@ module _ (s : List ℕ) where
   then-dated f at = pass (dated at s) (with-dated f)
 
   dated4 : Date → Date → ℕ → ℕ → ℕ → Way Dated
-  dated4 issued signed definition category at = is (record { issued = issued; signed = signed; definition = definition; category = category }) at
+  dated4 issued signed definition category at =
+      is (record { issued = issued; signed = signed; definition = definition; category = category }) at
 
   dated3 : Date → Date → ℕ → ℕ → Way Dated
   dated3 issued signed definition at = next item.Category (last at s) (dated4 issued signed definition)
@@ -71,7 +81,19 @@ module _ (s : List ℕ) where
   fields1 dc at = next item.Version (version at s) fields2
 
   header8 : Version → List ℕ → Names → Date → Date → ℕ → ℕ → ℕ → Way Header
-  header8 v c n issued signed definition category at = is (record { version = v; country = c; signer = n .signer; reference = n .reference; issued = issued; signed = signed; definition = definition; category = category }) at
+  header8 v c n issued signed definition category at =
+      is
+      (record {
+        version = v;
+        country = c;
+        signer = n .signer;
+        reference = n .reference;
+        issued = issued;
+        signed = signed;
+        definition = definition;
+        category = category;
+      })
+      at
 
   header7 : Version → List ℕ → Names → Date → Date → ℕ → ℕ → Way Header
   header7 v c n issued signed definition at = next item.Category (last at s) (header8 v c n issued signed definition)
@@ -95,7 +117,8 @@ module _ (s : List ℕ) where
   header1 dc at = next item.Version (version at s) header2
 
   dated-step : (v : Version) (c : List ℕ) (n : Names) (at : ℕ)
-      → pass (dated at s) (with-dated (record { version = v; country = c; names = measured n })) ≡ next item.Issued (date at s) (header5 v c n)
+      → pass (dated at s) (with-dated (record { version = v; country = c; names = measured n }))
+      ≡ next item.Issued (date at s) (header5 v c n)
   unfolding dated dated1 dated2 dated3 dated4 header5 header6 header7 header8
   dated-step v c n at =
       let k = with-dated (record { version = v; country = c; names = measured n }) in
@@ -148,5 +171,6 @@ pub record Counted (i : Way (List Row)) (count end : ℕ) : Type 0 where
   pub counts : count ≡ length rows
 
 pub counted : (i : Way (List Row)) (count end : ℕ) → is count end ≡ through length i → Counted i count end
-counted (is rows p) count end e = record { rows = rows; read = ap (is rows) (same-place count (length rows) end p e); counts = same-value count (length rows) end p e }
+counted (is rows p) count end e =
+    record { rows = rows; read = ap (is rows) (same-place count (length rows) end p e); counts = same-value count (length rows) end p e }
 counted (not why place) count end e = absurd (unread why place count end (sym e))

@@ -29,15 +29,18 @@ short c = c .before .before .before .before .pre
 front-read : (c : tie.After-known-told) →
     let on = c .before .before .before in
     let g = c .before .front .given .0 in
-    frontOf (on .read-front .last .1 .0) (on .read-front .last .1 .1 .0) (front.Is (g .0) (g .1 .0) (g .1 .1 .0)) ≡ fields (now (on .before .before .before .before .args .seal))
+    frontOf (on .read-front .last .1 .0) (on .read-front .last .1 .1 .0) (front.Is (g .0) (g .1 .0) (g .1 .1 .0))
+    ≡ fields (now (on .before .before .before .before .args .seal))
 front-read c =
     let on = c .before .before .before in
-    sym (ap (frontOf (on .read-front .last .1 .0) (on .read-front .last .1 .1 .0)) (c .before .front .given .1)) ∙ on .read-front .ensures .0
+    sym (ap (frontOf (on .read-front .last .1 .0) (on .read-front .last .1 .1 .0)) (c .before .front .given .1))
+    ∙ on .read-front .ensures .0
 
 rest-read : (c : tie.After-known-told2) →
     let told = c .before .before .before .before in
     let g = c .before .rest .given .0 in
-    restOf (rest.Is (g .0) (g .1 .0) (g .1 .1 .0) (g .1 .1 .1 .0) (g .1 .1 .1 .1 .0)) ≡ dated (told .before .front .given .0 .1 .1 .0 .place) (now (told .before .before .before .before .before .before .before .args .seal))
+    restOf (rest.Is (g .0) (g .1 .0) (g .1 .1 .0) (g .1 .1 .1 .0) (g .1 .1 .1 .1 .0))
+    ≡ dated (told .before .front .given .0 .1 .1 .0 .place) (now (told .before .before .before .before .before .before .before .args .seal))
 rest-read c =
     let on = c .before .before .before in
     sym (ap restOf (c .before .rest .given .1)) ∙ on .read-rest .ensures
@@ -46,7 +49,10 @@ rows-read : (c : tie.After-known-told3) →
     let told2 = c .before .before .before .before in
     let told = told2 .before .before .before .before in
     let g = c .before .features .given .0 in
-    Counted (features 256 (told .before .front .given .0 .0) [] (told2 .before .rest .given .0 .1 .1 .1 .1 .0 .place) (now (told .before .before .before .before .before .before .before .args .seal))) (g .0) (g .1 .0 .place)
+    Counted
+    (features 256 (told .before .front .given .0 .0) [] (told2 .before .rest .given .0 .1 .1 .1 .1 .0 .place)
+    (now (told .before .before .before .before .before .before .before .args .seal)))
+    (g .0) (g .1 .0 .place)
 rows-read c =
     let on = c .before .before .before in
     counted _ _ _ (sym (ap featuresOf (c .before .features .given .1)) ∙ on .read-features .ensures)
@@ -55,7 +61,9 @@ signature-read : (c : tie.After-known-told4) →
     let told3 = c .before .before .before .before .before in
     let told = told3 .before .before .before .before .before .before .before .before in
     let g = c .before .signature .given .0 in
-    signatureOf (signature.Is (g .0) (g .1 .0)) ≡ signatureAt (told3 .before .features .given .0 .1 .0 .place + 1) (now (told .before .before .before .before .before .before .before .args .seal))
+    signatureOf (signature.Is (g .0) (g .1 .0))
+    ≡ signatureAt (told3 .before .features .given .0 .1 .0 .place + 1)
+    (now (told .before .before .before .before .before .before .before .args .seal))
 signature-read c =
     let on = c .before .before .before in
     sym (ap signatureOf (c .before .signature .given .1)) ∙ on .read-signature .ensures
@@ -67,7 +75,9 @@ returns c =
     let why = c .before .why .ensures ∙ ap (λ f. whyOf (frontOf [] [] f)) (told .enum-told .given .1) in
     judged-refused _ _ _ _ _
     (judge-fields _ (short on) _ _
-    (ap (λ w. not (w .why) (w .place)) why ∙ sym (ap (frontOf (on .read-front .last .1 .0) (on .read-front .last .1 .1 .0)) (told .enum-told .given .1)) ∙ on .read-front .ensures .0))
+    (ap (λ w. not (w .why) (w .place)) why
+    ∙ sym (ap (frontOf (on .read-front .last .1 .0) (on .read-front .last .1 .1 .0)) (told .enum-told .given .1))
+    ∙ on .read-front .ensures .0))
     (c .not-good .ensures)
 
 returns-2 : tie.Need-returns-2
@@ -86,15 +96,18 @@ returns-3 c =
     let on = told .before .before in
     let why = c .before .why3 .ensures ∙ ap (λ f. whyOf (featuresOf f)) (told .enum-told3 .given .1) in
     judged-refused _ _ _ _ _
-    (judge-features _ (short (on .before .before .before .before .before .before .before .before)) _ _ (front-read (on .before .before .before .before .before)) _ _ (rest-read (on .before)) _ _
-    (through-unread length _ _ _ (ap (λ w. not (w .why) (w .place)) why ∙ sym (ap featuresOf (told .enum-told3 .given .1)) ∙ on .read-features .ensures)))
+    (judge-features _ (short (on .before .before .before .before .before .before .before .before)) _ _
+    (front-read (on .before .before .before .before .before)) _ _ (rest-read (on .before)) _ _
+    (through-unread length _ _ _
+    (ap (λ w. not (w .why) (w .place)) why ∙ sym (ap featuresOf (told .enum-told3 .given .1)) ∙ on .read-features .ensures)))
     (c .not-good3 .ensures)
 
 add-next : tie.Need-add-next
 add-next c =
     let told3 = c .before in
     let rows = rows-read told3 in
-    let first = told3 .before .before .before .before .before .before .before .before .before .before .before .before .before .before .before in
+    let first = told3 .before .before .before .before .before .before .before .before .before .before .before .before .before .before
+    .before in
     let inside = mark-inside 256 _ [] _ _ (rows .rows) _ (sym (rows .read)) in
     omega (arith, inside)
 
@@ -105,7 +118,9 @@ returns-4 c =
     let rows = rows-read (on .before .before) in
     let why = c .before .why4 .ensures ∙ ap (λ f. whyOf (signatureOf f)) (told .enum-told4 .given .1) in
     judged-refused _ _ _ _ _
-    (judge-signature _ (short (on .before .before .before .before .before .before .before .before .before .before .before .before .before)) _ _ (front-read (on .before .before .before .before .before .before .before .before .before .before)) _ _
+    (judge-signature _
+    (short (on .before .before .before .before .before .before .before .before .before .before .before .before .before)) _ _
+    (front-read (on .before .before .before .before .before .before .before .before .before .before)) _ _
     (rest-read (on .before .before .before .before .before .before)) (rows .rows) _ (rows .read) _ _
     (ap (λ w. not (w .why) (w .place)) why ∙ sym (ap signatureOf (told .enum-told4 .given .1)) ∙ on .read-signature .ensures))
     (c .not-good4 .ensures)
@@ -119,7 +134,8 @@ returns-5 c =
     let rows = rows-read told3 in
     let f = front-read told in
     judged-accepted _ _ _ _ (rows .rows) _ _ _ _ _ _ (c .good2 .result) (c .good2 .ensures)
-    (judge-accepted _ (short (told .before .before .before)) _ _ f _ _ (rest-read told2) (rows .rows) _ (rows .read) _ _ (signature-read told4))
+    (judge-accepted _ (short (told .before .before .before)) _ _ f _ _ (rest-read told2) (rows .rows) _ (rows .read) _ _
+    (signature-read told4))
     (c .before .number .ensures) (fields-known _ _ _ f) (rows .counts) refl refl
 
 read-front-requires : tie.Need-read-front-requires

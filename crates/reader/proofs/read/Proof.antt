@@ -9,18 +9,25 @@ use lib.ListN.{length, take}
 use lib.Seq.{length-take-le}
 use Rattle.rows.specs.Rows.{table}
 use Rattle.reader.specs.Calls.{text, then}
-use Rattle.reader.specs.Calls.Reads.{Accepted, accepted-version, reads-judged, reads-refused, reads-accepted, no-rows, no-text, both-fit, put-there, put-are, named-is, named-size, named-room, copied-names}
+use Rattle.reader.specs.Calls.Reads.{Accepted, accepted-version, reads-judged, reads-refused, reads-accepted, no-rows, no-text}
+use Rattle.reader.specs.Calls.Reads.{both-fit, put-there, put-are, named-is, named-size, named-room, copied-names}
 use Rattle.reader.proofs.read.Statement.{statement}
 use Rattle.reader.proofs.read.Tie as tie
 
 -- the seal was accepted
-good : (c : tie.After-known-told) → Accepted (now (c .before .before .before .before .before .before .before .before .before .args .seal)) (c .before .before .before .before .judge-names .result .reading) (c .before .stated .given .0 .0)
+good :
+    (c : tie.After-known-told) →
+    Accepted (now (c .before .before .before .before .before .before .before .before .before .args .seal))
+    (c .before .before .before .before .judge-names .result .reading) (c .before .stated .given .0 .0)
 good c =
     let on = c .before .before .before .before in
-    accepted-version _ (λ i. on .before .before .before .before .shared-slice-known .given i .fits) _ (on .judge-names .ensures .0) _ (c .before .stated .given .1)
+    accepted-version _ (λ i. on .before .before .before .before .shared-slice-known .given i .fits) _ (on .judge-names .ensures .0) _
+    (c .before .stated .given .1)
 
 -- the reference's length, and the count of rows, as the report has them
-size : (c : tie.After-known-told) → c .before .before .before .before .judge-names .result .reading .header .length ≡ length (good c .report .header .reference)
+size :
+    (c : tie.After-known-told) →
+    c .before .before .before .before .judge-names .result .reading .header .length ≡ length (good c .report .header .reference)
 size c = ap (λ z. z .header .length) (good c .answer)
 
 count : (c : tie.After-known-told) → c .before .before .before .before .judge-names .result .reading .count ≡ length (good c .report .rows)
@@ -30,7 +37,8 @@ returns : tie.Need-returns
 returns c =
     let on = c .before .before .before in
     let args = on .before .before .before .before .before .args in
-    reads-judged (now (args .seal)) (now (args .table)) (now (args .text)) (on .judge-names .result) (on .judge-names .ensures .0) (c .enum-told .given .1)
+    reads-judged (now (args .seal)) (now (args .table)) (now (args .text)) (on .judge-names .result) (on .judge-names .ensures .0)
+    (c .enum-told .given .1)
 
 add-size : tie.Need-add-size
 add-size c = let on = c .before .before in omega (arith, size on, good on .reference)
@@ -84,7 +92,9 @@ returns-4 c =
     let rows : put .put-rows .last .1 .1 .1 .1 .0 ≡ then (table (a .report .rows)) (now (args .table)) =
     put .put-rows .ensures ∙ ap (λ r. then (table r) (now (args .table))) (put-are _ _ _ a) in
     let copied : done .copy .last .1 .0 ≡ then (text (a .report)) (now (args .text)) =
-    done .copy .ensures .1 ∙ copied-names (take (4 + q .header .length) names) (now (args .text)) (omega (arith, long, fits .if2 .left)) ∙ ap (λ t. then t (now (args .text))) is-text in
+    done .copy .ensures .1
+    ∙ copied-names (take (4 + q .header .length) names) (now (args .text)) (omega (arith, long, fits .if2 .left))
+    ∙ ap (λ t. then t (now (args .text))) is-text in
     reads-accepted (now (args .seal)) (now (args .table)) (now (args .text)) q _ _ (a .report)
     (both-fit _ _ _ (a .report) (a .judged) (omega (arith, count on)) (omega (arith, size on))) (a .answer) rows copied
 

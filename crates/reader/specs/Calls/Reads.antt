@@ -45,19 +45,38 @@ abbrev Leaves : List ℕ → List ℕ → Reading → List ℕ → List ℕ → 
 Leaves rows names r rows′ names′ v = (r ≡ answerOf v) × ((rows′ ≡ then (rowsIn v) rows) × (names′ ≡ then (textIn v) names))
 
 -- a refusal leaves both as they were
-pub reads-refused : (s rows names : List ℕ) (r : Reading) (number place : ℕ) → reading s (length rows) (length names) ≡ refused number place → r ≡ answerOf (refused number place) → Reads s rows names r rows names
+pub reads-refused :
+    (s rows names : List ℕ) (r : Reading) (number place : ℕ) →
+    reading s (length rows) (length names) ≡ refused number place →
+    r ≡ answerOf (refused number place) →
+    Reads s rows names r rows names
 reads-refused s rows names r number place e a = subst (Leaves rows names r rows names) (sym e) (a, (refl, refl))
 
-pub reads-accepted : (s rows names : List ℕ) (r : Reading) (rows′ names′ : List ℕ) (report : Report) → reading s (length rows) (length names) ≡ accepted report → r ≡ answerOf (accepted report) → rows′ ≡ then (table (report .rows)) rows → names′ ≡ then (text report) names → Reads s rows names r rows′ names′
+pub reads-accepted :
+    (s rows names : List ℕ) (r : Reading) (rows′ names′ : List ℕ) (report : Report) →
+    reading s (length rows) (length names) ≡ accepted report →
+    r ≡ answerOf (accepted report) →
+    rows′ ≡ then (table (report .rows)) rows →
+    names′ ≡ then (text report) names →
+    Reads s rows names r rows′ names′
 reads-accepted s rows names r rows′ names′ report e a t x = subst (Leaves rows names r rows′ names′) (sym e) (a, (t, x))
 
 -- a verdict with no version is a refusal, which is answered whatever the room
-leaves : (rows names : List ℕ) (v : Verdict) (r : Reading) → versionIn v ≡ stated.NoSuchVersion → r ≡ answerOf v → Leaves rows names r rows names (given (length rows) (length names) v)
+leaves :
+    (rows names : List ℕ) (v : Verdict) (r : Reading) →
+    versionIn v ≡ stated.NoSuchVersion →
+    r ≡ answerOf v →
+    Leaves rows names r rows names (given (length rows) (length names) v)
 leaves rows names (accepted q) r without a = let z : _≡_ {A = ℕ} 0 1 = cc in absurd (omega arith)
 leaves rows names (refused number place) r without a = (a, (refl, refl))
 
-pub reads-judged : (s rows names : List ℕ) (q : Judgement) → q ≡ judgementOf (judge s) → q .version ≡ stated.NoSuchVersion → Reads s rows names (q .reading) rows names
-reads-judged s rows names q a without = leaves rows names (judge s) (q .reading) (sym (ap (λ j. j .version) a) ∙ without) (ap (λ j. j .reading) a)
+pub reads-judged :
+    (s rows names : List ℕ) (q : Judgement) →
+    q ≡ judgementOf (judge s) →
+    q .version ≡ stated.NoSuchVersion →
+    Reads s rows names (q .reading) rows names
+reads-judged s rows names q a without =
+    leaves rows names (judge s) (q .reading) (sym (ap (λ j. j .version) a) ∙ without) (ap (λ j. j .reading) a)
 
 -- a seal that was accepted: its report, and the sizes that its content has
 pub record Accepted (s : List ℕ) (r : Reading) (v : Version) : Type 0 where
@@ -81,7 +100,10 @@ rows-many v at (f ∷ fs) =
     let ih = rows-many v (at + 1 + length (lengthOf v (length (f .value))) + length (f .value)) fs in
     ap suc ih
 
-walk : (s : List ℕ) (r : Report) → judge s ≡ accepted r → features 256 (r .header .version) [] (r .header-end) s ≡ is (r .rows) (r .message-end)
+walk :
+    (s : List ℕ) (r : Report) →
+    judge s ≡ accepted r →
+    features 256 (r .header .version) [] (r .header-end) s ≡ is (r .rows) (r .message-end)
 unfolding judge judging readingOf
 walk s r e =
     by-test (ltb 4096 (length s))
@@ -96,7 +118,14 @@ walk s r e =
     subst (λ q. features 256 (q .header .version) [] (q .header-end) s ≡ is (q .rows) (q .message-end)) same (i1 .read))
 
 -- and so of every seal that is accepted
-pub accepted-report : (s : List ℕ) → Bytes s → (q : Reading) (v : Version) (r : Report) → q ≡ answerOf (judge s) → v ≡ r .header .version → judge s ≡ accepted r → Accepted s q v
+pub accepted-report :
+    (s : List ℕ) →
+    Bytes s →
+    (q : Reading) (v : Version) (r : Report) →
+    q ≡ answerOf (judge s) →
+    v ≡ r .header .version →
+    judge s ≡ accepted r →
+    Accepted s q v
 unfolding reportOf
 accepted-report s bytes q v r a same-version e =
     let seal = accepted-only s bytes r e in
@@ -109,18 +138,37 @@ accepted-report s bytes q v r a same-version e =
       version = same-version;
       answer = a ∙ ap answerOf e;
       signer = ap (λ z. length (z .header .signer)) same ∙ l .header .signer .size;
-      reference = subst (λ z. length (z .header .reference) ≤ 255) (sym same) (reference-most (c .header .version) (length (c .header .reference)) (l .header .size));
-      few = subst (λ z. length (z .rows) ≤ 255) (sym same) (subst (λ n. n ≤ 255) (sym (rows-many (c .header .version) (length (headerZone (c .header))) (c .features))) (features-most c l));
+      reference =
+          subst (λ z. length (z .header .reference) ≤ 255) (sym same)
+          (reference-most (c .header .version) (length (c .header .reference)) (l .header .size));
+      few =
+          subst (λ z. length (z .rows) ≤ 255) (sym same)
+          (subst (λ n. n ≤ 255) (sym (rows-many (c .header .version) (length (headerZone (c .header))) (c .features))) (features-most c l));
       walked = walk s r e;
     }
 
-by-verdict : (s : List ℕ) → Bytes s → (q : Reading) (v : Version) (j : Verdict) → q ≡ answerOf (judge s) → judge s ≡ j → versionIn j ≡ stated.Is v → Accepted s q v
+by-verdict :
+    (s : List ℕ) →
+    Bytes s →
+    (q : Reading) (v : Version) (j : Verdict) →
+    q ≡ answerOf (judge s) →
+    judge s ≡ j →
+    versionIn j ≡ stated.Is v →
+    Accepted s q v
 by-verdict s bytes q v (accepted r) a e said = accepted-report s bytes q v r a (cc) e
 by-verdict s bytes q v (refused number place) a e said = let z : _≡_ {A = ℕ} 0 1 = cc in absurd (omega arith)
 
 -- a judging that gives a version has accepted the seal
-pub accepted-version : (s : List ℕ) → Bytes s → (q : Judgement) → q ≡ judgementOf (judge s) → (v : Version) → q .version ≡ stated.Is v → Accepted s (q .reading) v
-accepted-version s bytes q a v said = by-verdict s bytes (q .reading) v (judge s) (ap (λ j. j .reading) a) refl (sym (ap (λ j. j .version) a) ∙ said)
+pub accepted-version :
+    (s : List ℕ) →
+    Bytes s →
+    (q : Judgement) →
+    q ≡ judgementOf (judge s) →
+    (v : Version) →
+    q .version ≡ stated.Is v →
+    Accepted s (q .reading) v
+accepted-version s bytes q a v said =
+    by-verdict s bytes (q .reading) v (judge s) (ap (λ j. j .reading) a) refl (sym (ap (λ j. j .version) a) ∙ said)
 
 -- with too little room for the rows, or for the text, and with room for both
 module _ (s : List ℕ) (numbers room : ℕ) (r : Report) (e : judge s ≡ accepted r) where
@@ -140,16 +188,23 @@ module _ (s : List ℕ) (numbers room : ℕ) (r : Report) (e : judge s ≡ accep
 
 -- the rows that are put are those of the report
 module _ (s : List ℕ) (q : Reading) (v : Version) (a : Accepted s q v) where
-  same-rows : rowsAt (q .count) v (q .ends .header) s ≡ rowsAt (length (a .report .rows)) (a .report .header .version) (a .report .header-end) s
+  same-rows :
+      rowsAt (q .count) v (q .ends .header) s ≡ rowsAt (length (a .report .rows)) (a .report .header .version) (a .report .header-end) s
   same-rows =
       ap (λ z. rowsAt (z .count) v (z .ends .header) s) (a .answer)
       ∙ ap (λ w. rowsAt (length (a .report .rows)) w (a .report .header-end) s) (a .version)
 
   pub put-there : AreRead (rowsAt (q .count) v (q .ends .header) s)
-  put-there = subst AreRead (sym same-rows) (rows-there 256 (a .report .header .version) (a .report .header-end) s (a .report .rows) (a .report .message-end) (length (a .report .rows)) (a .walked) refl)
+  put-there =
+      subst AreRead (sym same-rows)
+      (rows-there 256 (a .report .header .version) (a .report .header-end) s (a .report .rows) (a .report .message-end)
+      (length (a .report .rows)) (a .walked) refl)
 
   pub put-are : rowsRead (rowsAt (q .count) v (q .ends .header) s) ≡ a .report .rows
-  put-are = ap rowsRead same-rows ∙ rows-are 256 (a .report .header .version) (a .report .header-end) s (a .report .rows) (a .report .message-end) (length (a .report .rows)) (a .walked) refl
+  put-are =
+      ap rowsRead same-rows
+      ∙ rows-are 256 (a .report .header .version) (a .report .header-end) s (a .report .rows) (a .report .message-end)
+      (length (a .report .rows)) (a .walked) refl
 
   -- signer and reference stand at the start of the names, which are as long as they
   module _ (names : List ℕ) (n : Named (judge s) names) where

@@ -37,7 +37,12 @@ pub record Again (v : Version) (before : List Row) (at : ℕ) (s : List ℕ) (ro
   pub ends : end < length s
 
 -- one row more in front of those that are read again
-one-more : (v : Version) (before : List Row) (at mid after : ℕ) (s : List ℕ) (x : ℕ) (r : Row) (rows : List Row) (end : ℕ) → byte at s (plainIn at) ≡ is x mid → row v x mid s ≡ is r after → Again v (before ++ (r ∷ [])) after s rows end → Again v before at s rows end
+one-more :
+    (v : Version) (before : List Row) (at mid after : ℕ) (s : List ℕ) (x : ℕ) (r : Row) (rows : List Row) (end : ℕ) →
+    byte at s (plainIn at) ≡ is x mid →
+    row v x mid s ≡ is r after →
+    Again v (before ++ (r ∷ [])) after s rows end →
+    Again v before at s rows end
 unfolding rowsAt
 one-more v before at mid after s x r rows end b e g = record {
   added = r ∷ g .added;
@@ -46,7 +51,10 @@ one-more v before at mid after s x r rows end b e g = record {
   ends = g .ends;
 }
 
-pub features-again : (more : ℕ) (v : Version) (before : List Row) (at : ℕ) (s : List ℕ) (rows : List Row) (end : ℕ) → features more v before at s ≡ is rows end → Again v before at s rows end
+pub features-again :
+    (more : ℕ) (v : Version) (before : List Row) (at : ℕ) (s : List ℕ) (rows : List Row) (end : ℕ) →
+    features more v before at s ≡ is rows end →
+    Again v before at s rows end
 unfolding features rowsAt
 features-again zero v before at s rows end e = absurd (unread (why item.Tag rule.NotUsedBefore) at rows end e)
 features-again (suc more) v before at s rows end e =
@@ -71,17 +79,24 @@ features-again (suc more) v before at s rows end e =
     one-more v before at (i .at) (j .at) s x (j .value) rows end plain (j .read) ih)
 
 -- the rows of a seal's features, read again
-pub rows-again : (more : ℕ) (v : Version) (at : ℕ) (s : List ℕ) (rows : List Row) (end : ℕ) → features more v [] at s ≡ is rows end → rowsAt (length rows) v at s ≡ is rows end
+pub rows-again :
+    (more : ℕ) (v : Version) (at : ℕ) (s : List ℕ) (rows : List Row) (end : ℕ) →
+    features more v [] at s ≡ is rows end →
+    rowsAt (length rows) v at s ≡ is rows end
 rows-again more v at s rows end e =
     let g = features-again more v [] at s rows end e in
     subst (λ z. rowsAt (length z) v at s ≡ is z end) (sym (g .all)) (g .again)
 
 -- FF stands inside the seal
-pub mark-inside : (more : ℕ) (v : Version) (before : List Row) (at : ℕ) (s : List ℕ) (rows : List Row) (end : ℕ) → features more v before at s ≡ is rows end → end < length s
+pub mark-inside :
+    (more : ℕ) (v : Version) (before : List Row) (at : ℕ) (s : List ℕ) (rows : List Row) (end : ℕ) →
+    features more v before at s ≡ is rows end →
+    end < length s
 mark-inside more v before at s rows end e = features-again more v before at s rows end e .ends
 
 -- so many rows as were counted are there, and they are those
-module _ (more : ℕ) (v : Version) (at : ℕ) (s : List ℕ) (rows : List Row) (end count : ℕ) (e : features more v [] at s ≡ is rows end) (counted : count ≡ length rows) where
+module _ (more : ℕ) (v : Version) (at : ℕ) (s : List ℕ) (rows : List Row) (end count : ℕ) (e : features more v [] at s ≡ is rows end)
+    (counted : count ≡ length rows) where
   counted-again : rowsAt count v at s ≡ is rows end
   counted-again = ap (λ k. rowsAt k v at s) counted ∙ rows-again more v at s rows end e
 

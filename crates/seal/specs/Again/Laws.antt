@@ -28,14 +28,29 @@ use Rattle.writer.specs.Legal.Features.{Inside}
 use Rattle.seal.specs.Again.{againFrom, again}
 
 -- what the caller holds gives the same call
-pub again-held : (s : List ℕ) (r : Report) (rows names : List ℕ) → length (r .header .signer) ≡ 4 → againFrom s (answerOf (accepted r)) (then (table (r .rows)) rows) (then (text r) names) ≡ again s r
+pub again-held :
+    (s : List ℕ) (r : Report) (rows names : List ℕ) →
+    length (r .header .signer) ≡ 4 →
+    againFrom s (answerOf (accepted r)) (then (table (r .rows)) rows) (then (text r) names) ≡ again s r
 again-held s r rows names long =
     let h = r .header in
-    let t = take-at (text r) (drop (length (text r)) names) (4 + length (h .reference)) (length-append (h .signer) (h .reference) ∙ ap (λ n. n + length (h .reference)) long) in
+    let t = take-at (text r) (drop (length (text r)) names) (4 + length (h .reference))
+    (length-append (h .signer) (h .reference) ∙ ap (λ n. n + length (h .reference)) long) in
     let u = take-at (table (r .rows)) (drop (length (table (r .rows))) rows) (width * length (r .rows)) (length-table (r .rows)) in
-    λ i. record { header = answerOf (accepted r) .header; text = t i; table = u i; values = s; signature = part (r .signature-place) (r .signature-size) s }
+    λ i.
+    record {
+      header = answerOf (accepted r) .header;
+      text = t i;
+      table = u i;
+      values = s;
+      signature = part (r .signature-place) (r .signature-size) s;
+    }
 
-content-as : (s : List ℕ) (r : Report) → length (r .header .signer) ≡ 4 → length (r .header .country) ≡ 3 → contentAs (again s r) (r .header .version) ≡ contentRead s r
+content-as :
+    (s : List ℕ) (r : Report) →
+    length (r .header .signer) ≡ 4 →
+    length (r .header .country) ≡ 3 →
+    contentAs (again s r) (r .header .version) ≡ contentRead s r
 unfolding contentAs contentRead
 content-as s r long three-long =
     let h = r .header in
@@ -43,20 +58,42 @@ content-as s r long three-long =
     let reference = drop-at (h .signer) (h .reference) 4 long in
     let country = three-of (h .country) three-long in
     λ i. record {
-      header = record { version = h .version; country = country i; signer = signer i; reference = reference i; issued = h .issued; signed = h .signed; definition = h .definition; category = h .category };
+      header = record {
+        version = h .version;
+        country = country i;
+        signer = signer i;
+        reference = reference i;
+        issued = h .issued;
+        signed = h .signed;
+        definition = h .definition;
+        category = h .category;
+      };
       features = map (featureOf s) (rows-of-table (r .rows) i);
       signature = part (r .signature-place) (r .signature-size) s;
     }
 
-pub content-again : (s : List ℕ) (r : Report) → length (r .header .signer) ≡ 4 → length (r .header .country) ≡ 3 → contentOf (again s r) ≡ some (contentRead s r)
-content-again s r long three-long = said (again s r) (r .header .version) (number-back (r .header .version)) ∙ ap some (content-as s r long three-long)
+pub content-again :
+    (s : List ℕ) (r : Report) →
+    length (r .header .signer) ≡ 4 →
+    length (r .header .country) ≡ 3 →
+    contentOf (again s r) ≡ some (contentRead s r)
+content-again s r long three-long =
+    said (again s r) (r .header .version) (number-back (r .header .version)) ∙ ap some (content-as s r long three-long)
 
 -- each value read stands inside the seal
-zone-size : (v : Version) (f : Feature) (fs : List Feature) → length (messageZone v (f ∷ fs)) ≡ 1 + length (lengthOf v (length (f .value))) + length (f .value) + length (messageZone v fs)
+zone-size :
+    (v : Version) (f : Feature) (fs : List Feature) →
+    length (messageZone v (f ∷ fs)) ≡ 1 + length (lengthOf v (length (f .value))) + length (f .value) + length (messageZone v fs)
 zone-size v f fs =
     let z = messageZone v fs in
     let e = ap length (sym (append-nil (messageZone v (f ∷ fs))) ∙ feature-parts v f fs []) in
-    omega (arith, e, length-append (lengthOf v (length (f .value))) (f .value ++ (z ++ [])), length-append (f .value) (z ++ []), length-append z [])
+    omega (
+      arith,
+      e,
+      length-append (lengthOf v (length (f .value))) (f .value ++ (z ++ [])),
+      length-append (f .value) (z ++ []),
+      length-append z [],
+    )
 
 rows-inside : (v : Version) (at n : ℕ) (fs : List Feature) → at + length (messageZone v fs) ≤ n → All (Inside n) (rowsFrom v at fs)
 unfolding rowsFrom
@@ -71,7 +108,13 @@ unfolding reportOf
 inside-again c =
     rows-inside (c .header .version) (length (headerZone (c .header))) (length (publish c)) (c .features) (omega (arith, zones-add-up c))
 
-pub sound-again : (s : List ℕ) (r : Report) (c : Content) → publish c ≡ s → r ≡ reportOf c → length (r .header .signer) ≡ 4 → length (r .header .country) ≡ 3 → Sound (again s r)
+pub sound-again :
+    (s : List ℕ) (r : Report) (c : Content) →
+    publish c ≡ s →
+    r ≡ reportOf c →
+    length (r .header .signer) ≡ 4 →
+    length (r .header .country) ≡ 3 →
+    Sound (again s r)
 sound-again s r c form same long three-long =
     let h = r .header in
     record {

@@ -42,9 +42,24 @@ unfolding reportOf
 report-header c = refl
 
 -- the header that is answered goes by the content's alone
-header-answered : (c c′ : Content) → c .header ≡ c′ .header → answerOf (accepted (reportOf c)) .header ≡ answerOf (accepted (reportOf c′)) .header
+header-answered :
+    (c c′ : Content) →
+    c .header ≡ c′ .header →
+    answerOf (accepted (reportOf c)) .header ≡ answerOf (accepted (reportOf c′)) .header
 unfolding reportOf
-header-answered c c′ e = ap (λ h. record { version = versionNumber (h .version); country = h .country; length = length (h .reference); issued = h .issued; signed = h .signed; definition = h .definition; category = h .category }) e
+header-answered c c′ e =
+    ap
+    (λ h.
+    record {
+      version = versionNumber (h .version);
+      country = h .country;
+      length = length (h .reference);
+      issued = h .issued;
+      signed = h .signed;
+      definition = h .definition;
+      category = h .category;
+    })
+    e
 
 -- a verdict that is an acceptance
 pub record IsAccepted (v : Verdict) : Type 0 where
@@ -55,22 +70,34 @@ pub record IsAccepted (v : Verdict) : Type 0 where
 pub signer-long : (s : List ℕ) → Bytes s → (r : Report) → judge s ≡ accepted r → length (r .header .signer) ≡ 4
 signer-long s bytes r j =
     let seal = accepted-only s bytes r j in
-    ap (λ z. length (z .header .signer)) (seal .report-is) ∙ ap (λ z. length (z .signer)) (report-header (seal .content)) ∙ seal .legal .header .signer .size
+    ap (λ z. length (z .header .signer)) (seal .report-is)
+    ∙ ap (λ z. length (z .signer)) (report-header (seal .content))
+    ∙ seal .legal .header .signer .size
 
 pub country-long : (s : List ℕ) → Bytes s → (r : Report) → judge s ≡ accepted r → length (r .header .country) ≡ 3
 country-long s bytes r j =
     let seal = accepted-only s bytes r j in
-    ap (λ z. length (z .header .country)) (seal .report-is) ∙ ap (λ z. length (z .country)) (report-header (seal .content)) ∙ seal .legal .header .country .size
+    ap (λ z. length (z .header .country)) (seal .report-is)
+    ∙ ap (λ z. length (z .country)) (report-header (seal .content))
+    ∙ seal .legal .header .country .size
 
 -- what is accepted writes back as the same bytes
-pub again-writes : (s : List ℕ) → Bytes s → (r : Report) → judge s ≡ accepted r → (room : ℕ) → length s ≤ room → writing (again s r) room ≡ done s
+pub again-writes :
+    (s : List ℕ) →
+    Bytes s →
+    (r : Report) →
+    judge s ≡ accepted r →
+    (room : ℕ) →
+    length s ≤ room →
+    writing (again s r) room ≡ done s
 again-writes s bytes r j room fits =
     let seal = accepted-only s bytes r j in
     let c = seal .content in
     let long = signer-long s bytes r j in
     let three-long = country-long s bytes r j in
     let same : contentOf (again s r) ≡ some c = content-again s r long three-long ∙ ap some (seal .reports) in
-    legal-written (again s r) room c same (sound-again s r c (seal .form-is) (seal .report-is) long three-long) (seal .legal) (subst (λ u. length u ≤ room) (sym (seal .form-is)) fits)
+    legal-written (again s r) room c same (sound-again s r c (seal .form-is) (seal .report-is) long three-long) (seal .legal)
+    (subst (λ u. length u ≤ room) (sym (seal .form-is)) fits)
     ∙ ap done (seal .form-is)
 
 -- what a call's content says of the call, in its version, and how much table and text it takes
@@ -90,7 +117,16 @@ module _ (g : Given) (v : Version) where
       let version = sym (number-of (h .version) v stated) in
       let size : length (drop 4 (g .text)) ≡ h .length = omega (arith, length-drop 4 (g .text), sound .measured) in
       let country = three-of (h .country) (sound .country) in
-      λ i. record { version = version i; country = country i; length = size i; issued = h .issued; signed = h .signed; definition = h .definition; category = h .category }
+      λ i.
+      record {
+        version = version i;
+        country = country i;
+        length = size i;
+        issued = h .issued;
+        signed = h .signed;
+        definition = h .definition;
+        category = h .category;
+      }
 
   text-as : text (reportOf (contentAs g v)) ≡ g .text
   unfolding reportOf contentAs
@@ -111,7 +147,8 @@ module _ (g : Given) (c : Content) (e : contentOf g ≡ some c) where
   call = says g c e
 
   pub header-given : Sound g → answerOf (accepted (reportOf c)) .header ≡ g .header
-  header-given sound = ap (λ d. answerOf (accepted (reportOf d)) .header) (sym (call .content)) ∙ header-as g (call .version) (call .stated) sound
+  header-given sound =
+      ap (λ d. answerOf (accepted (reportOf d)) .header) (sym (call .content)) ∙ header-as g (call .version) (call .stated) sound
 
   text-given : text (reportOf c) ≡ g .text
   text-given = ap (λ d. text (reportOf d)) (sym (call .content)) ∙ text-as g (call .version)
@@ -135,21 +172,33 @@ module _ (g : Given) (c : Content) (e : contentOf g ≡ some c) where
 
 -- a seal that was written, read with enough table and text
 module _ (g : Given) (room : ℕ) (s : List ℕ) (w : Written g room s) (rows names : List ℕ) where
-  pub back-reads : length (g .table) ≤ length rows → length (g .text) ≤ length names → reading s (length rows) (length names) ≡ accepted (reportOf (w .content))
+  pub back-reads :
+      length (g .table) ≤ length rows →
+      length (g .text) ≤ length names →
+      reading s (length rows) (length names) ≡ accepted (reportOf (w .content))
   back-reads more-rows more-names =
       ap (λ u. reading u (length rows) (length names)) (sym (w .form-is))
-      ∙ accepted-when (w .content) (w .legal) (length rows) (length names) (omega (arith, rows-fit g (w .content) (w .says))) (omega (arith, text-fits g (w .content) (w .says) (w .sound)))
+      ∙ accepted-when (w .content) (w .legal) (length rows) (length names) (omega (arith, rows-fit g (w .content) (w .says)))
+      (omega (arith, text-fits g (w .content) (w .says) (w .sound)))
 
-  pub back-content : contentIn s (answerOf (accepted (reportOf (w .content)))) (then (table (reportOf (w .content) .rows)) rows) (then (text (reportOf (w .content))) names) ≡ contentOf g
+  pub back-content :
+      contentIn s (answerOf (accepted (reportOf (w .content)))) (then (table (reportOf (w .content) .rows)) rows)
+      (then (text (reportOf (w .content))) names)
+      ≡ contentOf g
   back-content =
       let c = w .content in
-      let long : length (reportOf c .header .signer) ≡ 4 = ap (λ z. length (z .signer)) (report-header c) ∙ w .legal .header .signer .size in
+      let long : length (reportOf c .header .signer) ≡ 4 =
+      ap (λ z. length (z .signer)) (report-header c) ∙ w .legal .header .signer .size in
       held s (reportOf c) rows names long ∙ ap some (ap (λ u. contentRead u (reportOf c)) (sym (w .form-is)) ∙ reported c) ∙ sym (w .says)
 
 -- two calls whose contents have the same header
-module _ (g g′ : Given) (c c′ : Content) (says-c : contentOf g ≡ some c) (says-c′ : contentOf g′ ≡ some c′) (e : c .header ≡ c′ .header) where
+module _
+    (g g′ : Given) (c c′ : Content) (says-c : contentOf g ≡ some c) (says-c′ : contentOf g′ ≡ some c′) (e : c .header ≡ c′ .header) where
   pub same-text : g .text ≡ g′ .text
-  same-text = sym (text-given g c says-c) ∙ ap (λ h. h .signer ++ h .reference) (report-header c ∙ e ∙ sym (report-header c′)) ∙ text-given g′ c′ says-c′
+  same-text =
+      sym (text-given g c says-c)
+      ∙ ap (λ h. h .signer ++ h .reference) (report-header c ∙ e ∙ sym (report-header c′))
+      ∙ text-given g′ c′ says-c′
 
   pub same-header : Sound g → Sound g′ → g .header ≡ g′ .header
   same-header a b = sym (header-given g c says-c a) ∙ header-answered c c′ e ∙ header-given g′ c′ says-c′ b
@@ -174,7 +223,11 @@ pub zero-accepted : (s : List ℕ) (numbers room : ℕ) → answerOf (reading s 
 zero-accepted s numbers room e = zero-given (judge s) numbers room (from-list s) e
 
 -- a verdict with another number than 0 is a refusal
-pub refusal-of : (v : Verdict) (rows names : List ℕ) → (answerOf v .number ≡ 0 → ⊥) → (answerOf v ≡ answerOf (refused (answerOf v .number) (answerOf v .place))) × ((then (rowsIn v) rows ≡ rows) × (then (textIn v) names ≡ names))
+pub refusal-of :
+    (v : Verdict) (rows names : List ℕ) →
+    (answerOf v .number ≡ 0 → ⊥) →
+    (answerOf v ≡ answerOf (refused (answerOf v .number) (answerOf v .place)))
+    × ((then (rowsIn v) rows ≡ rows) × (then (textIn v) names ≡ names))
 refusal-of (accepted r) rows names h = absurd (h refl)
 refusal-of (refused number place) rows names h = (refl, (refl, refl))
 

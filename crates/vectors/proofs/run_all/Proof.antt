@@ -40,7 +40,8 @@ loop-less : tie.Need-loop-less Inv-loop μ-loop
 loop-less c = omega arith
 
 loop-again : tie.Need-loop-again Inv-loop μ-loop
-loop-again c = (c .before .before .run-line .kept .1 .1 .0 ∙ c .before .before .before .before .before .before .before .loop .inv .0, omega arith)
+loop-again c =
+    (c .before .before .run-line .kept .1 .1 .0 ∙ c .before .before .before .before .before .before .before .loop .inv .0, omega arith)
 
 same-length : tie.Need-same-length Inv-loop μ-loop
 same-length c = c .before .loop .inv .0

@@ -51,11 +51,19 @@ all-shown (c ∷ t) a = ap (λ x. x ∷ map shown (map carried t)) (shown-carrie
 abbrev third-in : ℕ → Bool
 third-in c = either (isLetter c) (eqb c 32)
 
-country-three : (a b c : ℕ) → Letter a → Letter b ⊎ Filler b → Letter c ⊎ Filler c → (Filler b → Filler c) → isCountry 32 (carried a ∷ carried b ∷ carried c ∷ []) ≡ true
+country-three :
+    (a b c : ℕ) →
+    Letter a →
+    Letter b ⊎ Filler b →
+    Letter c ⊎ Filler c →
+    (Filler b → Filler c) →
+    isCountry 32 (carried a ∷ carried b ∷ carried c ∷ []) ≡ true
 country-three a b c la eb ec f =
     ap (λ x. both x (rest (carried b) (carried c))) (ap isLetter (letter-carried a la) ∙ letter a la)
     ∙ ⊎-elim
-    (λ lb. ap (λ x. rest x (carried c)) (letter-carried b lb) ∙ ap (λ x. either (both x (third-in (carried c))) (both (eqb b 32) (eqb (carried c) 32))) (letter b lb)
+    (λ lb.
+    ap (λ x. rest x (carried c)) (letter-carried b lb)
+    ∙ ap (λ x. either (both x (third-in (carried c))) (both (eqb b 32) (eqb (carried c) 32))) (letter b lb)
     ∙ ap (λ x. either x (both (eqb b 32) (eqb (carried c) 32))) (third ec))
     (λ fb. subst (λ x. rest (carried x) (carried c) ≡ true) (sym fb) (subst (λ x. rest 32 (carried x) ≡ true) (sym (f fb)) refl))
     eb
@@ -64,7 +72,9 @@ country-three a b c la eb ec f =
     rest x y = either (both (isLetter x) (third-in y)) (both (eqb x 32) (eqb y 32))
 
     third : Letter c ⊎ Filler c → third-in (carried c) ≡ true
-    third e = ⊎-elim (λ l. ap third-in (letter-carried c l) ∙ ap (λ x. either x (eqb c 32)) (letter c l)) (λ g. subst (λ x. third-in (carried x) ≡ true) (sym g) refl) e
+    third e =
+        ⊎-elim (λ l. ap third-in (letter-carried c l) ∙ ap (λ x. either x (eqb c 32)) (letter c l))
+        (λ g. subst (λ x. third-in (carried x) ≡ true) (sym g) refl) e
 
 country-passes : (t : List ℕ) → Country t → isCountry 32 (map carried t) ≡ true
 country-passes [] l = let e = l .size in absurd (omega arith)
@@ -80,10 +90,14 @@ country-there p t rest l =
     ∙ ap (λ u. is u (length p + 2)) (all-shown t (l .letters))
 
 -- version 3: nine characters
-pub names-three-there : (p s r rest : List ℕ) → LegalNames three (s, r) → names three (length p) (p ++ (c40 (s ++ r) ++ rest)) ≡ is (record { signer = s; reference = r }) (length p + 6)
+pub names-three-there :
+    (p s r rest : List ℕ) →
+    LegalNames three (s, r) →
+    names three (length p) (p ++ (c40 (s ++ r) ++ rest)) ≡ is (record { signer = s; reference = r }) (length p + 6)
 names-three-there p s r rest l =
     let ss = signer-text s (l .signer) in
-    let text : TextOf 9 (s ++ r) = (length-append s r ∙ omega (arith, ss .0, l .size), all-append InChart s r (ss .1) (reference-text r (l .reference))) in
+    let text : TextOf 9 (s ++ r) =
+    (length-append s r ∙ omega (arith, ss .0, l .size), all-append InChart s r (ss .1) (reference-text r (l .reference))) in
     let first : isSigner (take 4 (s ++ r)) ≡ true = ap isSigner (take-at s r 4 (ss .0)) ∙ signer-passes s (l .signer) in
     let second : all isReference (drop 4 (s ++ r)) ≡ true =
     ap (all isReference) (drop-at s r 4 (ss .0)) ∙ all-pass ReferenceCharacter isReference reference-passes r (l .reference) in
@@ -128,16 +142,22 @@ six-keeps s n l some most =
     ∙ ap (λ b. unless b rule.HexadecimalDigits length-rule) (six-digits s n (l .size) most)
     ∙ ap (λ b. unless b rule.NotZero none) some-length
 
-pub names-four-there : (p s r rest : List ℕ) → LegalNames four (s, r) → names four (length p) (p ++ (form.names four s r ++ rest)) ≡ is (record { signer = s; reference = r }) (length p + length (form.names four s r))
+pub names-four-there :
+    (p s r rest : List ℕ) →
+    LegalNames four (s, r) →
+    names four (length p) (p ++ (form.names four s r ++ rest))
+    ≡ is (record { signer = s; reference = r }) (length p + length (form.names four s r))
 names-four-there p s r rest l =
     let n = length r in
     let x = six (s, r) in
     let text = six-text (s, r) l in
     let q = p ++ c40 x in
-    let parts : p ++ (form.names four s r ++ rest) ≡ p ++ (c40 x ++ (c40 r ++ rest)) = ap (λ z. p ++ (z ++ rest)) (four-form (s, r) l) ∙ ap (λ z. p ++ z) (append-assoc (c40 x) (c40 r) rest) in
+    let parts : p ++ (form.names four s r ++ rest) ≡ p ++ (c40 x ++ (c40 r ++ rest)) =
+    ap (λ z. p ++ (z ++ rest)) (four-form (s, r) l) ∙ ap (λ z. p ++ z) (append-assoc (c40 x) (c40 r) rest) in
     let again : p ++ (c40 x ++ (c40 r ++ rest)) ≡ q ++ (c40 r ++ rest) = sym (append-assoc p (c40 x) (c40 r ++ rest)) in
     let wide : length q ≡ length p + 4 = length-append p (c40 x) ∙ ap (λ k. length p + k) (length-c40 x ∙ ap width (text .0)) in
-    let all-wide : length p + 4 + width n ≡ length p + length (form.names four s r) = omega (arith, ap length (four-form (s, r) l), length-append (c40 x) (c40 r), length-c40 x, ap width (text .0), length-c40 r) in
+    let all-wide : length p + 4 + width n ≡ length p + length (form.names four s r) =
+    omega (arith, ap length (four-form (s, r) l), length-append (c40 x) (c40 r), length-c40 x, ap width (text .0), length-c40 r) in
     let first = field-there 6 inSix p x (c40 r ++ rest) text (six-keeps s n (l .signer) (l .size .0) (l .size .1)) in
     let second : field n inReference (length p + 4) (p ++ (c40 x ++ (c40 r ++ rest))) ≡ is r (length p + 4 + width n) =
     ap (λ z. field n inReference (length p + 4) z) again ∙ ap (λ k. field n inReference k (q ++ (c40 r ++ rest))) (sym wide)
@@ -152,8 +172,12 @@ names-four-there p s r rest l =
     ∙ ap (λ u. is (record { signer = u; reference = r }) (length p + 4 + width n)) (take-at s (hexDigits n) 4 (l .signer .size))
     ∙ ap (λ k. is (record { signer = s; reference = r }) k) all-wide
 
-pub names-there : (v : Version) (p s r rest : List ℕ) → LegalNames v (s, r) → names v (length p) (p ++ (form.names v s r ++ rest)) ≡ is (record { signer = s; reference = r }) (length p + length (form.names v s r))
+pub names-there :
+    (v : Version) (p s r rest : List ℕ) →
+    LegalNames v (s, r) →
+    names v (length p) (p ++ (form.names v s r ++ rest)) ≡ is (record { signer = s; reference = r }) (length p + length (form.names v s r))
 names-there three p s r rest l =
     let size : length (s ++ r) ≡ 9 = length-append s r ∙ omega (arith, l .signer .size, l .size) in
-    names-three-there p s r rest l ∙ ap (λ k. is (record { signer = s; reference = r }) (length p + k)) (sym (length-c40 (s ++ r) ∙ ap width size))
+    names-three-there p s r rest l
+    ∙ ap (λ k. is (record { signer = s; reference = r }) (length p + k)) (sym (length-c40 (s ++ r) ∙ ap width size))
 names-there four p s r rest l = names-four-there p s r rest l

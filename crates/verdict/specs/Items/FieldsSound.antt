@@ -56,7 +56,12 @@ found k broken at (text u) t after e =
     (λ b.
     let p =
     kept (broken u) u t at (at + width k) after (sym (ap (λ c. fieldIn k broken at (pick c (exact u) (wrongAt (width k - 2)))) b) ∙ e) in
-    record { is-all = ap text (p .1); size = subst (λ z. length z ≡ k) (p .1) (eqb-true (length u) k b); keeps = subst (λ z. broken z ≡ none) (p .1) (p .0); place = p .2 })
+    record {
+      is-all = ap text (p .1);
+      size = subst (λ z. length z ≡ k) (p .1) (eqb-true (length u) k b);
+      keeps = subst (λ z. broken z ≡ none) (p .1) (p .0);
+      place = p .2;
+    })
     (λ b. absurd (unread rule.WellCoded at t after (sym (ap (λ c. fieldIn k broken at (pick c (exact u) (wrongAt (width k - 2)))) b) ∙ e)))
 
 pub record FieldRead (k : ℕ) (broken : List ℕ → Option Rule) (at : ℕ) (s t : List ℕ) (after : ℕ) : Type 0 where
@@ -98,7 +103,8 @@ abbrev Carried : ℕ → Type 0
 Carried c = Letter c ⊎ (c ≡ 32)
 
 carried-shown : (c : ℕ) → Carried c → carried (shown c) ≡ c
-carried-shown c e = ⊎-elim (λ l. ap carried (letter-shown c l) ∙ letter-carried c l) (λ f. subst (λ x. carried (shown x) ≡ x) (sym f) refl) e
+carried-shown c e =
+    ⊎-elim (λ l. ap carried (letter-shown c l) ∙ letter-carried c l) (λ f. subst (λ x. carried (shown x) ≡ x) (sym f) refl) e
 
 shown-is : (c : ℕ) → Carried c → Letter (shown c) ⊎ Filler (shown c)
 shown-is c e = ⊎-elim (λ l. inl (subst Letter (sym (letter-shown c l)) l)) (λ f. inr (subst (λ x. shown x ≡ 60) (sym f) refl)) e
@@ -131,7 +137,8 @@ country-legal (a ∷ b ∷ c ∷ []) l e =
     (λ f.
     let q = both-true (isLetter b) (either (isLetter c) (eqb c 32)) f in
     let lb = within-both 65 90 b (q .0) in
-    let ec : Carried c = ⊎-elim (λ g. inl (within-both 65 90 c g)) (λ g. inr (eqb-true c 32 g)) (either-true (isLetter c) (eqb c 32) (q .1)) in
+    let ec : Carried c =
+    ⊎-elim (λ g. inl (within-both 65 90 c g)) (λ g. inr (eqb-true c 32 g)) (either-true (isLetter c) (eqb c 32) (q .1)) in
     built a b c la (inl lb) ec (λ g. absurd (letter-no-filler b lb g)))
     (λ f.
     let q = both-true (eqb b 32) (eqb c 32) f in
@@ -142,10 +149,17 @@ country-legal (a ∷ b ∷ c ∷ []) l e =
     built : (a b c : ℕ) → Letter a → Carried b → Carried c → (Filler (shown b) → Filler (shown c)) → CountryOf (a ∷ b ∷ c ∷ [])
     built a b c la eb ec f = record {
       legal = country-of a b c la eb ec f;
-      back = ap (λ x. x ∷ carried (shown b) ∷ carried (shown c) ∷ []) (carried-shown a (inl la)) ∙ ap (λ x. a ∷ x ∷ carried (shown c) ∷ []) (carried-shown b eb) ∙ ap (λ x. a ∷ b ∷ x ∷ []) (carried-shown c ec);
+      back =
+          ap (λ x. x ∷ carried (shown b) ∷ carried (shown c) ∷ []) (carried-shown a (inl la))
+          ∙ ap (λ x. a ∷ x ∷ carried (shown c) ∷ []) (carried-shown b eb)
+          ∙ ap (λ x. a ∷ b ∷ x ∷ []) (carried-shown c ec);
     }
 
-pub country-read : (at : ℕ) (s t : List ℕ) (after : ℕ) → Bytes s → country at s ≡ is t after → Country t × Stands (c40 (map carried t)) at after s
+pub country-read :
+    (at : ℕ) (s t : List ℕ) (after : ℕ) →
+    Bytes s →
+    country at s ≡ is t after →
+    Country t × Stands (c40 (map carried t)) at after s
 country-read at s t after bytes e =
     let i = steps (field 3 inCountry at s) (λ t at. is (map shown t) at) t after e in
     let f = field-read 3 inCountry at s (i .value) (i .at) bytes (i .read) in
@@ -156,7 +170,11 @@ country-read at s t after bytes e =
     (subst Country same (c .legal), subst (λ u. Stands u at after s) form-is (subst (λ k. Stands (c40 (i .value)) at k s) place (f .there)))
 
 -- version 3: nine characters
-pub names-three-read : (at : ℕ) (s : List ℕ) (n : Names) (after : ℕ) → Bytes s → names three at s ≡ is n after → LegalNames three (n .signer, n .reference) × Stands (c40 (n .signer ++ n .reference)) at after s
+pub names-three-read :
+    (at : ℕ) (s : List ℕ) (n : Names) (after : ℕ) →
+    Bytes s →
+    names three at s ≡ is n after →
+    LegalNames three (n .signer, n .reference) × Stands (c40 (n .signer ++ n .reference)) at after s
 names-three-read at s n after bytes e =
     let i = steps-on item.Names (field 9 inNine at s) (λ t at. is (record { signer = take 4 t; reference = drop 4 t }) at) n after e in
     let t = i .value in
@@ -172,8 +190,11 @@ names-three-read at s n after bytes e =
       reference = all-of ReferenceCharacter isReference reference-of (drop 4 t) (q .0);
       size = length-drop 4 t ∙ omega arith;
     } in
-    let there : Stands (c40 (take 4 t ++ drop 4 t)) at after s = subst (λ u. Stands (c40 u) at after s) (sym (take-append-drop 4 t)) (subst (λ k. Stands (c40 t) at k s) place (f .there)) in
-    (subst (λ (z : Names). LegalNames three (z .signer, z .reference)) same legal, subst (λ (z : Names). Stands (c40 (z .signer ++ z .reference)) at after s) same there)
+    let there : Stands (c40 (take 4 t ++ drop 4 t)) at after s =
+    subst (λ u. Stands (c40 u) at after s) (sym (take-append-drop 4 t)) (subst (λ k. Stands (c40 t) at k s) place (f .there)) in (
+      subst (λ (z : Names). LegalNames three (z .signer, z .reference)) same legal,
+      subst (λ (z : Names). Stands (c40 (z .signer ++ z .reference)) at after s) same there,
+    )
 
 -- the six characters that were read: the signer, and the digits of a length
 record Six (t : List ℕ) : Type 0 where
@@ -210,7 +231,11 @@ six-of (a ∷ b ∷ c ∷ d ∷ x ∷ y ∷ []) l e =
           ∙ ap (λ u. a ∷ b ∷ c ∷ d ∷ x ∷ u ∷ []) (ap hexDigit low ∙ value-digit y hy);
     }
 
-pub names-four-read : (at : ℕ) (s : List ℕ) (n : Names) (end : ℕ) → Bytes s → names four at s ≡ is n end → LegalNames four (n .signer, n .reference) × Stands (form.names four (n .signer) (n .reference)) at end s
+pub names-four-read :
+    (at : ℕ) (s : List ℕ) (n : Names) (end : ℕ) →
+    Bytes s →
+    names four at s ≡ is n end →
+    LegalNames four (n .signer, n .reference) × Stands (form.names four (n .signer) (n .reference)) at end s
 names-four-read at s n end bytes e =
     let i = steps-on item.SignerAndLength (field 6 inSix at s) (after s) n end e in
     let x = i .value in
@@ -229,10 +254,19 @@ names-four-read at s n end bytes e =
           all-of ReferenceCharacter isReference reference-of r (kept-all (all isReference r) rule.ReferenceCharacters none (g .keeps) .0);
       size = (omega (arith, h .some), omega (arith, h .most));
     } in
-    let both-there : Stands (c40 x ++ c40 r) at end s = subst (λ k. Stands (c40 x ++ c40 r) at k s) place (stands-append (c40 x) (c40 r) at (i .at) (j .at) s (f .there) (g .there)) in
-    let form-is : c40 x ++ c40 r ≡ form.names four (take 4 x) r = ap (λ u. c40 u ++ c40 r) (sym (ap (λ k. take 4 x ++ hexDigits k) size ∙ h .back)) ∙ sym (four-form (take 4 x, r) legal) in
-    (subst (λ (z : Names). LegalNames four (z .signer, z .reference)) same legal, subst (λ (z : Names). Stands (form.names four (z .signer) (z .reference)) at end s) same (subst (λ u. Stands u at end s) form-is both-there))
+    let both-there : Stands (c40 x ++ c40 r) at end s =
+    subst (λ k. Stands (c40 x ++ c40 r) at k s) place (stands-append (c40 x) (c40 r) at (i .at) (j .at) s (f .there) (g .there)) in
+    let form-is : c40 x ++ c40 r ≡ form.names four (take 4 x) r =
+    ap (λ u. c40 u ++ c40 r) (sym (ap (λ k. take 4 x ++ hexDigits k) size ∙ h .back)) ∙ sym (four-form (take 4 x, r) legal) in (
+      subst (λ (z : Names). LegalNames four (z .signer, z .reference)) same legal,
+      subst (λ (z : Names). Stands (form.names four (z .signer) (z .reference)) at end s) same
+          (subst (λ u. Stands u at end s) form-is both-there),
+    )
 
-pub names-read : (v : Version) (at : ℕ) (s : List ℕ) (n : Names) (end : ℕ) → Bytes s → names v at s ≡ is n end → LegalNames v (n .signer, n .reference) × Stands (form.names v (n .signer) (n .reference)) at end s
+pub names-read :
+    (v : Version) (at : ℕ) (s : List ℕ) (n : Names) (end : ℕ) →
+    Bytes s →
+    names v at s ≡ is n end →
+    LegalNames v (n .signer, n .reference) × Stands (form.names v (n .signer) (n .reference)) at end s
 names-read three at s n end bytes e = names-three-read at s n end bytes e
 names-read four at s n end bytes e = names-four-read at s n end bytes e

@@ -1,4 +1,5 @@
--- Each item against the grammar: a legal value's published form is read as that value and the place after it (complete), and what is read as a
+-- Each item against the grammar: a legal value's published form is read as that value and the place after it
+-- (complete), and what is read as a
 -- value is its published form (sound).
 -- Assumes nothing.
 use mathlib.Core.Path.{_≡_, refl, ap, sym, subst, _∙_}
@@ -36,7 +37,8 @@ use Rattle.verdict.specs.Items.{dateIn, plainIn, exactly, fieldIn, field
 -- k bytes that stand after p are taken whole
 pub whole-there : {A : Type 0} (k : ℕ) (p b t : List ℕ) (f : List ℕ → Item A) → length b ≡ k → whole k (length p) (p ++ (b ++ t)) f ≡ f b
 whole-there k p b t f e =
-    let room : ltb (length (p ++ (b ++ t))) (length p + k) ≡ false = le-ltb (length (p ++ (b ++ t))) (length p + k) (omega (arith, length-append p (b ++ t), length-append b t)) in
+    let room : ltb (length (p ++ (b ++ t))) (length p + k) ≡ false =
+    le-ltb (length (p ++ (b ++ t))) (length p + k) (omega (arith, length-append p (b ++ t), length-append b t)) in
     rw (room, drop-at p (b ++ t) (length p) refl, take-at b t k e) refl
 
 -- what the reading of k bytes gives
@@ -51,11 +53,18 @@ Unread (not why place) = Unit
 pub unread : {R A : Type 0} (why : R) (place : ℕ) (a : A) (after : ℕ) → not why place ≡ is a after → ⊥
 unread why place a after e = subst Unread e tt
 
-pub whole-read : {A : Type 0} (k at : ℕ) (s : List ℕ) (f : List ℕ → Item A) (a : A) (after : ℕ) → whole k at s f ≡ is a after → Whole k at s f a after
+pub whole-read :
+    {A : Type 0} (k at : ℕ) (s : List ℕ) (f : List ℕ → Item A) (a : A) (after : ℕ) →
+    whole k at s f ≡ is a after →
+    Whole k at s f a after
 whole-read k at s f a after e =
     by-test (ltb (length s) (at + k))
     (λ short. absurd (unread rule.There at a after (sym (ap (λ b. pick b (not rule.There at) (f (take k (drop at s)))) short) ∙ e)))
-    (λ long. record { there = ltb-false (length s) (at + k) long; read = sym (ap (λ b. pick b (not rule.There at) (f (take k (drop at s)))) long) ∙ e })
+    (λ long.
+    record {
+      there = ltb-false (length s) (at + k) long;
+      read = sym (ap (λ b. pick b (not rule.There at) (f (take k (drop at s)))) long) ∙ e;
+    })
 
 -- one byte after p
 pub byte-there : {A : Type 0} (p : List ℕ) (x : ℕ) (t : List ℕ) (f : ℕ → Item A) → byte (length p) (p ++ (x ∷ t)) f ≡ f x
@@ -83,7 +92,10 @@ date-there p d t day =
 pub der-there : (p : List ℕ) (n : ℕ) (t : List ℕ) → Sized n → derLength (length p) (p ++ (form n ++ t)) ≡ is n (length p + length (form n))
 der-there p n t h = rw (drop-at p (form n ++ t) (length p) refl) (ap (derOf (length p)) (form-reads n h t))
 
-pub feature-length-there : (v : Version) (p : List ℕ) (n : ℕ) (t : List ℕ) → Sized n → featureLength v (length p) (p ++ (lengthOf v n ++ t)) ≡ is n (length p + length (lengthOf v n))
+pub feature-length-there :
+    (v : Version) (p : List ℕ) (n : ℕ) (t : List ℕ) →
+    Sized n →
+    featureLength v (length p) (p ++ (lengthOf v n ++ t)) ≡ is n (length p + length (lengthOf v n))
 feature-length-there three p n t h = byte-there p n t (plainIn (length p))
 feature-length-there four p n t h = der-there p n t h
 

@@ -18,16 +18,21 @@ use Rattle.verdict.specs.Items.{last, derLength, featureLength}
 marks : (mark 0 (0xDC ∷ []) ≡ is tt 1) × (mark 0 (0xDD ∷ []) ≡ not rule.IsMark 0) × (mark 0 [] ≡ not rule.There 0)
 marks = (refl, refl, refl)
 
-versions : (version 1 (0xDC ∷ 2 ∷ []) ≡ is three 2) × (version 1 (0xDC ∷ 3 ∷ []) ≡ is four 2) × (version 1 (0xDC ∷ 4 ∷ []) ≡ not rule.IsVersion 1)
+versions :
+    (version 1 (0xDC ∷ 2 ∷ []) ≡ is three 2) × (version 1 (0xDC ∷ 3 ∷ []) ≡ is four 2) × (version 1 (0xDC ∷ 4 ∷ []) ≡ not rule.IsVersion 1)
 versions = (refl, refl, refl)
 
 -- `D<<`, and FA 01, which is no C40
-countries : (country 0 (0x6A ∷ 0xBC ∷ []) ≡ is (68 ∷ 60 ∷ 60 ∷ []) 2) × (country 0 (0xFA ∷ 0x01 ∷ []) ≡ not rule.WellCoded 0) × (country 0 (0x6A ∷ []) ≡ not rule.There 0)
+countries :
+    (country 0 (0x6A ∷ 0xBC ∷ []) ≡ is (68 ∷ 60 ∷ 60 ∷ []) 2)
+    × (country 0 (0xFA ∷ 0x01 ∷ []) ≡ not rule.WellCoded 0)
+    × (country 0 (0x6A ∷ []) ≡ not rule.There 0)
 unfolding decode pairOf single values theChart valueOf
 countries = (refl, refl, refl)
 
 -- the place that is carried of a pair that is wrongly coded, and of a last pair that does not fit
-pairs : (exactly 6 (decode 0 (0xDE ∷ 0x51 ∷ 0xFA ∷ 0x01 ∷ [])) ≡ wrongAt 2) × (exactly 4 (text (86 ∷ 73 ∷ 83 ∷ 65 ∷ 48 ∷ 49 ∷ [])) ≡ wrongAt 2)
+pairs :
+    (exactly 6 (decode 0 (0xDE ∷ 0x51 ∷ 0xFA ∷ 0x01 ∷ [])) ≡ wrongAt 2) × (exactly 4 (text (86 ∷ 73 ∷ 83 ∷ 65 ∷ 48 ∷ 49 ∷ [])) ≡ wrongAt 2)
 unfolding decode pairOf single values theChart valueOf
 pairs = (refl, refl)
 
@@ -50,23 +55,38 @@ in-reference : (inReference (55 ∷ []) ≡ none) × (inReference (32 ∷ []) �
 in-reference = (refl, refl)
 
 -- version 4, signer UTAB and reference 7
-named-7 : names four 0 (0xD9 ∷ 0xB7 ∷ 0x5E ∷ 0x66 ∷ 0xFE ∷ 0x38 ∷ []) ≡ is (record { signer = 85 ∷ 84 ∷ 65 ∷ 66 ∷ []; reference = 55 ∷ [] }) 6
+named-7 :
+    names four 0 (0xD9 ∷ 0xB7 ∷ 0x5E ∷ 0x66 ∷ 0xFE ∷ 0x38 ∷ []) ≡ is (record { signer = 85 ∷ 84 ∷ 65 ∷ 66 ∷ []; reference = 55 ∷ [] }) 6
 unfolding decode pairOf single values theChart valueOf
 named-7 = refl
 
 -- 25 March 1957; no such date; and one that is cut short
-dates : (date 0 (0x31 ∷ 0x9E ∷ 0xF5 ∷ []) ≡ is (record { month = 3; day = 25; year = 1957 }) 3) × (date 0 (0 ∷ 0 ∷ 0 ∷ []) ≡ not rule.IsDay 0) × (date 0 (0 ∷ 0 ∷ []) ≡ not rule.There 0)
+dates :
+    (date 0 (0x31 ∷ 0x9E ∷ 0xF5 ∷ []) ≡ is (record { month = 3; day = 25; year = 1957 }) 3)
+    × (date 0 (0 ∷ 0 ∷ 0 ∷ []) ≡ not rule.IsDay 0)
+    × (date 0 (0 ∷ 0 ∷ []) ≡ not rule.There 0)
 unfolding isDay val
 dates = (refl, refl, refl)
 
-lasts : (last 0 (0 ∷ []) ≡ not rule.OneTo254 0) × (last 0 (1 ∷ []) ≡ is 1 1) × (last 0 (254 ∷ []) ≡ is 254 1) × (last 0 (255 ∷ []) ≡ not rule.OneTo254 0)
+lasts :
+    (last 0 (0 ∷ []) ≡ not rule.OneTo254 0)
+    × (last 0 (1 ∷ []) ≡ is 1 1)
+    × (last 0 (254 ∷ []) ≡ is 254 1)
+    × (last 0 (255 ∷ []) ≡ not rule.OneTo254 0)
 lasts = (refl, refl, refl, refl)
 
 -- 80 is 128 in version 3, and no length in version 4; 81 is 129 there, and begins a length here
-plain : (featureLength three 0 (0x80 ∷ []) ≡ is 128 1) × (featureLength three 0 (0x81 ∷ []) ≡ is 129 1) × (featureLength three 0 (0xFF ∷ []) ≡ is 255 1)
+plain :
+    (featureLength three 0 (0x80 ∷ []) ≡ is 128 1)
+    × (featureLength three 0 (0x81 ∷ []) ≡ is 129 1)
+    × (featureLength three 0 (0xFF ∷ []) ≡ is 255 1)
 plain = (refl, refl, refl)
 
-der : (featureLength four 0 (0x80 ∷ []) ≡ not rule.BeginsLength 0) × (featureLength four 0 (0x81 ∷ []) ≡ not rule.RestThere 0) × (featureLength four 0 (0x81 ∷ 0x7F ∷ []) ≡ not rule.Shortest 0) × (featureLength four 0 (0x81 ∷ 0x80 ∷ []) ≡ is 128 2)
+der :
+    (featureLength four 0 (0x80 ∷ []) ≡ not rule.BeginsLength 0)
+    × (featureLength four 0 (0x81 ∷ []) ≡ not rule.RestThere 0)
+    × (featureLength four 0 (0x81 ∷ 0x7F ∷ []) ≡ not rule.Shortest 0)
+    × (featureLength four 0 (0x81 ∷ 0x80 ∷ []) ≡ is 128 2)
 unfolding readLength longForm val
 der = (refl, refl, refl, refl)
 

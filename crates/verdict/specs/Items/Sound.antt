@@ -100,7 +100,11 @@ pub byte-read : {A : Type 0} (at : ℕ) (s : List ℕ) (f : ℕ → Item A) (a :
 byte-read at s f a after e =
     let w = whole-read 1 at s (λ b. f (getD b 0 0)) a after e in
     let t = take 1 (drop at s) in
-    record { x = getD t 0 0; there = stands 1 at s (w .there) ∙ ap (λ u. u ++ drop (at + 1) s) (one t (taken-size 1 at s (w .there))); read = w .read }
+    record {
+      x = getD t 0 0;
+      there = stands 1 at s (w .there) ∙ ap (λ u. u ++ drop (at + 1) s) (one t (taken-size 1 at s (w .there)));
+      read = w .read;
+    }
 
 -- a test that a value passed
 pub passed : {R A : Type 0} (test : Bool) (i : Read R A) (why : R) (place : ℕ) (a : A) (after : ℕ)
@@ -113,9 +117,17 @@ mark-read at s a after e =
     let b = byte-read at s (markIn at) a after e in
     let p = passed (eqb (b .x) 0xDC) (is tt (at + 1)) rule.IsMark at a after (b .read) in
     let place = same-place tt a (at + 1) after (p .1) in
-    record { form-there = b .there ∙ ap (λ x. x ∷ drop (at + 1) s) (eqb-true (b .x) 0xDC (p .0)) ∙ ap (λ k. 0xDC ∷ drop k s) place; size = sym place }
+    record {
+      form-there = b .there ∙ ap (λ x. x ∷ drop (at + 1) s) (eqb-true (b .x) 0xDC (p .0)) ∙ ap (λ k. 0xDC ∷ drop k s) place;
+      size = sym place;
+    }
 
-version-in : (at x : ℕ) (o : Option Version) → versionOfByte x ≡ o → (v : Version) (after : ℕ) → versionAt at o ≡ is v after → (x ≡ versionByte v) × (at + 1 ≡ after)
+version-in :
+    (at x : ℕ) (o : Option Version) →
+    versionOfByte x ≡ o →
+    (v : Version) (after : ℕ) →
+    versionAt at o ≡ is v after →
+    (x ≡ versionByte v) × (at + 1 ≡ after)
 version-in at x (some w) o v after e = (byte-of x w o ∙ ap versionByte (same-value w v (at + 1) after e), same-place w v (at + 1) after e)
 version-in at x none o v after e = absurd (unread rule.IsVersion at v after e)
 
@@ -130,8 +142,10 @@ last-read at s x after e =
     let b = byte-read at s (lastIn at) x after e in
     let p = passed (within 1 254 (b .x)) (is (b .x) (at + 1)) rule.OneTo254 at x after (b .read) in
     let same = same-value (b .x) x (at + 1) after (p .1) in
-    let place = same-place (b .x) x (at + 1) after (p .1) in
-    (subst LastByte same (within-both 1 254 (b .x) (p .0)), record { form-there = b .there ∙ ap (λ y. y ∷ drop (at + 1) s) same ∙ ap (λ k. x ∷ drop k s) place; size = sym place })
+    let place = same-place (b .x) x (at + 1) after (p .1) in (
+      subst LastByte same (within-both 1 254 (b .x) (p .0)),
+      record { form-there = b .there ∙ ap (λ y. y ∷ drop (at + 1) s) same ∙ ap (λ k. x ∷ drop k s) place; size = sym place },
+    )
 
 pub date-read : (at : ℕ) (s : List ℕ) (d : Date) (after : ℕ) → Bytes s → date at s ≡ is d after → Day d × Stands (publish d) at after s
 date-read at s d after bytes e =
@@ -141,9 +155,15 @@ date-read at s d after bytes e =
     let p = passed (isDay (dateOf (val t 3))) (is (dateOf (val t 3)) (at + 3)) rule.IsDay at d after (w .read) in
     let same = same-value (dateOf (val t 3)) d (at + 3) after (p .1) in
     let place = same-place (dateOf (val t 3)) d (at + 3) after (p .1) in
-    let r = taken-published t (bytes-take 3 (drop at s) (bytes-drop at s bytes)) (omega arith) d (from-day (val t 3) (p .0) ∙ ap result same) in
-    let front : publish d ≡ t = r .1 ∙ take-all 3 t (omega arith) in
-    (r .0, record { form-there = stands 3 at s (w .there) ∙ ap (λ u. u ++ drop (at + 3) s) (sym front) ∙ ap (λ k. publish d ++ drop k s) place; size = sym place ∙ ap (λ k. at + k) (sym (length-publish d)) })
+    let r = taken-published t (bytes-take 3 (drop at s) (bytes-drop at s bytes)) (omega arith) d
+    (from-day (val t 3) (p .0) ∙ ap result same) in
+    let front : publish d ≡ t = r .1 ∙ take-all 3 t (omega arith) in (
+      r .0,
+      record {
+        form-there = stands 3 at s (w .there) ∙ ap (λ u. u ++ drop (at + 3) s) (sym front) ∙ ap (λ k. publish d ++ drop k s) place;
+        size = sym place ∙ ap (λ k. at + k) (sym (length-publish d));
+      },
+    )
 
 -- a DER length, and a feature's
 pub der-read : (at : ℕ) (s : List ℕ) (n after : ℕ) → Bytes s → derLength at s ≡ is n after → Sized n × Stands (form n) at after s
@@ -154,11 +174,24 @@ der-read at s n after bytes e = found (readLength (drop at s)) refl
         let g : _≡_ {A = Item ℕ} (is m (at + width)) (is n after) = sym (ap (derOf at) f) ∙ e in
         let same = same-value m n (at + width) after g in
         let place = same-place m n (at + width) after g in
-        let t = read-is-form (drop at s) (bytes-drop at s bytes) n width (f ∙ ap (λ k. Is k width) same) in
-        (t .sized, record { form-there = sym (take-append-drop width (drop at s)) ∙ ap (λ u. u ++ drop width (drop at s)) (sym (t .front)) ∙ ap (λ u. form n ++ u) (drop-drop width at s) ∙ ap (λ k. form n ++ drop k s) place; size = sym place ∙ ap (λ k. at + k) (sym (t .size)) })
+        let t = read-is-form (drop at s) (bytes-drop at s bytes) n width (f ∙ ap (λ k. Is k width) same) in (
+          t .sized,
+          record {
+            form-there =
+                sym (take-append-drop width (drop at s))
+                ∙ ap (λ u. u ++ drop width (drop at s)) (sym (t .front))
+                ∙ ap (λ u. form n ++ u) (drop-drop width at s)
+                ∙ ap (λ k. form n ++ drop k s) place;
+            size = sym place ∙ ap (λ k. at + k) (sym (t .size));
+          },
+        )
     found (Not fault) f = absurd (unread (lengthRule fault) at n after (sym (ap (derOf at) f) ∙ e))
 
-pub feature-length-read : (v : Version) (at : ℕ) (s : List ℕ) (n after : ℕ) → Bytes s → featureLength v at s ≡ is n after → ValueSize v n × Stands (lengthOf v n) at after s
+pub feature-length-read :
+    (v : Version) (at : ℕ) (s : List ℕ) (n after : ℕ) →
+    Bytes s →
+    featureLength v at s ≡ is n after →
+    ValueSize v n × Stands (lengthOf v n) at after s
 feature-length-read three at s n after bytes e =
     let b = byte-read at s (plainIn at) n after e in
     let same = same-value (b .x) n (at + 1) after (b .read) in

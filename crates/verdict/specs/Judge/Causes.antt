@@ -55,6 +55,12 @@ examples =
     ∷ []
 
 all-told : All IsTold examples
-unfolding examples told judging reading header tag row features signature decode pairOf single values theChart valueOf isDay readLength longForm val
-all-told =
-    (refl, (refl, (refl, (refl, (refl, (refl, (refl, (refl, (refl, (refl, (refl, (refl, (refl, (refl, (refl, (refl, (refl, (refl, tt))))))))))))))))))
+unfolding examples told judging reading header tag row features signature decode pairOf single values theChart valueOf isDay readLength
+    longForm val
+all-told = (
+  refl,
+  (
+    refl,
+    (refl, (refl, (refl, (refl, (refl, (refl, (refl, (refl, (refl, (refl, (refl, (refl, (refl, (refl, (refl, (refl, tt)))))))))))))))),
+  ),
+)

@@ -61,7 +61,8 @@ header-there h t l =
     let e6 : s ≡ p6 ++ r6 = e5 ∙ sym (append-assoc p5 d2 r6) in
     let e7 : s ≡ (p6 ++ (h .definition ∷ [])) ++ r7 = e6 ∙ sym (append-assoc p6 (h .definition ∷ []) r7) in
     let w = length n in
-    let country-wide : length c ≡ 2 = length-c40 (map carried (h .country)) ∙ ap width (length-map (h .country) carried ∙ l .country .size) in
+    let country-wide : length c ≡ 2 =
+    length-c40 (map carried (h .country)) ∙ ap width (length-map (h .country) carried ∙ l .country .size) in
     let l3 : length p3 ≡ 4 = omega (arith, length-append p2 c, country-wide) in
     let l4 : length p4 ≡ 4 + w = omega (arith, length-append p3 n, l3) in
     let l5 : length p5 ≡ 4 + w + 3 = omega (arith, length-append p4 d1, l4, length-date (h .issued)) in
@@ -70,12 +71,15 @@ header-there h t l =
     let i0 = placed mark [] _ s 0 1 tt (header-parts h t) refl (mark-there [] (versionByte v ∷ r2)) in
     let i1 = placed version (0xDC ∷ []) _ s 1 1 v (header-parts h t) refl (version-there (0xDC ∷ []) v r2) in
     let i2 = placed country p2 _ s 2 2 (h .country) e2 refl (country-there p2 (h .country) _ (l .country)) in
-    let i3 = placed (names v) p3 _ s 4 w (record { signer = h .signer; reference = h .reference }) e3 l3 (names-there v p3 (h .signer) (h .reference) _ (legal-names h l)) in
+    let i3 = placed (names v) p3 _ s 4 w (record { signer = h .signer; reference = h .reference }) e3 l3
+    (names-there v p3 (h .signer) (h .reference) _ (legal-names h l)) in
     let i4 = placed date p4 _ s (4 + w) 3 (h .issued) e4 l4 (date-there p4 (h .issued) _ (l .issued)) in
     let i5 = placed date p5 _ s (4 + w + 3) 3 (h .signed) e5 l5 (date-there p5 (h .signed) _ (l .signed)) in
     let i6 = placed last p6 _ s (4 + w + 3 + 3) 1 (h .definition) e6 l6 (last-there p6 (h .definition) _ (l .definition)) in
-    let i7 = placed last (p6 ++ (h .definition ∷ [])) _ s (4 + w + 3 + 3 + 1) 1 (h .category) e7 l7 (last-there (p6 ++ (h .definition ∷ [])) (h .category) _ (l .category)) in
-    let end : 4 + w + 3 + 3 + 1 + 1 ≡ length (headerZone h) = omega (arith, l7, ap length e7, length-append (p6 ++ (h .definition ∷ [])) r7, length-append (headerZone h) t) in
+    let i7 = placed last (p6 ++ (h .definition ∷ [])) _ s (4 + w + 3 + 3 + 1) 1 (h .category) e7 l7
+    (last-there (p6 ++ (h .definition ∷ [])) (h .category) _ (l .category)) in
+    let end : 4 + w + 3 + 3 + 1 + 1 ≡ length (headerZone h) =
+    omega (arith, l7, ap length e7, length-append (p6 ++ (h .definition ∷ [])) r7, length-append (headerZone h) t) in
     rw (i0, i1, i2, i3, i4, i5, i6, i7) (ap (is h) end)
 
 -- the five sizes pass the test
@@ -93,7 +97,10 @@ size-small n n48 = omega arith
 size-small n n64 = omega arith
 size-small n n66 = omega arith
 
-pub signature-there : (p z : List ℕ) → SignatureSize (length z) → signature (length p) (p ++ (counted derForm z)) ≡ is (length z) (length p + length (derForm (length z)))
+pub signature-there :
+    (p z : List ℕ) →
+    SignatureSize (length z) →
+    signature (length p) (p ++ (counted derForm z)) ≡ is (length z) (length p + length (derForm (length z)))
 unfolding signature
 signature-there p z size =
     let n = length z in
@@ -109,7 +116,9 @@ signature-there p z size =
     let i1 : whole n (length p + w) s raw ≡ is n (length p + w + n) =
     ap (λ u. whole n (length p + w) u raw) e1 ∙ ap (λ k. whole n k (q ++ (z ++ [])) raw) (sym l1) ∙ whole-there n q z [] raw refl in
     ap (λ i. next item.SignatureLength i (sizeIn (length p) s)) i0
-    ∙ ap (λ b. pick b (next item.Signature (whole n (length p + w) s raw) end) (not (why item.SignatureLength rule.SignatureSize) (length p))) (size-passes n size)
+    ∙ ap
+    (λ b. pick b (next item.Signature (whole n (length p + w) s raw) end) (not (why item.SignatureLength rule.SignatureSize) (length p)))
+    (size-passes n size)
     ∙ ap (λ i. next item.Signature i end) i1
     ∙ ap (λ b. pick b (not (why item.End rule.NothingAfter) (length p + w + n)) (is n (length p + w)))
     (le-ltb (length p + w + n) (length s) (omega arith))
@@ -148,7 +157,11 @@ published-accepted c l =
     let i0 : header s ≡ is (c .header) (length h) = ap header e0 ∙ header-there (c .header) (m ++ (0xFF ∷ g)) (l .header) in
     let i1 : features 256 v [] (length h) s ≡ is (rowsOf v (length h) (c .features)) (length h + length m) =
     ap (features 256 v [] (length h)) e0
-    ∙ features-there 256 v (c .features) [] [] h g (l .features) (λ x u. refl) refl (omega (arith, features-most c l)) (omega (arith, l .size)) in
+    ∙ features-there 256 v (c .features) [] [] h g (l .features) (λ x u. refl) refl (omega (arith, features-most c l))
+    (omega (arith, l .size)) in
     let i2 : signature (length h + length m + 1) s ≡ is (length z) (length h + length m + 1 + length (derForm (length z))) =
-    ap (signature (length h + length m + 1)) e1 ∙ ap (λ k. signature k (q ++ g)) (sym lq) ∙ signature-there q z (l .signature) ∙ ap (λ k. is (length z) (k + length (derForm (length z)))) lq in
+    ap (signature (length h + length m + 1)) e1
+    ∙ ap (λ k. signature k (q ++ g)) (sym lq)
+    ∙ signature-there q z (l .signature)
+    ∙ ap (λ k. is (length z) (k + length (derForm (length z)))) lq in
     rw (fits, i0, i1, i2) refl

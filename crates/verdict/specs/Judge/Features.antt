@@ -40,17 +40,35 @@ used-end x (q ∷ rows) r e f =
     (λ g. ap (λ b. either b (used x (rows ++ (r ∷ [])))) g ∙ used-end x rows r (sym (ap (λ b. either b (used x rows)) g) ∙ e) f)
 
 -- a feature's parts, bracketed to the right
-pub feature-parts : (v : Version) (f : Feature) (fs : List Feature) (t : List ℕ) → messageZone v (f ∷ fs) ++ t ≡ f .tag ∷ (lengthOf v (length (f .value)) ++ (f .value ++ (messageZone v fs ++ t)))
+pub feature-parts :
+    (v : Version) (f : Feature) (fs : List Feature) (t : List ℕ) →
+    messageZone v (f ∷ fs) ++ t ≡ f .tag ∷ (lengthOf v (length (f .value)) ++ (f .value ++ (messageZone v fs ++ t)))
 unfolding messageZone
 feature-parts v f fs t = simp append-assoc
 
-zone-size : (v : Version) (f : Feature) (fs : List Feature) → length (messageZone v (f ∷ fs)) ≡ 1 + length (lengthOf v (length (f .value))) + length (f .value) + length (messageZone v fs)
+zone-size :
+    (v : Version) (f : Feature) (fs : List Feature) →
+    length (messageZone v (f ∷ fs)) ≡ 1 + length (lengthOf v (length (f .value))) + length (f .value) + length (messageZone v fs)
 zone-size v f fs =
     let z = messageZone v fs in
     let e = ap length (sym (append-nil (messageZone v (f ∷ fs))) ∙ feature-parts v f fs []) in
-    omega (arith, e, length-append (lengthOf v (length (f .value))) (f .value ++ (z ++ [])), length-append (f .value) (z ++ []), length-append z [])
+    omega (
+      arith,
+      e,
+      length-append (lengthOf v (length (f .value))) (f .value ++ (z ++ [])),
+      length-append (f .value) (z ++ []),
+      length-append z [],
+    )
 
-pub features-there : (more : ℕ) (v : Version) (fs : List Feature) (tags : List ℕ) (rows : List Row) (p t : List ℕ) → LegalFeatures v tags fs → Fresh rows tags → used 0xFF rows ≡ false → length fs < more → length (messageZone v fs) < 2 ^ 32 → features more v rows (length p) (p ++ (messageZone v fs ++ (0xFF ∷ t))) ≡ is (rows ++ rowsOf v (length p) fs) (length p + length (messageZone v fs))
+pub features-there :
+    (more : ℕ) (v : Version) (fs : List Feature) (tags : List ℕ) (rows : List Row) (p t : List ℕ) →
+    LegalFeatures v tags fs →
+    Fresh rows tags →
+    used 0xFF rows ≡ false →
+    length fs < more →
+    length (messageZone v fs) < 2 ^ 32 →
+    features more v rows (length p) (p ++ (messageZone v fs ++ (0xFF ∷ t)))
+    ≡ is (rows ++ rowsOf v (length p) fs) (length p + length (messageZone v fs))
 unfolding features tag row rowsOf messageZone
 features-there zero v fs tags rows p t l fresh ff less small = absurd (omega arith)
 features-there (suc more) v [] tags rows p t l fresh ff less small =
@@ -82,14 +100,18 @@ features-there (suc more) v (f ∷ fs) tags rows p t l fresh ff less small =
     ap (featureLength v (length p + 1)) e1 ∙ ap (λ k. featureLength v k (p1 ++ (lengthOf v n ++ (f .value ++ rest)))) (sym l1)
     ∙ feature-length-there v p1 n (f .value ++ rest) (omega arith) ∙ ap (λ k. is n (k + w)) l1 in
     let i2 : whole n (length p + 1 + w) s (valueIn x n (length p + 1 + w)) ≡ is r (length p + 1 + w + n) =
-    ap (λ z. whole n (length p + 1 + w) z (valueIn x n (length p + 1 + w))) e2 ∙ ap (λ k. whole n k (p2 ++ (f .value ++ rest)) (valueIn x n (length p + 1 + w))) (sym l2)
+    ap (λ z. whole n (length p + 1 + w) z (valueIn x n (length p + 1 + w))) e2
+    ∙ ap (λ k. whole n k (p2 ++ (f .value ++ rest)) (valueIn x n (length p + 1 + w))) (sym l2)
     ∙ whole-there n p2 (f .value) rest (valueIn x n (length p + 1 + w)) refl in
     let other : eqb x 0xFF ≡ false = ne-eqb x 0xFF (λ e. omega (arith, l .0)) in
     let fresh′ : Fresh (rows ++ (r ∷ [])) (x ∷ tags) = λ y u. used-end y rows r (fresh y (u .1)) (ne-eqb y x (u .0)) in
     let ff′ : used 0xFF (rows ++ (r ∷ [])) ≡ false = used-end 0xFF rows r ff (ne-eqb 0xFF x (λ e. omega (arith, l .0))) in
     let ih = features-there more v fs (x ∷ tags) (rows ++ (r ∷ [])) p3 t (l .4) fresh′ ff′ (omega arith) (omega arith) in
-    let last : features more v (rows ++ (r ∷ [])) (length p + 1 + w + n) s ≡ is (rows ++ (r ∷ rowsOf v (length p + 1 + w + n) fs)) (length p + length (messageZone v (f ∷ fs))) =
-    ap (features more v (rows ++ (r ∷ [])) (length p + 1 + w + n)) e3 ∙ ap (λ k. features more v (rows ++ (r ∷ [])) k (p3 ++ rest)) (sym l3) ∙ ih
+    let last : features more v (rows ++ (r ∷ [])) (length p + 1 + w + n) s
+    ≡ is (rows ++ (r ∷ rowsOf v (length p + 1 + w + n) fs)) (length p + length (messageZone v (f ∷ fs))) =
+    ap (features more v (rows ++ (r ∷ [])) (length p + 1 + w + n)) e3
+    ∙ ap (λ k. features more v (rows ++ (r ∷ [])) k (p3 ++ rest)) (sym l3)
+    ∙ ih
     ∙ ap (λ u. is u (length p3 + length (messageZone v fs))) (append-assoc rows (r ∷ []) (rowsOf v (length p3) fs))
     ∙ ap (λ k. is (rows ++ (r ∷ rowsOf v k fs)) (length p3 + length (messageZone v fs))) l3
     ∙ ap (is (rows ++ (r ∷ rowsOf v (length p + 1 + w + n) fs))) (omega arith) in

@@ -14,7 +14,15 @@ use Rattle.verdict.specs.Judge.{Report, accepted, refused, header, tag, 
 use Rattle.verdict.specs.Report.{contentOf}
 
 abbrev pub report-a : Report
-report-a = record { header = header-a; rows = record { tag = 10; place = 20; size = 4 } ∷ []; header-end = 18; message-end = 24; seal-end = 82; signature-place = 26; signature-size = 56 }
+report-a = record {
+  header = header-a;
+  rows = record { tag = 10; place = 20; size = 4 } ∷ [];
+  header-end = 18;
+  message-end = 24;
+  seal-end = 82;
+  signature-place = 26;
+  signature-size = 56;
+}
 
 a-accepted : judge seal-a ≡ accepted report-a
 unfolding judge judging reading header tag row features signature decode pairOf single values theChart valueOf isDay readLength longForm val
@@ -46,11 +54,36 @@ unfolding judge judging
 too-long = refl
 
 -- a version 4 seal, and one of version 3 whose lengths 80 and FF are plain bytes
-b-accepted : judge (signed-b ++ (0xFF ∷ 0x81 ∷ 0x80 ∷ replicate 128 0xAA)) ≡ accepted (record { header = header-b; rows = record { tag = 254; place = 27; size = 128 } ∷ record { tag = 0; place = 157; size = 0 } ∷ []; header-end = 24; message-end = 157; seal-end = 288; signature-place = 160; signature-size = 128 })
+b-accepted :
+    judge (signed-b ++ (0xFF ∷ 0x81 ∷ 0x80 ∷ replicate 128 0xAA))
+    ≡ accepted
+    (record {
+      header = header-b;
+      rows = record { tag = 254; place = 27; size = 128 } ∷ record { tag = 0; place = 157; size = 0 } ∷ [];
+      header-end = 24;
+      message-end = 157;
+      seal-end = 288;
+      signature-place = 160;
+      signature-size = 128;
+    })
 unfolding judge judging reading header tag row features signature decode pairOf single values theChart valueOf isDay readLength longForm val
 b-accepted = refl
 
-c-accepted : judge (signed-c ++ (0xFF ∷ 0x81 ∷ 0x84 ∷ replicate 132 0xAA)) ≡ accepted (record { header = header-c; rows = record { tag = 254; place = 20; size = 128 } ∷ record { tag = 0; place = 150; size = 255 } ∷ record { tag = 3; place = 407; size = 0 } ∷ []; header-end = 18; message-end = 407; seal-end = 542; signature-place = 410; signature-size = 132 })
+c-accepted :
+    judge (signed-c ++ (0xFF ∷ 0x81 ∷ 0x84 ∷ replicate 132 0xAA))
+    ≡ accepted
+    (record {
+      header = header-c;
+      rows =
+          record { tag = 254; place = 20; size = 128 } ∷ record { tag = 0; place = 150; size = 255 } ∷ record
+          { tag = 3; place = 407; size = 0 }
+          ∷ [];
+      header-end = 18;
+      message-end = 407;
+      seal-end = 542;
+      signature-place = 410;
+      signature-size = 132;
+    })
 unfolding judge judging reading header tag row features signature decode pairOf single values theChart valueOf isDay readLength longForm val
 c-accepted = refl
 

@@ -27,7 +27,8 @@ reportIn q (refused number place) = q
 pub accepted-only : (s : List ℕ) → Bytes s → (r : Report) → judge s ≡ accepted r → Seal s r
 accepted-only s bytes r e =
     let p = accepted-published s bytes r e in
-    let same : r ≡ reportOf (p .content) = ap (reportIn r) (sym e ∙ ap judge (sym (p .form-is)) ∙ published-accepted (p .content) (p .legal)) in
+    let same : r ≡ reportOf (p .content) =
+    ap (reportIn r) (sym e ∙ ap judge (sym (p .form-is)) ∙ published-accepted (p .content) (p .legal)) in
     record {
       content = p .content;
       legal = p .legal;

@@ -49,10 +49,30 @@ header-read s h end bytes e =
     let r5 = date-read (i4 .at) s (i5 .value) (i5 .at) bytes (i5 .read) in
     let r6 = last-read (i5 .at) s (i6 .value) (i6 .at) (i6 .read) in
     let r7 = last-read (i6 .at) s (i7 .value) (i7 .at) (i7 .read) in
-    let g : Header = record { version = i1 .value; country = i2 .value; signer = i3 .value .signer; reference = i3 .value .reference; issued = i4 .value; signed = i5 .value; definition = i6 .value; category = i7 .value } in
+    let g : Header =
+    record {
+      version = i1 .value;
+      country = i2 .value;
+      signer = i3 .value .signer;
+      reference = i3 .value .reference;
+      issued = i4 .value;
+      signed = i5 .value;
+      definition = i6 .value;
+      category = i7 .value;
+    } in
     let same = same-value g h (i7 .at) end (i7 .goes-on) in
     let place = same-place g h (i7 .at) end (i7 .goes-on) in
-    let legal : LegalHeader g = record { country = r2 .0; signer = r3 .0 .signer; reference = r3 .0 .reference; size = r3 .0 .size; issued = r4 .0; signed = r5 .0; definition = r6 .0; category = r7 .0 } in
+    let legal : LegalHeader g =
+    record {
+      country = r2 .0;
+      signer = r3 .0 .signer;
+      reference = r3 .0 .reference;
+      size = r3 .0 .size;
+      issued = r4 .0;
+      signed = r5 .0;
+      definition = r6 .0;
+      category = r7 .0;
+    } in
     let a7 = stands-append _ _ _ _ _ s (r6 .1) (r7 .1) in
     let a6 = stands-append _ _ _ _ _ s (r5 .1) a7 in
     let a5 = stands-append _ _ _ _ _ s (r4 .1) a6 in
@@ -60,8 +80,11 @@ header-read s h end bytes e =
     let a3 = stands-append _ _ _ _ _ s (r2 .1) a4 in
     let a2 = stands-append _ _ _ _ _ s r1 a3 in
     let a1 = stands-append _ _ _ _ _ s r0 a2 in
-    let whole-form : Stands (headerZone g) 0 (i7 .at) s = subst (λ u. Stands u 0 (i7 .at) s) (sym (header-parts g []) ∙ append-nil (headerZone g)) a1 in
-    (subst LegalHeader same legal, subst (λ (z : Header). Stands (headerZone z) 0 end s) same (subst (λ k. Stands (headerZone g) 0 k s) place whole-form))
+    let whole-form : Stands (headerZone g) 0 (i7 .at) s =
+    subst (λ u. Stands u 0 (i7 .at) s) (sym (header-parts g []) ∙ append-nil (headerZone g)) a1 in (
+      subst LegalHeader same legal,
+      subst (λ (z : Header). Stands (headerZone z) 0 end s) same (subst (λ k. Stands (headerZone g) 0 k s) place whole-form),
+    )
 
 -- a tag that no row has was not among the tags before
 abbrev Covers : List Row → List ℕ → Type 0
@@ -95,7 +118,8 @@ unfolding tag
 tag-read rows at s x after bytes e =
     let b = byte-read at s (tagIn rows at) x after e in
     by-test (used (b .x) rows)
-    (λ t. absurd (unread rule.NotUsedBefore at x after (sym (ap (λ c. pick c (not rule.NotUsedBefore at) (is (b .x) (at + 1))) t) ∙ b .read)))
+    (λ t.
+    absurd (unread rule.NotUsedBefore at x after (sym (ap (λ c. pick c (not rule.NotUsedBefore at) (is (b .x) (at + 1))) t) ∙ b .read)))
     (λ t.
     let f : _≡_ {A = Item ℕ} (is (b .x) (at + 1)) (is x after) =
     sym (ap (λ c. pick c (not rule.NotUsedBefore at) (is (b .x) (at + 1))) t) ∙ b .read in
@@ -129,7 +153,8 @@ row-read v x at s r after all e =
     let q : Row = record { tag = x; place = m; size = n } in
     let same = same-value q (j .value) (m + n) (j .at) (w .read) ∙ same-value (j .value) r (j .at) after (j .goes-on) in
     let place = same-place q (j .value) (m + n) (j .at) (w .read) ∙ same-place (j .value) r (j .at) after (j .goes-on) in
-    let here : Stands b m after s = record { form-there = stands n m s (w .there) ∙ ap (λ z. b ++ drop z s) place; size = sym place ∙ ap (λ z. m + z) (sym many) } in
+    let here : Stands b m after s =
+    record { form-there = stands n m s (w .there) ∙ ap (λ z. b ++ drop z s) place; size = sym place ∙ ap (λ z. m + z) (sym many) } in
     record {
       value = b;
       is-row = ap (λ (z : Row). z .tag) (sym same);
@@ -148,11 +173,18 @@ ended v tags at end s place ff = record {
   mark = subst (λ k. Stands (0xFF ∷ []) k (k + 1) s) place ff;
 }
 
-form-of : (v : Version) (f : Feature) (fs : List Feature) → (f .tag ∷ (lengthOf v (length (f .value)) ++ f .value)) ++ messageZone v fs ≡ messageZone v (f ∷ fs)
+form-of :
+    (v : Version) (f : Feature) (fs : List Feature) →
+    (f .tag ∷ (lengthOf v (length (f .value)) ++ f .value)) ++ messageZone v fs ≡ messageZone v (f ∷ fs)
 unfolding messageZone
 form-of v f fs = simp append-assoc
 
-pub features-read : (more : ℕ) (v : Version) (rows : List Row) (at : ℕ) (s : List ℕ) (out : List Row) (end : ℕ) (tags : List ℕ) → Bytes s → Covers rows tags → features more v rows at s ≡ is out end → FeaturesRead v tags at end s
+pub features-read :
+    (more : ℕ) (v : Version) (rows : List Row) (at : ℕ) (s : List ℕ) (out : List Row) (end : ℕ) (tags : List ℕ) →
+    Bytes s →
+    Covers rows tags →
+    features more v rows at s ≡ is out end →
+    FeaturesRead v tags at end s
 unfolding features
 features-read zero v rows at s out end tags bytes covers e = absurd (unread (why item.Tag rule.NotUsedBefore) at out end e)
 features-read (suc more) v rows at s out end tags bytes covers e =
@@ -164,7 +196,8 @@ features-read (suc more) v rows at s out end tags bytes covers e =
     let g : _≡_ {A = Way (List Row)} (is rows at) (is out end) =
     sym (ap (λ b. pick b (is rows at) (pass (row v x (i .at) s) (λ r at. features more v (rows ++ (r ∷ [])) at s))) f) ∙ i .goes-on in
     let place = same-place rows out at end g in
-    let ff : Stands (0xFF ∷ []) at (at + 1) s = subst (λ y. Stands (y ∷ []) at (at + 1) s) (eqb-true x 0xFF f) (subst (λ k. Stands (x ∷ []) at k s) (t .there .size) (t .there)) in
+    let ff : Stands (0xFF ∷ []) at (at + 1) s =
+    subst (λ y. Stands (y ∷ []) at (at + 1) s) (eqb-true x 0xFF f) (subst (λ k. Stands (x ∷ []) at k s) (t .there .size) (t .there)) in
     ended v tags at end s place ff)
     (λ f.
     let g : pass (row v x (i .at) s) (λ r at. features more v (rows ++ (r ∷ [])) at s) ≡ is out end =
@@ -195,7 +228,9 @@ size-of n e =
     let at : (k : ℕ) → SignatureSize k → eqb n k ≡ true → SignatureSize n = λ k z f. subst SignatureSize (sym (eqb-true n k f)) z in
     ⊎-elim (at 56 n28)
     (λ a. ⊎-elim (at 64 n32)
-    (λ b. ⊎-elim (at 96 n48) (λ c. ⊎-elim (at 128 n64) (at 132 n66) (either-true (eqb n 128) (eqb n 132) c)) (either-true (eqb n 96) (either (eqb n 128) (eqb n 132)) b))
+    (λ b.
+    ⊎-elim (at 96 n48) (λ c. ⊎-elim (at 128 n64) (at 132 n66) (either-true (eqb n 128) (eqb n 132) c))
+    (either-true (eqb n 96) (either (eqb n 128) (eqb n 132)) b))
     (either-true (eqb n 64) (either (eqb n 96) (either (eqb n 128) (eqb n 132))) a))
     (either-true (eqb n 56) (either (eqb n 64) (either (eqb n 96) (either (eqb n 128) (eqb n 132)))) e)
 
@@ -221,10 +256,14 @@ signature-read at s n start all e =
     let z = take m (drop k s) in
     let many : length z ≡ m = taken-size m k s (w .there) in
     by-test (ltb (j .at) (length s))
-    (λ t. absurd (unread (why item.End rule.NothingAfter) (j .at) n start (sym (ap (λ b. pick b (not (why item.End rule.NothingAfter) (j .at)) (is (j .value) k)) t) ∙ j .goes-on)))
+    (λ t.
+    absurd
+    (unread (why item.End rule.NothingAfter) (j .at) n start
+    (sym (ap (λ b. pick b (not (why item.End rule.NothingAfter) (j .at)) (is (j .value) k)) t) ∙ j .goes-on)))
     (λ t.
     let last : k + m ≡ length s = omega (arith, w .there, ltb-false (j .at) (length s) t, end) in
-    let here : Stands z k (length s) s = record { form-there = stands m k s (w .there) ∙ ap (λ u. z ++ drop u s) last; size = omega arith } in
+    let here : Stands z k (length s) s =
+    record { form-there = stands m k s (w .there) ∙ ap (λ u. z ++ drop u s) last; size = omega arith } in
     record {
       raw = z;
       size = subst SignatureSize (sym many) (size-of m (p .0));
@@ -279,11 +318,18 @@ accepted-published s bytes r e =
     let c : Content = record { header = h; features = f .features; signature = g .raw } in
     let front = stands-append (headerZone h) (messageZone (h .version) (f .features)) 0 (i0 .at) (i1 .at) s (a .1) (f .there) in
     let back = stands-append (0xFF ∷ []) (derForm (length (g .raw)) ++ g .raw) (i1 .at) (i1 .at + 1) (length s) s (f .mark) (g .there) in
-    let all = stands-append (headerZone h ++ messageZone (h .version) (f .features)) (0xFF ∷ (derForm (length (g .raw)) ++ g .raw)) 0 (i1 .at) (length s) s front back in
+    let all = stands-append (headerZone h ++ messageZone (h .version) (f .features)) (0xFF ∷ (derForm (length (g .raw)) ++ g .raw)) 0
+    (i1 .at) (length s) s front back in
     let empty : drop (length s) s ≡ [] = drop-of-length-le s (at-most (length s)) in
     let form-is : publish c ≡ s = sym (all .form-there ∙ ap (λ u. publish c ++ u) empty ∙ append-nil (publish c)) in
     record {
       content = c;
-      legal = record { header = a .0; features = f .legal; signature = g .size; bytes = g .bytes; size = omega (arith, ap length form-is, ltb-false 4096 (length s) t) };
+      legal = record {
+        header = a .0;
+        features = f .legal;
+        signature = g .size;
+        bytes = g .bytes;
+        size = omega (arith, ap length form-is, ltb-false 4096 (length s) t);
+      };
       form-is = form-is;
     })

@@ -17,7 +17,11 @@ use Rattle.verdict.specs.Report.{part, featureOf, contentOf}
 part-there : (p b t s : List ℕ) (k : ℕ) → s ≡ p ++ (b ++ t) → length p ≡ k → part k (length b) s ≡ b
 part-there p b t s k e l = ap (λ z. part k (length b) z) e ∙ ap (take (length b)) (drop-at p (b ++ t) k l) ∙ take-at b t (length b) refl
 
-rows-back : (v : Version) (fs : List Feature) (p t s : List ℕ) (at : ℕ) → s ≡ p ++ (messageZone v fs ++ t) → length p ≡ at → map (featureOf s) (rowsOf v at fs) ≡ fs
+rows-back :
+    (v : Version) (fs : List Feature) (p t s : List ℕ) (at : ℕ) →
+    s ≡ p ++ (messageZone v fs ++ t) →
+    length p ≡ at →
+    map (featureOf s) (rowsOf v at fs) ≡ fs
 unfolding rowsOf
 rows-back v [] p t s at e l = refl
 rows-back v (f ∷ fs) p t s at e l =
@@ -34,7 +38,9 @@ rows-back v (f ∷ fs) p t s at e l =
     let l2 : length p2 ≡ at + 1 + w = omega (arith, length-append p1 (lengthOf v n), length-append p (f .tag ∷ []), l) in
     let l3 : length p3 ≡ at + 1 + w + n = omega (arith, length-append p2 (f .value), l2) in
     let ih = rows-back v fs p3 t s (at + 1 + w + n) e3 l3 in
-    ap (λ b. record { tag = f .tag; value = b } ∷ map (featureOf s) (rowsOf v (at + 1 + w + n) fs)) (part-there p2 (f .value) rest s (at + 1 + w) e2 l2) ∙ ap (λ u. f ∷ u) ih
+    ap (λ b. record { tag = f .tag; value = b } ∷ map (featureOf s) (rowsOf v (at + 1 + w + n) fs))
+    (part-there p2 (f .value) rest s (at + 1 + w) e2 l2)
+    ∙ ap (λ u. f ∷ u) ih
 
 -- "and it is what the reader reports"
 pub reported : (c : Content) → contentOf (publish c) (reportOf c) ≡ c
@@ -47,7 +53,13 @@ reported c =
     let d = derForm (length z) in
     let s = (h ++ m) ++ (0xFF ∷ (d ++ z)) in
     let q = ((h ++ m) ++ (0xFF ∷ [])) ++ d in
-    let e : s ≡ q ++ (z ++ []) = sym (append-assoc (h ++ m) (0xFF ∷ []) (d ++ z)) ∙ sym (append-assoc ((h ++ m) ++ (0xFF ∷ [])) d z) ∙ ap (λ u. q ++ u) (sym (append-nil z)) in
-    let lq : length q ≡ length h + length m + 1 + length d = omega (arith, length-append ((h ++ m) ++ (0xFF ∷ [])) d, length-append (h ++ m) (0xFF ∷ []), length-append h m) in
-    ap (λ fs. record { header = c .header; features = fs; signature = part (length h + length m + 1 + length d) (length z) s }) (rows-back v (c .features) h (0xFF ∷ (d ++ z)) s (length h) (append-assoc h m (0xFF ∷ (d ++ z))) refl)
-    ∙ ap (λ b. record { header = c .header; features = c .features; signature = b }) (part-there q z [] s (length h + length m + 1 + length d) e lq)
+    let e : s ≡ q ++ (z ++ []) =
+    sym (append-assoc (h ++ m) (0xFF ∷ []) (d ++ z))
+    ∙ sym (append-assoc ((h ++ m) ++ (0xFF ∷ [])) d z)
+    ∙ ap (λ u. q ++ u) (sym (append-nil z)) in
+    let lq : length q ≡ length h + length m + 1 + length d =
+    omega (arith, length-append ((h ++ m) ++ (0xFF ∷ [])) d, length-append (h ++ m) (0xFF ∷ []), length-append h m) in
+    ap (λ fs. record { header = c .header; features = fs; signature = part (length h + length m + 1 + length d) (length z) s })
+    (rows-back v (c .features) h (0xFF ∷ (d ++ z)) s (length h) (append-assoc h m (0xFF ∷ (d ++ z))) refl)
+    ∙ ap (λ b. record { header = c .header; features = c .features; signature = b })
+    (part-there q z [] s (length h + length m + 1 + length d) e lq)

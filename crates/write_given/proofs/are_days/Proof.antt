@@ -29,7 +29,8 @@ is-day-requires-2 c κs = search needs
 returns-2 : tie.Need-returns-2
 returns-2 c =
     let on = c .before in
-    c .is-day2 .ensures ∙ first-is (on .before .before .before .before .args .header) (sym (on .before .is-day .ensures) ∙ not-false _ (on .if1 .left))
+    c .is-day2 .ensures
+    ∙ first-is (on .before .before .before .before .args .header) (sym (on .before .is-day .ensures) ∙ not-false _ (on .if1 .left))
 
 pub are-days-spec : {M : Type 1} → statement M
 are-days-spec = tie.close (tie.spec is-day-requires returns is-day-requires-2 returns-2)

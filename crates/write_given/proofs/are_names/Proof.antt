@@ -29,14 +29,22 @@ size c = sym (c .before .is-text-size .ensures) ∙ not-false _ (c .if2 .left)
 long : (c : tie.Else2) → 5 ≤ length (now (start (c .before .before) .args .text))
 long c = size-any (start (c .before .before) .args .version) (length (now (start (c .before .before) .args .text))) (size c) .0
 
-measured : (c : tie.After-is-signer) → let s = start (c .before .before .before .before .before .before .before .before .before) in s .args .header .length + 4 ≡ length (now (s .args .text))
+measured :
+    (c : tie.After-is-signer) →
+    let s =
+    start (c .before .before .before .before .before .before .before .before .before) in s .args .header .length + 4
+    ≡ length (now (s .args .text))
 measured c =
     let on = c .before .before .before .before .before in
     let l = long (on .before .before) in
     let e = on .if3 .left in
     omega arith
 
-signer : (c : tie.After-is-signer) → let s = start (c .before .before .before .before .before .before .before .before .before) in c .is-signer .result ≡ isSigner (take 4 (now (s .args .text)))
+signer :
+    (c : tie.After-is-signer) →
+    let s =
+    start (c .before .before .before .before .before .before .before .before .before) in c .is-signer .result
+    ≡ isSigner (take 4 (now (s .args .text)))
 signer c =
     let on = c .before .before .before .before .before .before .before in
     let l = long on in
@@ -55,19 +63,30 @@ is-country-requires : tie.Need-is-country-requires
 is-country-requires c κs = search needs
 
 returns : tie.Need-returns
-returns c = let s = c .before .before .before .before in names-country (s .args .version) (s .args .header) (now (s .args .text)) (sym (c .before .is-country .ensures) ∙ not-true _ (c .if1 .taken))
+returns c =
+    let s = c .before .before .before .before in
+    names-country (s .args .version) (s .args .header) (now (s .args .text))
+    (sym (c .before .is-country .ensures) ∙ not-true _ (c .if1 .taken))
 
 is-text-size-requires : tie.Need-is-text-size-requires
 is-text-size-requires c κs = search needs
 
 returns-2 : tie.Need-returns-2
-returns-2 c = let s = start (c .before .before) in names-size (s .args .version) (s .args .header) (now (s .args .text)) (country (c .before .before)) (sym (c .before .is-text-size .ensures) ∙ not-true _ (c .if2 .taken))
+returns-2 c =
+    let s = start (c .before .before) in
+    names-size (s .args .version) (s .args .header) (now (s .args .text)) (country (c .before .before))
+    (sym (c .before .is-text-size .ensures) ∙ not-true _ (c .if2 .taken))
 
 sub-if3 : tie.Need-sub-if3
 sub-if3 c = let l = size c in omega (arith, long c)
 
 returns-3 : tie.Need-returns-3
-returns-3 c = let on = c .before .before in let s = start (on .before .before) in let l = long on in names-length (s .args .version) (s .args .header) (now (s .args .text)) (country (on .before .before)) (size on) (λ e. c .if3 .taken (omega arith))
+returns-3 c =
+    let on = c .before .before in
+    let s = start (on .before .before) in
+    let l = long on in
+    names-length (s .args .version) (s .args .header) (now (s .args .text)) (country (on .before .before)) (size on)
+    (λ e. c .if3 .taken (omega arith))
 
 shared-slice-read-is-signer : tie.Need-shared-slice-read-is-signer
 shared-slice-read-is-signer c = let l = long (c .before .before .before) in omega arith
@@ -85,7 +104,11 @@ is-signer-requires : tie.Need-is-signer-requires
 is-signer-requires c κs = search needs
 
 returns-4 : tie.Need-returns-4
-returns-4 c = let on = c .before .before .before .before .before .before .before .before in let s = start (on .before .before) in names-signer (s .args .version) (s .args .header) (now (s .args .text)) (country (on .before .before)) (size on) (measured (c .before)) (sym (signer (c .before)) ∙ not-true _ (c .if4 .taken))
+returns-4 c =
+    let on = c .before .before .before .before .before .before .before .before in
+    let s = start (on .before .before) in
+    names-signer (s .args .version) (s .args .header) (now (s .args .text)) (country (on .before .before)) (size on) (measured (c .before))
+    (sym (signer (c .before)) ∙ not-true _ (c .if4 .taken))
 
 sub-all-reference : tie.Need-sub-all-reference
 sub-all-reference c = let l = long (c .before .before .before .before .before .before .before .before) in omega arith
@@ -100,7 +123,14 @@ all-reference-requires : tie.Need-all-reference-requires
 all-reference-requires c κs = search needs
 
 returns-5 : tie.Need-returns-5
-returns-5 c = let d = c .before .before in let on = d .before .before .before .before .before .before .before .before in let s = start (on .before .before) in c .all-reference .ensures ∙ ap (all isReference) (rest-of 4 (now (s .args .text))) ∙ names-reference (s .args .version) (s .args .header) (now (s .args .text)) (country (on .before .before)) (size on) (measured (d .before)) (sym (signer (d .before)) ∙ not-false _ (d .if4 .left))
+returns-5 c =
+    let d = c .before .before in
+    let on = d .before .before .before .before .before .before .before .before in
+    let s = start (on .before .before) in
+    c .all-reference .ensures
+    ∙ ap (all isReference) (rest-of 4 (now (s .args .text)))
+    ∙ names-reference (s .args .version) (s .args .header) (now (s .args .text)) (country (on .before .before)) (size on)
+    (measured (d .before)) (sym (signer (d .before)) ∙ not-false _ (d .if4 .left))
 
 pub are-names-spec : {M : Type 1} → statement M
 are-names-spec =

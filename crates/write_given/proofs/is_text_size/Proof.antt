@@ -28,10 +28,12 @@ enum-told-2 : tie.Need-enum-told-2
 enum-told-2 c = search needs
 
 returns-2 : tie.Need-returns-2
-returns-2 c = let on = c .before in let a = on .before .before .args in too-short (a .version) (a .size) (on .enum-told2 .given .1) (omega arith)
+returns-2 c =
+    let on = c .before in let a = on .before .before .args in too-short (a .version) (a .size) (on .enum-told2 .given .1) (omega arith)
 
 returns-3 : tie.Need-returns-3
-returns-3 c = let on = c .before in let a = on .before .before .args in in-four (a .version) (a .size) (on .enum-told2 .given .1) (omega arith)
+returns-3 c =
+    let on = c .before in let a = on .before .before .args in in-four (a .version) (a .size) (on .enum-told2 .given .1) (omega arith)
 
 pub is-text-size-spec : {M : Type 1} → statement M
 is-text-size-spec = tie.close (tie.spec enum-told returns enum-told-2 returns-2 returns-3)

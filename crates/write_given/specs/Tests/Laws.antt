@@ -20,7 +20,9 @@ use Rattle.write_given.specs.Tests.{isTextSize, areNames, areShort, areS
 -- country, sizes, signer and reference, test by test
 module _ (v : Version) (h : Header) (text : List ℕ) where
   abbrev rest : Bool
-  rest = both (both (isTextSize v (length text)) (eqb (h .length + 4) (length text))) (both (isSigner (take 4 text)) (all isReference (drop 4 text)))
+  rest =
+      both (both (isTextSize v (length text)) (eqb (h .length + 4) (length text)))
+      (both (isSigner (take 4 text)) (all isReference (drop 4 text)))
 
   pub names-country : isCountry 60 (h .country) ≡ false → false ≡ areNames v h text
   names-country e = sym (ap (λ b. both b rest) e)
@@ -30,18 +32,29 @@ module _ (v : Version) (h : Header) (text : List ℕ) where
     past-country = ap (λ b. both b rest) country
 
     pub names-size : isTextSize v (length text) ≡ false → false ≡ areNames v h text
-    names-size e = sym (past-country ∙ ap (λ b. both (both b (eqb (h .length + 4) (length text))) (both (isSigner (take 4 text)) (all isReference (drop 4 text)))) e)
+    names-size e =
+        sym
+        (past-country
+        ∙ ap (λ b. both (both b (eqb (h .length + 4) (length text))) (both (isSigner (take 4 text)) (all isReference (drop 4 text)))) e)
 
     module _ (size : isTextSize v (length text) ≡ true) where
-      past-size : areNames v h text ≡ both (eqb (h .length + 4) (length text)) (both (isSigner (take 4 text)) (all isReference (drop 4 text)))
-      past-size = past-country ∙ ap (λ b. both (both b (eqb (h .length + 4) (length text))) (both (isSigner (take 4 text)) (all isReference (drop 4 text)))) size
+      past-size :
+          areNames v h text ≡ both (eqb (h .length + 4) (length text)) (both (isSigner (take 4 text)) (all isReference (drop 4 text)))
+      past-size =
+          past-country
+          ∙ ap (λ b. both (both b (eqb (h .length + 4) (length text))) (both (isSigner (take 4 text)) (all isReference (drop 4 text)))) size
 
       pub names-length : (h .length + 4 ≡ length text → ⊥) → false ≡ areNames v h text
-      names-length e = sym (past-size ∙ ap (λ b. both b (both (isSigner (take 4 text)) (all isReference (drop 4 text)))) (ne-eqb (h .length + 4) (length text) e))
+      names-length e =
+          sym
+          (past-size
+          ∙ ap (λ b. both b (both (isSigner (take 4 text)) (all isReference (drop 4 text)))) (ne-eqb (h .length + 4) (length text) e))
 
       module _ (long : h .length + 4 ≡ length text) where
         past-length : areNames v h text ≡ both (isSigner (take 4 text)) (all isReference (drop 4 text))
-        past-length = past-size ∙ ap (λ b. both b (both (isSigner (take 4 text)) (all isReference (drop 4 text)))) (eq-eqb (h .length + 4) (length text) long)
+        past-length =
+            past-size
+            ∙ ap (λ b. both b (both (isSigner (take 4 text)) (all isReference (drop 4 text)))) (eq-eqb (h .length + 4) (length text) long)
 
         pub names-signer : isSigner (take 4 text) ≡ false → false ≡ areNames v h text
         names-signer e = sym (past-length ∙ ap (λ b. both b (all isReference (drop 4 text))) e)

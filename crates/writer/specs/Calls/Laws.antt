@@ -65,10 +65,12 @@ module _ (g : Given) (room : ℕ) where
                   unfolding writingAs
                   writing-no-room h =
                       let seal = publish (contentAs g v) in
-                      past20 ∙ rw (names, days, last, table, values, signature, le-leb (length seal) 4096 size, lt-leb (length seal) room h) refl
+                      past20
+                      ∙ rw (names, days, last, table, values, signature, le-leb (length seal) 4096 size, lt-leb (length seal) room h) refl
 
                   pub writing-done : length (publish (contentAs g v)) ≤ room → writing g room ≡ done (publish (contentAs g v))
                   unfolding writingAs
                   writing-done h =
                       let seal = publish (contentAs g v) in
-                      past20 ∙ rw (names, days, last, table, values, signature, le-leb (length seal) 4096 size, le-leb (length seal) room h) refl
+                      past20
+                      ∙ rw (names, days, last, table, values, signature, le-leb (length seal) 4096 size, le-leb (length seal) room h) refl

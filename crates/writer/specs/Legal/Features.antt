@@ -47,20 +47,28 @@ picked false e = refl
 row-is : (n : ℕ) (before : List Row) (r : Row) → isRow n before r ≡ true → (r .tag ≤ 254) × (Unused (r .tag) (tags before) × Inside n r)
 row-is n before r e =
     let p = both-true (leb (r .tag) 254) (both (pick (used (r .tag) before) false true) (leb (r .place + r .size) n)) e in
-    let q = both-true (pick (used (r .tag) before) false true) (leb (r .place + r .size) n) (p .1) in
-    (leb-true (r .tag) 254 (p .0), (unused-of (r .tag) before (picked (used (r .tag) before) (q .0)), leb-true (r .place + r .size) n (q .1)))
+    let q = both-true (pick (used (r .tag) before) false true) (leb (r .place + r .size) n) (p .1) in (
+      leb-true (r .tag) 254 (p .0),
+      (unused-of (r .tag) before (picked (used (r .tag) before) (q .0)), leb-true (r .place + r .size) n (q .1)),
+    )
 
 row-passes : (n : ℕ) (before : List Row) (r : Row) → r .tag ≤ 254 → Unused (r .tag) (tags before) → Inside n r → isRow n before r ≡ true
 row-passes n before r h u i =
     both-are (leb (r .tag) 254) (both (pick (used (r .tag) before) false true) (leb (r .place + r .size) n)) (le-leb (r .tag) 254 h)
-    (both-are (pick (used (r .tag) before) false true) (leb (r .place + r .size) n) (ap (λ b. pick b false true) (used-none (r .tag) before u)) (le-leb (r .place + r .size) n i))
+    (both-are (pick (used (r .tag) before) false true) (leb (r .place + r .size) n)
+    (ap (λ b. pick b false true) (used-none (r .tag) before u)) (le-leb (r .place + r .size) n i))
 
 module _ (values : List ℕ) where
   -- a value inside has its row's size
   value-size : (r : Row) → Inside (length values) r → length (featureOf values r .value) ≡ r .size
   value-size r h = taken-size (r .size) (r .place) values h
 
-  pub rows-legal : (v : Version) (before rows : List Row) → Bytes values → areRows (length values) before rows ≡ true → (areSized v rows ≡ true) → LegalFeatures v (tags before) (map (featureOf values) rows) × All (Inside (length values)) rows
+  pub rows-legal :
+      (v : Version) (before rows : List Row) →
+      Bytes values →
+      areRows (length values) before rows ≡ true →
+      (areSized v rows ≡ true) →
+      LegalFeatures v (tags before) (map (featureOf values) rows) × All (Inside (length values)) rows
   unfolding areRows
   rows-legal v before [] bytes e s = (tt, tt)
   rows-legal v before (r ∷ rows) bytes e s =
@@ -68,10 +76,22 @@ module _ (values : List ℕ) where
       let p = both-true (isRow n before r) (areRows n (r ∷ before) rows) e in
       let q = row-is n before r (p .0) in
       let t = sized-head v r rows s in
-      let ih = rows-legal v (r ∷ before) rows bytes (p .1) (t .1) in
-      ((q .0, q .1 .0, subst (ValueSize v) (sym (value-size r (q .1 .1))) (t .0), bytes-take (r .size) (drop (r .place) values) (bytes-drop (r .place) values bytes), ih .0), (q .1 .1, ih .1))
+      let ih = rows-legal v (r ∷ before) rows bytes (p .1) (t .1) in (
+        (
+          q .0,
+          q .1 .0,
+          subst (ValueSize v) (sym (value-size r (q .1 .1))) (t .0),
+          bytes-take (r .size) (drop (r .place) values) (bytes-drop (r .place) values bytes),
+          ih .0,
+        ),
+        (q .1 .1, ih .1),
+      )
 
-  pub legal-rows : (v : Version) (before rows : List Row) → LegalFeatures v (tags before) (map (featureOf values) rows) → All (Inside (length values)) rows → (areRows (length values) before rows ≡ true) × (areSized v rows ≡ true)
+  pub legal-rows :
+      (v : Version) (before rows : List Row) →
+      LegalFeatures v (tags before) (map (featureOf values) rows) →
+      All (Inside (length values)) rows →
+      (areRows (length values) before rows ≡ true) × (areSized v rows ≡ true)
   unfolding areRows
   legal-rows v before [] l i = (refl, sized-none v)
   legal-rows v before (r ∷ rows) l i =

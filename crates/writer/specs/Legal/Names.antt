@@ -65,7 +65,8 @@ country-passes (a ∷ b ∷ c ∷ []) l =
     let two = both (isLetter b) (either (isLetter c) (eqb c 60)) in
     let none = both (eqb b 60) (eqb c 60) in
     let third : either (isLetter c) (eqb c 60) ≡ true =
-    ⊎-elim (λ x. either-left (isLetter c) (eqb c 60) (letter c x)) (λ f. either-right (isLetter c) (eqb c 60) (eq-eqb c 60 f)) (l .letters .1 .1 .0) in
+    ⊎-elim (λ x. either-left (isLetter c) (eqb c 60) (letter c x)) (λ f. either-right (isLetter c) (eqb c 60) (eq-eqb c 60 f))
+    (l .letters .1 .1 .0) in
     both-are (isLetter a) (either two none) (letter a (l .first))
     (⊎-elim
     (λ x. either-left two none (both-are (isLetter b) (either (isLetter c) (eqb c 60)) (letter b x) third))

@@ -36,12 +36,17 @@ pub record Done (g : Given) (room : ℕ) (s : List ℕ) : Type 0 where
   pub passes : Passes version g room
   pub form-is : publish (contentAs g version) ≡ s
 
-passes-as : (g : Given) (room : ℕ) (s : List ℕ) (v : Version) → versionOf (g .header .version) ≡ some v → writingAs g room v ≡ done s → Done g room s
+passes-as :
+    (g : Given) (room : ℕ) (s : List ℕ) (v : Version) →
+    versionOf (g .header .version) ≡ some v →
+    writingAs g room v ≡ done s →
+    Done g room s
 unfolding writingAs
 passes-as g room s v version e =
     let seal = publish (contentAs g v) in
     let above : (n : ℕ) → 0 < suc n = λ n. omega arith in
-    let p = done-passed (testsAs g room v) (done seal) s (above 20, (above 21, (above 22, (above 23, (above 24, (above 25, (above 26, (above 27, tt)))))))) e in
+    let p = done-passed (testsAs g room v) (done seal) s
+    (above 20, (above 21, (above 22, (above 23, (above 24, (above 25, (above 26, (above 27, tt)))))))) e in
     let q = p .0 in
     record {
       version = v;
@@ -59,7 +64,11 @@ passes-as g room s v version e =
       form-is = ap (λ o. o .written) (p .1);
     }
 
-by-version : (g : Given) (room : ℕ) (s : List ℕ) (o : Option Version) → versionOf (g .header .version) ≡ o → inVersion o (writingAs g room) ≡ done s → Done g room s
+by-version :
+    (g : Given) (room : ℕ) (s : List ℕ) (o : Option Version) →
+    versionOf (g .header .version) ≡ o →
+    inVersion o (writingAs g room) ≡ done s →
+    Done g room s
 by-version g room s none stated e = let z : _≡_ {A = ℕ} 20 0 = ap (λ o. o .number) e in absurd (omega arith)
 by-version g room s (some v) stated e = passes-as g room s v stated e
 
@@ -72,5 +81,10 @@ unfolding writing writingAs
 passes-done v g room p =
     let seal = publish (contentAs g v) in
     ap (λ o. inVersion o (writingAs g room)) (p .version)
-    ∙ all-passed refused (testsAs g room v) (done seal)
-    (p .names, (p .days, (p .last, (p .table, (p .sizes, (p .signature, (le-leb (length seal) 4096 (p .size), (le-leb (length seal) room (p .fits), tt))))))))
+    ∙ all-passed refused (testsAs g room v) (done seal) (
+      p .names,
+      (
+        p .days,
+        (p .last, (p .table, (p .sizes, (p .signature, (le-leb (length seal) 4096 (p .size), (le-leb (length seal) room (p .fits), tt)))))),
+      ),
+    )

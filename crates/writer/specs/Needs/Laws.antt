@@ -67,7 +67,9 @@ country-text a b c e =
 pub signer-text : (t : List ℕ) → isSigner t ≡ true → Text t
 signer-text t e =
     let b = both-true (all isLetter (take 2 t)) _ e in
-    subst Text (take-append-drop 2 t) (all-append InChart (take 2 t) (drop 2 t) (all-text isLetter letter-text (take 2 t) (b .0)) (all-text isLetterOrDigit letter-or-digit-text (drop 2 t) (b .1)))
+    subst Text (take-append-drop 2 t)
+    (all-append InChart (take 2 t) (drop 2 t) (all-text isLetter letter-text (take 2 t) (b .0))
+    (all-text isLetterOrDigit letter-or-digit-text (drop 2 t) (b .1)))
 
 pub reference-text : (v : Version) (t : List ℕ) → Named v t → Text (drop 4 t)
 reference-text v t n = text-of (drop 4 t) (all-of ReferenceCharacter isReference reference-of (drop 4 t) (n .reference))

@@ -26,7 +26,9 @@ size-none : (v : Version) → rowsSize v [] ≡ 0
 unfolding rowsSize
 size-none v = refl
 
-size-cons : (v : Version) (r : Row) (rows : List Row) → rowsSize v (r ∷ rows) ≡ 1 + length (lengthOf v (r .size)) + r .size + rowsSize v rows
+size-cons :
+    (v : Version) (r : Row) (rows : List Row) →
+    rowsSize v (r ∷ rows) ≡ 1 + length (lengthOf v (r .size)) + r .size + rowsSize v rows
 unfolding rowsSize
 size-cons v r rows = refl
 

@@ -1,4 +1,5 @@
--- `c40::decode::full` meets its contract: a pair that carries something and is not the last carries three characters, so its number is in range.
+-- `c40::decode::full` meets its contract: a pair that carries something and is not the last carries three characters,
+-- so its number is in range.
 -- Assumes nothing.
 use borrow.Author.Needs.{needs}
 use native.Mathlib.Omega.{arith}

@@ -1,4 +1,5 @@
--- `c40::decode::judge` meets its contract. The loop's invariant: so many characters stand before the place, and the rest is still to be decoded.
+-- `c40::decode::judge` meets its contract. The loop's invariant: so many characters stand before the place, and the
+-- rest is still to be decoded.
 -- Assumes nothing.
 use borrow.Author.Needs.{needs}
 use native.Mathlib.Omega.{arith}

@@ -24,11 +24,18 @@ abbrev μ-loop : tie.MeasureT-loop
 μ-loop chart bytes out₀ n i₀ at₀ out i at = length bytes - i
 
 -- at a pair that is not the last: it carries three characters, which there is room for
-inner : (c : tie.In-loop Inv-loop μ-loop) → let s = now (c .before .before .before .before .args .bytes) in Inner s (c .before .loop .i) (c .before .loop .inv .3) (textOf (decode 0 s))
+inner :
+    (c : tie.In-loop Inv-loop μ-loop) →
+    let s =
+    now (c .before .before .before .before .args .bytes) in Inner s (c .before .loop .i) (c .before .loop .inv .3) (textOf (decode 0 s))
 inner c = sofar-inner _ _ _ (c .before .loop .inv .4) _ (c .before .before .before .before .pre .is-text) (omega arith)
 
 -- at the last pair: there is room for what it carries, and the text then is whole
-last : (c : tie.Then1 Inv-loop μ-loop) → let s = now (c .before .before .before .before .before .args .bytes) in Last s (c .before .before .loop .i) (c .before .before .loop .inv .3) (textOf (decode 0 s))
+last :
+    (c : tie.Then1 Inv-loop μ-loop) →
+    let s =
+    now (c .before .before .before .before .before .args .bytes) in Last s (c .before .before .loop .i) (c .before .before .loop .inv .3)
+    (textOf (decode 0 s))
 last c = sofar-last _ _ _ (c .before .before .loop .inv .4) _ (c .before .before .before .before .before .pre .is-text) (omega arith)
 
 loop-holds : tie.Need-loop-holds Inv-loop μ-loop
@@ -78,8 +85,10 @@ loop-again c =
       omega arith,
       omega (arith, inv .5 .many),
       inv .3 ++ charsOf (full .result),
-      subst (λ p. Sofar (now (on .before .before .before .before .args .bytes)) (on .before .loop .i + 2) (inv .3 ++ charsOf p)) (sym (full .ensures)) (inner on .next),
-      held-more _ _ _ _ (inv .5) (charsOf (full .result)) _ _ (c .before .before .put-pair .ensures) (omega (arith, inner on .three)) (omega (arith, inv .5 .many)),
+      subst (λ p. Sofar (now (on .before .before .before .before .args .bytes)) (on .before .loop .i + 2) (inv .3 ++ charsOf p))
+          (sym (full .ensures)) (inner on .next),
+      held-more _ _ _ _ (inv .5) (charsOf (full .result)) _ _ (c .before .before .put-pair .ensures) (omega (arith, inner on .three))
+          (omega (arith, inv .5 .many)),
     )
 
 shared-slice-read-pair-of : tie.Need-shared-slice-read-pair-of Inv-loop μ-loop
@@ -117,7 +126,8 @@ returns c =
     let is = by-chart _ _ _ (on .before .before .before .before .before .pre .is-chart) (pair .ensures) in
     let many = ap (λ p. length (charsOf p)) is in
     let room = last on .room in
-    let held = held-more _ _ _ _ (inv .5) (charsOf (pair .result)) _ _ (c .before .before .put-pair2 .ensures) refl (omega (arith, many, inv .5 .many)) in
+    let held = held-more _ _ _ _ (inv .5) (charsOf (pair .result)) _ _ (c .before .before .put-pair2 .ensures) refl
+    (omega (arith, many, inv .5 .many)) in
     held .is ∙ ap (λ p. over (now (on .before .before .before .before .before .args .out)) 0 (inv .3 ++ charsOf p)) is
     ∙ ap (over (now (on .before .before .before .before .before .args .out)) 0) (sym (last on .whole))
 
@@ -129,7 +139,9 @@ same-length-2 c =
 returns-2 : tie.Need-returns-2 Inv-loop μ-loop
 returns-2 c =
     let inv = c .before .before .loop .inv in
-    inv .5 .is ∙ ap (λ d. over (now (c .before .before .before .before .before .args .out)) 0 (textOf d)) (sym (sofar-end _ _ _ (inv .4) (omega arith)))
+    inv .5 .is
+    ∙ ap (λ d. over (now (c .before .before .before .before .before .args .out)) 0 (textOf d))
+    (sym (sofar-end _ _ _ (inv .4) (omega arith)))
 
 pub put-spec : {M : Type 1} → statement M
 put-spec =

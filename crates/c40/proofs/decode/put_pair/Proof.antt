@@ -68,7 +68,8 @@ returns : tie.Need-returns
 returns c =
     let a = c .before .before .before .args in
     let g = c .before .pair .given .0 in
-    over-three (now (a .out)) (a .at) (g .0) (g .1 .0) (g .1 .1 .0) (three c) ∙ ap (λ p. over (now (a .out)) (a .at) (charsOf p)) (sym (c .before .pair .given .1))
+    over-three (now (a .out)) (a .at) (g .0) (g .1 .0) (g .1 .1 .0) (three c)
+    ∙ ap (λ p. over (now (a .out)) (a .at) (charsOf p)) (sym (c .before .pair .given .1))
 
 same-length-2 : tie.Need-same-length-2
 same-length-2 c = search needs
@@ -77,7 +78,8 @@ returns-2 : tie.Need-returns-2
 returns-2 c =
     let a = c .before .before .before .args in
     let g = c .before .pair2 .given .0 in
-    over-two (now (a .out)) (a .at) (g .0) (g .1 .0) (two c) ∙ ap (λ p. over (now (a .out)) (a .at) (charsOf p)) (sym (c .before .pair2 .given .1))
+    over-two (now (a .out)) (a .at) (g .0) (g .1 .0) (two c)
+    ∙ ap (λ p. over (now (a .out)) (a .at) (charsOf p)) (sym (c .before .pair2 .given .1))
 
 same-length-3 : tie.Need-same-length-3
 same-length-3 c = search needs
@@ -86,7 +88,8 @@ returns-3 : tie.Need-returns-3
 returns-3 c =
     let a = c .before .before .before .args in
     let g = c .before .pair3 .given .0 in
-    set-over (now (a .out)) (a .at) (g .0) (omega (arith, one c)) ∙ ap (λ p. over (now (a .out)) (a .at) (charsOf p)) (sym (c .before .pair3 .given .1))
+    set-over (now (a .out)) (a .at) (g .0) (omega (arith, one c))
+    ∙ ap (λ p. over (now (a .out)) (a .at) (charsOf p)) (sym (c .before .pair3 .given .1))
 
 returns-4 : tie.Need-returns-4
 returns-4 c =

@@ -1,4 +1,5 @@
--- `c40::encode::put` meets its contract. The loop's invariant: these bytes stand in `out`, and what is left of the text is still to be published.
+-- `c40::encode::put` meets its contract. The loop's invariant: these bytes stand in `out`, and what is left of the text
+-- is still to be published.
 -- Assumes nothing.
 use borrow.Author.Needs.{needs}
 use native.Mathlib.Omega.{arith}
@@ -21,27 +22,43 @@ use Rattle.c40.proofs.encode.put.Tie as tie
 
 abbrev Inv-loop : tie.InvT-loop
 Inv-loop text out₀ n i₀ at₀ out i at =
-    (i ≤ length text) × (i % 3 ≡ 0) × (at ≡ 2 * (i / 3)) × (before : List ℕ) × (publish text ≡ before ++ publish (drop i text)) × Held out₀ out at before
+    (i ≤ length text)
+    × (i % 3 ≡ 0)
+    × (at ≡ 2 * (i / 3))
+    × (before : List ℕ)
+    × (publish text ≡ before ++ publish (drop i text))
+    × Held out₀ out at before
 
 abbrev μ-loop : tie.MeasureT-loop
 μ-loop text out₀ n i₀ at₀ out i at = length text - i
 
 -- where a character is left there is room for two bytes
-room : (c : tie.At-loop Inv-loop μ-loop) → c .loop .i < length (now (c .before .before .before .args .text)) → (c .loop .at + 2 ≤ length (now (c .before .before .before .args .out))) × (length (c .loop .out) ≡ length (now (c .before .before .before .args .out)))
+room :
+    (c : tie.At-loop Inv-loop μ-loop) →
+    c .loop .i < length (now (c .before .before .before .args .text)) →
+    (c .loop .at + 2 ≤ length (now (c .before .before .before .args .out)))
+    × (length (c .loop .out) ≡ length (now (c .before .before .before .args .out)))
 room c h =
     let fits : c .loop .at + 2 ≤ length (now (c .before .before .before .args .out)) = omega (arith, c .before .before .before .pre .1) in
     (fits, held-length _ _ _ _ (c .loop .inv .5) (omega arith))
 
 -- two bytes more, which are the form of what stands at the place
-module _ (c : tie.At-loop Inv-loop μ-loop) (h : c .loop .i < length (now (c .before .before .before .args .text))) (number : ℕ) (after : List ℕ) (put : after ≡ over (c .loop .out) (c .loop .at) (be 2 number)) where
+module _ (c : tie.At-loop Inv-loop μ-loop) (h : c .loop .i < length (now (c .before .before .before .args .text))) (number : ℕ)
+    (after : List ℕ) (put : after ≡ over (c .loop .out) (c .loop .at) (be 2 number)) where
   more : Held (now (c .before .before .before .args .out)) after (c .loop .at + 2) (c .loop .inv .3 ++ be 2 number)
   more = held-more _ _ _ _ (c .loop .inv .5) (be 2 number) after _ put (ap (λ k. c .loop .at + k) (length-be 2 number)) (room c h .0)
 
-  ends : publish (drop (c .loop .i) (now (c .before .before .before .args .text))) ≡ be 2 number → after ≡ over (now (c .before .before .before .args .out)) 0 (publish (now (c .before .before .before .args .text)))
-  ends e = more .is ∙ ap (over (now (c .before .before .before .args .out)) 0) (ap (λ p. c .loop .inv .3 ++ p) (sym e) ∙ sym (c .loop .inv .4))
+  ends :
+      publish (drop (c .loop .i) (now (c .before .before .before .args .text))) ≡ be 2 number →
+      after ≡ over (now (c .before .before .before .args .out)) 0 (publish (now (c .before .before .before .args .text)))
+  ends e =
+      more .is ∙ ap (over (now (c .before .before .before .args .out)) 0) (ap (λ p. c .loop .inv .3 ++ p) (sym e) ∙ sym (c .loop .inv .4))
 
 -- a character that is left is at most 90
-low : (c : tie.At-loop Inv-loop μ-loop) → c .loop .i < length (now (c .before .before .before .args .text)) → getD (now (c .before .before .before .args .text)) (c .loop .i) 0 < 91
+low :
+    (c : tie.At-loop Inv-loop μ-loop) →
+    c .loop .i < length (now (c .before .before .before .args .text)) →
+    getD (now (c .before .before .before .args .text)) (c .loop .i) 0 < 91
 low c h = char-below _ (all-at InChart 0 (now (c .before .before .before .args .text)) (c .before .before .before .pre .0) (c .loop .i) h)
 
 loop-holds : tie.Need-loop-holds Inv-loop μ-loop
@@ -144,7 +161,8 @@ returns c =
     let on = c .before .before .before .before .before .before .before .before .before in
     let text = now (on .before .before .before .args .text) in
     let packed = c .before .before .before .before .number-of-two in
-    ends on (omega arith) (packed .result) _ (c .before .before .put-number2 .ensures) (left-two text (on .loop .i) (omega arith) ∙ ap (be 2) (sym (packed .ensures .0)))
+    ends on (omega arith) (packed .result) _ (c .before .before .put-number2 .ensures)
+    (left-two text (on .loop .i) (omega arith) ∙ ap (be 2) (sym (packed .ensures .0)))
 
 same-length-2 : tie.Need-same-length-2 Inv-loop μ-loop
 same-length-2 c =

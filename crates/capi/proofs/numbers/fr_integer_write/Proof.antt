@@ -25,8 +25,10 @@ returns c =
     let s = c .before .before .before .before .before .before in
     let w = c .before .before .before .write .ensures in
     let e = toZ-ofZ (s .fits .value) in
-    let out = now (s .args .out) in
-    (c .integer-written .ensures ∙ ap filledOf (w .0 ∙ ap (λ v. told (writing v (length out))) e), w .1 ∙ ap (λ v. filled (writing v (length out)) out) e)
+    let out = now (s .args .out) in (
+      c .integer-written .ensures ∙ ap filledOf (w .0 ∙ ap (λ v. told (writing v (length out))) e),
+      w .1 ∙ ap (λ v. filled (writing v (length out)) out) e,
+    )
 
 pub fr-integer-write-spec : {M : Type 1} → statement M
 fr-integer-write-spec =

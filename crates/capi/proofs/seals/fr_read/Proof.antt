@@ -19,7 +19,10 @@ same-length-2 : tie.Need-same-length-2
 same-length-2 c = search needs
 
 returns : tie.Need-returns
-returns c = (c .of .ensures ∙ ap readingOf (c .before .before .before .before .before .read .ensures .0), c .before .before .before .before .before .read .ensures .1)
+returns c = (
+  c .of .ensures ∙ ap readingOf (c .before .before .before .before .before .read .ensures .0),
+  c .before .before .before .before .before .read .ensures .1,
+)
 
 pub fr-read-spec : {M : Type 1} → statement M
 fr-read-spec = tie.close (tie.spec read-requires of-requires same-length same-length-2 returns)

@@ -14,7 +14,9 @@ use Rattle.capi.proofs.seals.fr_write.Tie as tie
 
 -- what is written of what was handed over, under a header
 abbrev outcome : tie.Start → Header → Outcome
-outcome s h = writing (given h (now (s .args .text)) (now (s .args .rows)) (now (s .args .values)) (now (s .args .signature))) (length (now (s .args .out)))
+outcome s h =
+    writing (given h (now (s .args .text)) (now (s .args .rows)) (now (s .args .values)) (now (s .args .signature)))
+    (length (now (s .args .out)))
 
 inner-requires : tie.Need-inner-requires
 inner-requires c κs = search needs
@@ -32,8 +34,10 @@ returns : tie.Need-returns
 returns c =
     let i = c .before .before .before .before .before in
     let w = c .before .before .before .write .ensures in
-    let s = i .before .before .before .before .before .before in
-    (c .written .ensures ∙ ap filledOf (w .0 ∙ ap (λ h. told (outcome s h)) (i .inner .ensures)), w .1 ∙ ap (λ h. filled (outcome s h) (now (s .args .out))) (i .inner .ensures))
+    let s = i .before .before .before .before .before .before in (
+      c .written .ensures ∙ ap filledOf (w .0 ∙ ap (λ h. told (outcome s h)) (i .inner .ensures)),
+      w .1 ∙ ap (λ h. filled (outcome s h) (now (s .args .out))) (i .inner .ensures),
+    )
 
 pub fr-write-spec : {M : Type 1} → statement M
 fr-write-spec =

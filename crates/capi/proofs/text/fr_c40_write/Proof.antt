@@ -16,7 +16,8 @@ same-length : tie.Need-same-length
 same-length c = search needs
 
 returns : tie.Need-returns
-returns c = (c .text-written .ensures ∙ ap filledOf (c .before .before .before .write .ensures .0), c .before .before .before .write .ensures .1)
+returns c =
+    (c .text-written .ensures ∙ ap filledOf (c .before .before .before .write .ensures .0), c .before .before .before .write .ensures .1)
 
 pub fr-c40-write-spec : {M : Type 1} → statement M
 fr-c40-write-spec = tie.close (tie.spec write-requires text-written-requires same-length returns)

@@ -31,7 +31,9 @@ put-requires : tie.Need-put-requires
 put-requires c κs = search needs
 
 slice-aggregate-put-bytes : tie.Need-slice-aggregate-put-bytes
-slice-aggregate-put-bytes c = let start = c .before .before .before .before .before .before .before .before .before .before in sym (length-take-le (start .args .count) (now (start .args .buffer)) (omega arith))
+slice-aggregate-put-bytes c =
+    let start = c .before .before .before .before .before .before .before .before .before .before in
+    sym (length-take-le (start .args .count) (now (start .args .buffer)) (omega arith))
 
 put-bytes-requires : tie.Need-put-bytes-requires
 put-bytes-requires c κs = search needs

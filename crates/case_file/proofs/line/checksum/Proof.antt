@@ -13,7 +13,8 @@ use Rattle.case_file.proofs.line.checksum.Statement.{statement}
 use Rattle.case_file.proofs.line.checksum.Tie as tie
 
 abbrev Inv-loop : tie.InvT-loop
-Inv-loop bytes i₀ tail₀ sum₀ i tail sum = (i ≤ length bytes) × (tail ≡ total (drop i bytes) % 65521) × (sum ≡ weighted 1 (drop i bytes) % 65521)
+Inv-loop bytes i₀ tail₀ sum₀ i tail sum =
+    (i ≤ length bytes) × (tail ≡ total (drop i bytes) % 65521) × (sum ≡ weighted 1 (drop i bytes) % 65521)
 
 abbrev μ-loop : tie.MeasureT-loop
 μ-loop bytes i₀ tail₀ sum₀ i tail sum = i

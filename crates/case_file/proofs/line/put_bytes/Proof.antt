@@ -69,8 +69,10 @@ returns-2 c =
     let sum = c .before .before in
     let word = c .before .before .before .before .before .before .before in
     let last = c .before .before .before .before .before .before .before .before .before .before .before .before in
-    let dots = c .before .before .before .before .before .before .before .before .before .before .before .before .before .before .before .before .before in
-    let first = c .before .before .before .before .before .before .before .before .before .before .before .before .before .before .before .before .before .before .before .before .before .before in
+    let dots = c .before .before .before .before .before .before .before .before .before .before .before .before .before .before
+    .before .before .before in
+    let first = c .before .before .before .before .before .before .before .before .before .before .before .before .before .before
+    .before .before .before .before .before .before .before .before in
     rw (lt-leb _ _ (first .before .before .before .if1 .left), ← sum .before .checksum .ensures)
     (put-more _ _ _ _ _ _ _ _ (first .put-hex2 .ensures) (first .put-hex2 .kept .0)
     (put-more _ _ _ _ _ _ _ _ (dots .put-text .ensures) (dots .put-text .kept .0)

@@ -44,8 +44,12 @@ loop-again : tie.Need-loop-again Inv-loop μ-loop
 loop-again c =
     let word = c .before .before in
     let space = word .before .before .before .before .before in
-    let on = space .before .before .before in
-    (omega arith, word .put-number .kept .0 ∙ space .put .kept .0 ∙ on .loop .inv .1, words-turn (now (on .before .before .before .args .numbers)) _ _ (on .loop .i) (omega arith) _ _ (on .loop .inv .1) _ _ (space .put .kept .0) _ _ (on .loop .inv .2) (space .put .ensures) (word .put-number .ensures))
+    let on = space .before .before .before in (
+      omega arith,
+      word .put-number .kept .0 ∙ space .put .kept .0 ∙ on .loop .inv .1,
+      words-turn (now (on .before .before .before .args .numbers)) _ _ (on .loop .i) (omega arith) _ _ (on .loop .inv .1) _ _
+          (space .put .kept .0) _ _ (on .loop .inv .2) (space .put .ensures) (word .put-number .ensures),
+    )
 
 same-length : tie.Need-same-length Inv-loop μ-loop
 same-length c = c .before .loop .inv .1

@@ -25,7 +25,8 @@ shared-slice-read-if1 c = omega arith
 returns : tie.Need-returns Inv-loop μ-loop
 returns c =
     let turn = c .before .before .before in
-    sym (turn .loop .inv ∙ all-not (turn .before .args .buffer .now) (turn .loop .i) (turn .before .args .filling) (omega arith) (c .if1 .taken))
+    sym
+    (turn .loop .inv ∙ all-not (turn .before .args .buffer .now) (turn .loop .i) (turn .before .args .filling) (omega arith) (c .if1 .taken))
 
 add-i : tie.Need-add-i Inv-loop μ-loop
 add-i c = omega arith
@@ -36,7 +37,8 @@ loop-less c = omega arith
 loop-again : tie.Need-loop-again Inv-loop μ-loop
 loop-again c =
     let turn = c .before .before .before in
-    rw add-one (turn .loop .inv ∙ all-turn (turn .before .args .buffer .now) (turn .loop .i) (turn .before .args .filling) (omega arith) (c .if1 .left))
+    rw add-one
+    (turn .loop .inv ∙ all-turn (turn .before .args .buffer .now) (turn .loop .i) (turn .before .args .filling) (omega arith) (c .if1 .left))
 
 returns-2 : tie.Need-returns-2 Inv-loop μ-loop
 returns-2 c =

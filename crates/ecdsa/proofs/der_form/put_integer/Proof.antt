@@ -19,7 +19,9 @@ slice-write-out : tie.Need-slice-write-out
 slice-write-out c = search needs
 
 cast-out : tie.Need-cast-out
-cast-out c = let r = c .before .before .before .pre in let a = c .before .before .before .args in omega (arith, content-small (now (a .number)) (a .start) (r .small) (r .inside))
+cast-out c =
+    let r = c .before .before .before .pre in
+    let a = c .before .before .before .args in omega (arith, content-small (now (a .number)) (a .start) (r .small) (r .inside))
 
 add-out : tie.Need-add-out
 add-out c = search needs
@@ -53,17 +55,29 @@ returns c =
     let on = c .before .before .before .before .before in
     let start = on .before .before .before .before .before in
     let a = start .args in
-    let part = take-all (length (now (a .number)) - a .start) (drop (a .start) (now (a .number))) (omega (arith, length-drop (a .start) (now (a .number)))) in
+    let part = take-all (length (now (a .number)) - a .start) (drop (a .start) (now (a .number)))
+    (omega (arith, length-drop (a .start) (now (a .number)))) in
     let size = on .before .before .size-from in (
-      c .before .before .copy .ensures .0 ∙ place-low _ _ (now (a .out)) (a .at) (start .pre) (size .result) (size .ensures) (on .if1 .taken) _ part,
-      c .before .before .copy .ensures .1 ∙ put-low _ _ (now (a .out)) (a .at) (start .pre) (size .result) (size .ensures) (on .if1 .taken) _ part,
+      c .before .before .copy .ensures .0
+          ∙ place-low _ _ (now (a .out)) (a .at) (start .pre) (size .result) (size .ensures) (on .if1 .taken) _ part,
+      c .before .before .copy .ensures .1
+          ∙ put-low _ _ (now (a .out)) (a .at) (start .pre) (size .result) (size .ensures) (on .if1 .taken) _ part,
     )
 
 add-out-2 : tie.Need-add-out-2
 add-out-2 c = search needs
 
 slice-write-out-3 : tie.Need-slice-write-out-3
-slice-write-out-3 c = let r = c .before .before .before .before .before .pre in simp length-set (omega (arith, r .room, size-high (now (c .before .before .before .before .before .args .number)) (c .before .before .before .before .before .args .start) (c .if1 .left), r .inside))
+slice-write-out-3 c =
+    let r = c .before .before .before .before .before .pre in
+    simp length-set
+    (omega (
+      arith,
+      r .room,
+      size-high (now (c .before .before .before .before .before .args .number)) (c .before .before .before .before .before .args .start)
+          (c .if1 .left),
+      r .inside,
+    ))
 
 sub-copy-2 : tie.Need-sub-copy-2
 sub-copy-2 c = search needs
@@ -88,10 +102,13 @@ returns-2 c =
     let on = c .before .before .before .before .before in
     let start = on .before .before .before .before .before in
     let a = start .args in
-    let part = take-all (length (now (a .number)) - a .start) (drop (a .start) (now (a .number))) (omega (arith, length-drop (a .start) (now (a .number)))) in
+    let part = take-all (length (now (a .number)) - a .start) (drop (a .start) (now (a .number)))
+    (omega (arith, length-drop (a .start) (now (a .number)))) in
     let size = on .before .before .size-from in (
-      c .before .before .copy2 .ensures .0 ∙ place-high _ _ (now (a .out)) (a .at) (start .pre) (size .result) (size .ensures) (on .if1 .left) _ part,
-      c .before .before .copy2 .ensures .1 ∙ put-high _ _ (now (a .out)) (a .at) (start .pre) (size .result) (size .ensures) (on .if1 .left) _ part,
+      c .before .before .copy2 .ensures .0
+          ∙ place-high _ _ (now (a .out)) (a .at) (start .pre) (size .result) (size .ensures) (on .if1 .left) _ part,
+      c .before .before .copy2 .ensures .1
+          ∙ put-high _ _ (now (a .out)) (a .at) (start .pre) (size .result) (size .ensures) (on .if1 .left) _ part,
     )
 
 pub put-integer-spec : {M : Type 1} → statement M

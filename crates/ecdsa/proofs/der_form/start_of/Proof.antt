@@ -35,7 +35,8 @@ loop-less : tie.Need-loop-less Inv-loop μ-loop
 loop-less c = omega arith
 
 loop-again : tie.Need-loop-again Inv-loop μ-loop
-loop-again c = let inv = c .before .before .before .loop .inv in (omega arith, start-more _ _ (inv .0) (inv .1) (omega arith) (c .if1 .left))
+loop-again c =
+    let inv = c .before .before .before .loop .inv in (omega arith, start-more _ _ (inv .0) (inv .1) (omega arith) (c .if1 .left))
 
 returns-2 : tie.Need-returns-2 Inv-loop μ-loop
 returns-2 c = let inv = c .before .loop .inv in (inv .0, start-last _ _ (inv .0) (inv .1) (omega arith))

@@ -13,7 +13,8 @@ use denote.Ref.{now}
 use lib.ListN.{length, getD}
 use Rattle.der.specs.Content.{strict}
 use Rattle.ecdsa.specs.Strict.{part, lead}
-use Rattle.ecdsa.specs.Strict.Laws.{lead-one, lead-not, lead-short, strict-some, length-part, digits-not-strict, digits-negative, digits-too-big, digits-is}
+use Rattle.ecdsa.specs.Strict.Laws.{lead-one, lead-not, lead-short, strict-some, length-part, digits-not-strict, digits-negative}
+use Rattle.ecdsa.specs.Strict.Laws.{digits-too-big, digits-is}
 use Rattle.ecdsa.specs.declared.raw_form.Number.the-variants.{Digits}
 use Rattle.ecdsa.proofs.raw_form.digits_in.Statement.{statement}
 use Rattle.ecdsa.proofs.raw_form.digits_in.Tie as tie
@@ -38,7 +39,8 @@ good-of size content is many = record {
 good : (c : tie.Else1) → let a = c .before .before .before .before .args in Good (a .end - a .start) (part (a .start) (a .end) (now (a .t)))
 good c =
     let start = c .before .before .before .before in
-    good-of _ _ (sym (c .before .is-shortest .ensures) ∙ not-false _ (c .if1 .left)) (length-part (start .args .start) (start .args .end) (now (start .args .t)) (start .pre .1))
+    good-of _ _ (sym (c .before .is-shortest .ensures) ∙ not-false _ (c .if1 .left))
+    (length-part (start .args .start) (start .args .end) (now (start .args .t)) (start .pre .1))
 
 sub-content : tie.Need-sub-content
 sub-content c = search needs
@@ -71,7 +73,8 @@ returns-3 : tie.Need-returns-3
 returns-3 c =
     let on = c .before .before .before in
     let g = good (on .before .before) in
-    digits-too-big _ _ _ _ (g .is-strict) (on .if2 .left) 1 (g .one (c .before .before .if3 .taken) (c .before .if4 .taken)) (omega (arith, c .if5 .taken))
+    digits-too-big _ _ _ _ (g .is-strict) (on .if2 .left) 1 (g .one (c .before .before .if3 .taken) (c .before .if4 .taken))
+    (omega (arith, c .if5 .taken))
 
 add-t16 : tie.Need-add-t16
 add-t16 c = search needs
@@ -80,10 +83,14 @@ returns-4 : tie.Need-returns-4
 returns-4 c =
     let on = c .before .before .before in
     let g = good (on .before .before) in
-    digits-is _ _ _ _ (g .is-strict) (on .if2 .left) 1 (g .one (c .before .before .if3 .taken) (c .before .if4 .taken)) (omega (arith, c .if5 .left))
+    digits-is _ _ _ _ (g .is-strict) (on .if2 .left) 1 (g .one (c .before .before .if3 .taken) (c .before .if4 .taken))
+    (omega (arith, c .if5 .left))
 
 -- no first byte that is no digit
-all-digits : (c : tie.Joined3) → let a = c .before .before .before .before .before .before .before .args in lead (part (a .start) (a .end) (now (a .t))) ≡ 0
+all-digits :
+    (c : tie.Joined3) →
+    let a =
+    c .before .before .before .before .before .before .before .args in lead (part (a .start) (a .end) (now (a .t))) ≡ 0
 all-digits c =
     let g = good (c .before .before .before) in
     ⊎-elim (λ w. g .short (w .1 .left)) (λ w. g .not (w .left)) (c .if3 .came)
@@ -98,7 +105,8 @@ returns-6 c =
     let on = c .before .before in
     let a = on .before .before .before .before .before .before .args in
     ap (λ k. Digits k (a .end)) (sym (add-zero (a .start)))
-    ∙ digits-is (a .n) (a .start) (a .end) _ (good (on .before .before) .is-strict) (on .if2 .left) 0 (all-digits (c .before)) (omega (arith, c .if6 .left))
+    ∙ digits-is (a .n) (a .start) (a .end) _ (good (on .before .before) .is-strict) (on .if2 .left) 0 (all-digits (c .before))
+    (omega (arith, c .if6 .left))
 
 pub digits-in-spec : {M : Type 1} → statement M
 digits-in-spec =

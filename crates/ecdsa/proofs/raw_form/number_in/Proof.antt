@@ -12,7 +12,9 @@ use Rattle.ecdsa.proofs.raw_form.number_in.Statement.{statement}
 use Rattle.ecdsa.proofs.raw_form.number_in.Tie as tie
 
 -- the element that was found
-integer-at : (c : tie.After-found) → elementIn 0x02 (now (c .before .before .before .before .args .t)) ≡ Body (c .found .given .0 .0) (c .found .given .0 .1 .0)
+integer-at :
+    (c : tie.After-found) →
+    elementIn 0x02 (now (c .before .before .before .before .args .t)) ≡ Body (c .found .given .0 .0) (c .found .given .0 .1 .0)
 integer-at c = sym (c .before .before .element-of .ensures) ∙ c .found .given .1
 
 element-of-requires : tie.Need-element-of-requires
@@ -38,7 +40,8 @@ returns-2 c =
     let a = c .before .before .before .before .before .before .args in
     let from = c .before .before .found .given .0 .0 in
     let to = c .before .before .found .given .0 .1 .0 in
-    _∙_ {b = digitsIn (a .n) from to (part from to (now (a .t)))} (c .digits-in .ensures) (number-at (a .n) (now (a .t)) from to (integer-at (c .before .before)))
+    _∙_ {b = digitsIn (a .n) from to (part from to (now (a .t)))} (c .digits-in .ensures)
+    (number-at (a .n) (now (a .t)) from to (integer-at (c .before .before)))
 
 pub number-in-spec : {M : Type 1} → statement M
 number-in-spec =

@@ -59,18 +59,25 @@ copy-requires : tie.Need-copy-requires Inv-loop μ-loop
 copy-requires c κs = tt
 
 -- the digits stand after the zeros
-put : (c : tie.After-copy Inv-loop μ-loop) → let a = c .before .before .before .before .before .before .args in c .copy .last .1 .0 ≡ over (now (a .out)) (a .at) (padded (a .n) (now (a .digits)))
+put :
+    (c : tie.After-copy Inv-loop μ-loop) →
+    let a =
+    c .before .before .before .before .before .before .args in c .copy .last .1 .0
+    ≡ over (now (a .out)) (a .at) (padded (a .n) (now (a .digits)))
 put c =
     let on = c .before .before .before in
     let a = on .before .before .before .args in
     c .copy .ensures .1
     ∙ sym (copied-all (now (a .digits)) (on .loop .out) (a .at + (a .n - length (now (a .digits)))) (omega (arith, kept on)))
-    ∙ padded-put (now (a .out)) (now (a .digits)) (a .n) (a .at) (on .loop .i) (on .loop .out) (omega arith) (omega arith) (omega arith) (on .loop .inv .1)
+    ∙ padded-put (now (a .out)) (now (a .digits)) (a .n) (a .at) (on .loop .i) (on .loop .out) (omega arith) (omega arith) (omega arith)
+    (on .loop .inv .1)
 
 same-length : tie.Need-same-length Inv-loop μ-loop
 same-length c =
     let a = c .before .before .before .before .before .before .before .before .args in
-    ap length (put (c .before .before)) ∙ length-over (now (a .out)) (a .at) (padded (a .n) (now (a .digits))) (omega (arith, length-padded (a .n) (now (a .digits)) (omega arith)))
+    ap length (put (c .before .before))
+    ∙ length-over (now (a .out)) (a .at) (padded (a .n) (now (a .digits)))
+    (omega (arith, length-padded (a .n) (now (a .digits)) (omega arith)))
 
 returns : tie.Need-returns Inv-loop μ-loop
 returns c = put (c .before .before)

@@ -10,7 +10,15 @@ use Rattle.face.proofs.FrHeader.inner.Tie as tie
 
 -- the header with these dates
 abbrev dated : FrHeader → Date → Date → Header
-dated h issued signed = record { version = h .version; country = h .country; length = h .length; issued = issued; signed = signed; definition = h .definition; category = h .category }
+dated h issued signed = record {
+  version = h .version;
+  country = h .country;
+  length = h .length;
+  issued = issued;
+  signed = signed;
+  definition = h .definition;
+  category = h .category;
+}
 
 inner-requires : tie.Need-inner-requires
 inner-requires c κs = search needs

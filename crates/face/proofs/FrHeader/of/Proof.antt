@@ -10,7 +10,15 @@ use Rattle.face.proofs.FrHeader.of.Tie as tie
 
 -- the header with these dates
 abbrev dated : Header → FrDate → FrDate → FrHeader
-dated h issued signed = record { version = h .version; country = h .country; length = h .length; «issued_on» = issued; «signed_on» = signed; definition = h .definition; category = h .category }
+dated h issued signed = record {
+  version = h .version;
+  country = h .country;
+  length = h .length;
+  «issued_on» = issued;
+  «signed_on» = signed;
+  definition = h .definition;
+  category = h .category;
+}
 
 of-requires : tie.Need-of-requires
 of-requires c κs = search needs

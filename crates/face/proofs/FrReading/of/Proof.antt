@@ -11,7 +11,14 @@ use Rattle.face.proofs.FrReading.of.Tie as tie
 
 -- the reading with this header
 abbrev headed : Reading → FrHeader → FrReading
-headed r header = record { number = r .number; place = r .place; header = header; ends = endsOf (r .ends); signature = partOf (r .signature); count = r .count }
+headed r header = record {
+  number = r .number;
+  place = r .place;
+  header = header;
+  ends = endsOf (r .ends);
+  signature = partOf (r .signature);
+  count = r .count;
+}
 
 of-requires : tie.Need-of-requires
 of-requires c κs = search needs

@@ -51,8 +51,11 @@ loop-less c = omega arith
 loop-again : tie.Need-loop-again Inv-loop μ-loop
 loop-again c =
     let on = c .before .before .before in
-    let s = now (on .before .before .args .content) in
-    (omega arith, flip-more s (on .loop .i) (on .loop .value) (c .wide .result) (c .wide .ensures) (omega (arith, c .wide .ensures, c .before .shared-slice-known2 .given (on .loop .i))) (on .loop .inv .1))
+    let s = now (on .before .before .args .content) in (
+      omega arith,
+      flip-more s (on .loop .i) (on .loop .value) (c .wide .result) (c .wide .ensures)
+          (omega (arith, c .wide .ensures, c .before .shared-slice-known2 .given (on .loop .i))) (on .loop .inv .1),
+    )
 
 returns : tie.Need-returns Inv-loop μ-loop
 returns c =

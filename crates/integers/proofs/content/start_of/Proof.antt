@@ -36,8 +36,12 @@ is-redundant-requires c κs = search needs
 returns : tie.Need-returns Inv-loop μ-loop
 returns c =
     let on = c .before .before .before .before .before in
-    let s = now (on .before .args .bytes) in
-    (omega arith, on .loop .inv .1 ∙ start-keep s (on .loop .i) (omega arith) (sym (c .before .is-redundant .ensures) ∙ not-true (c .before .is-redundant .result) (c .if1 .taken)))
+    let s = now (on .before .args .bytes) in (
+      omega arith,
+      on .loop .inv .1
+          ∙ start-keep s (on .loop .i) (omega arith)
+          (sym (c .before .is-redundant .ensures) ∙ not-true (c .before .is-redundant .result) (c .if1 .taken)),
+    )
 
 add-i : tie.Need-add-i Inv-loop μ-loop
 add-i c = omega arith
@@ -48,8 +52,12 @@ loop-less c = omega arith
 loop-again : tie.Need-loop-again Inv-loop μ-loop
 loop-again c =
     let on = c .before .before .before .before .before in
-    let s = now (on .before .args .bytes) in
-    (omega arith, on .loop .inv .1 ∙ start-drop s (on .loop .i) (omega arith) (sym (c .before .is-redundant .ensures) ∙ not-false (c .before .is-redundant .result) (c .if1 .left)))
+    let s = now (on .before .args .bytes) in (
+      omega arith,
+      on .loop .inv .1
+          ∙ start-drop s (on .loop .i) (omega arith)
+          (sym (c .before .is-redundant .ensures) ∙ not-false (c .before .is-redundant .result) (c .if1 .left)),
+    )
 
 returns-2 : tie.Need-returns-2 Inv-loop μ-loop
 returns-2 c =

@@ -28,7 +28,12 @@ is-strict c =
     sym (o .is-shortest .ensures) ∙ not-false (o .is-shortest .result) (c .if1 .left)
 
 -- the number below the half, and how far one from there on lies below the power
-low : (c : tie.After-number) → (c .number .result ≡ val (now (c .before .before .before .before .before .before .before .args .content)) (length (now (c .before .before .before .before .before .before .before .args .content)))) × (c .number .result < 2 ^ 63)
+low :
+    (c : tie.After-number) →
+    (c .number .result
+    ≡ val (now (c .before .before .before .before .before .before .before .args .content))
+    (length (now (c .before .before .before .before .before .before .before .args .content))))
+    × (c .number .result < 2 ^ 63)
 low c =
     let o = c .before .before in
     let s = now (o .before .before .before .before .before .args .content) in
@@ -40,7 +45,8 @@ high : (c : tie.After-flipped) → c .flipped .result < 2 ^ 63
 high c =
     let o = c .before .before in
     let s = now (o .before .before .before .before .before .args .content) in
-    subst (λ n. n < 2 ^ 63) (sym (c .flipped .ensures)) (high-small s (λ i. o .shared-slice-known2 .given i .fits) (omega arith) (omega arith))
+    subst (λ n. n < 2 ^ 63) (sym (c .flipped .ensures))
+    (high-small s (λ i. o .shared-slice-known2 .given i .fits) (omega arith) (omega arith))
 
 is-shortest-requires : tie.Need-is-shortest-requires
 is-shortest-requires c κs = search needs

@@ -28,11 +28,18 @@ returns c = breaks _ rule.SignerCharacters _ (sym (signer (c .before)) ∙ not-t
 
 -- past the signer: what the two digits stand for
 record Digits (on : tie.After-hex-value2) : Type 0 where
-  passes : isSigner (take 4 (on .before .before .before .before .before .before .before .before .before .before .before .args .text .now)) ≡ true
-  high : on .before .before .hex-value .result ≡ hexValue (getD (on .before .before .before .before .before .before .before .before .before .before .before .args .text .now) 4 0)
-  low : on .hex-value2 .result ≡ hexValue (getD (on .before .before .before .before .before .before .before .before .before .before .before .args .text .now) 5 0)
-  high-most : hexValue (getD (on .before .before .before .before .before .before .before .before .before .before .before .args .text .now) 4 0) ≤ 16
-  low-most : hexValue (getD (on .before .before .before .before .before .before .before .before .before .before .before .args .text .now) 5 0) ≤ 16
+  passes :
+      isSigner (take 4 (on .before .before .before .before .before .before .before .before .before .before .before .args .text .now)) ≡ true
+  high :
+      on .before .before .hex-value .result
+      ≡ hexValue (getD (on .before .before .before .before .before .before .before .before .before .before .before .args .text .now) 4 0)
+  low :
+      on .hex-value2 .result
+      ≡ hexValue (getD (on .before .before .before .before .before .before .before .before .before .before .before .args .text .now) 5 0)
+  high-most :
+      hexValue (getD (on .before .before .before .before .before .before .before .before .before .before .before .args .text .now) 4 0) ≤ 16
+  low-most :
+      hexValue (getD (on .before .before .before .before .before .before .before .before .before .before .before .args .text .now) 5 0) ≤ 16
 
 digits : (on : tie.After-hex-value2) → Digits on
 digits on =
@@ -55,11 +62,14 @@ returns-2 c =
 
 -- a digit that is not 16 is below it
 below-high : (c : tie.Else2)
-    → hexValue (getD (c .before .before .before .before .before .before .before .before .before .before .before .before .args .text .now) 4 0) < 16
+    → hexValue
+    (getD (c .before .before .before .before .before .before .before .before .before .before .before .before .args .text .now) 4 0) < 16
 below-high c = let d = digits (c .before) in omega (arith, c .if2 .left)
 
 below-low : (c : tie.Else3)
-    → hexValue (getD (c .before .before .before .before .before .before .before .before .before .before .before .before .before .args .text .now) 5 0) < 16
+    → hexValue
+    (getD (c .before .before .before .before .before .before .before .before .before .before .before .before .before .args .text .now) 5 0)
+    < 16
 below-low c = let d = digits (c .before .before) in omega (arith, c .if3 .left)
 
 returns-3 : tie.Need-returns-3

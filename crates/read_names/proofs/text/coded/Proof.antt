@@ -13,7 +13,10 @@ use Rattle.read_names.proofs.text.coded.Tie as tie
 
 -- the next place, and that the bytes up to it are there
 place : (c : tie.After-known-told)
-    → let args = c .before .before .before .before .before .before .args in (c .before .next .given .0 .0 .place ≡ args .at .place + width (length (args .text .now))) × (args .at .place + width (length (args .text .now)) ≤ length (args .seal .now))
+    → let args =
+    c .before .before .before .before .before .before .args in
+    (c .before .next .given .0 .0 .place ≡ args .at .place + width (length (args .text .now)))
+    × (args .at .place + width (length (args .text .now)) ≤ length (args .seal .now))
 place c =
     let skip = c .before .before .before .skip in
     let args = c .before .before .before .before .before .before .args in
@@ -39,8 +42,11 @@ part-fill-end c = omega (arith, place c .0, place c .1)
 fill-requires : tie.Need-fill-requires
 fill-requires c κs =
     let on = c .before .before in
-    let start = on .before .before .before .before .before .before in
-    (field-wide (length (start .args .text .now)) (start .args .at .place) (on .before .next .given .0 .0 .place) (start .args .seal .now) (place on), start .pre)
+    let start = on .before .before .before .before .before .before in (
+      field-wide (length (start .args .text .now)) (start .args .at .place) (on .before .next .given .0 .0 .place) (start .args .seal .now)
+          (place on),
+      start .pre,
+    )
 
 returns-2 : tie.Need-returns-2
 returns-2 c =

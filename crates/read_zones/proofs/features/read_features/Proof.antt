@@ -1,4 +1,5 @@
--- `read_features` meets its contract. The outer loop's invariant: the features are those of the rows before and of what stands from the place on, and
+-- `read_features` meets its contract. The outer loop's invariant: the features are those of the rows before and of what
+-- stands from the place on, and
 -- the rows' tags stand at the start of the array. The inner loop's: none of the tags before is this one.
 -- Assumes nothing.
 mod Turn
@@ -16,7 +17,8 @@ use Rattle.verdict.specs.Items.{is, byte, plainIn, featureLength}
 use Rattle.causes.specs.declared.Item.the-variants as item
 use Rattle.read_items.specs.Meaning.{byteOf, wholeOf, numberOf, refused}
 use Rattle.read_zones.proofs.Says.{says}
-use Rattle.read_zones.proofs.features.read_features.Proof.Turn.{Kept, kept-start, kept-cut, kept-end, kept-again, kept-most, New, new-unsized, new-small, new-room, new-short, new-more}
+use Rattle.read_zones.proofs.features.read_features.Proof.Turn.{Kept, kept-start, kept-cut, kept-end, kept-again, kept-most, New}
+use Rattle.read_zones.proofs.features.read_features.Proof.Turn.{new-unsized, new-small, new-room, new-short, new-more}
 use Rattle.read_zones.proofs.features.read_features.Statement.{statement}
 use Rattle.read_zones.proofs.features.read_features.Tie as tie
 
@@ -40,11 +42,20 @@ abbrev versionAt : tie.At-rows Inv-loop μ-loop Inv-rows μ-rows → Version
 versionAt c = c .before .before .args .version
 
 -- the tag that was read
-tag-read : (c : tie.After-known-told Inv-loop μ-loop Inv-rows μ-rows) → let on = c .before .before .before .before in is (c .before .tag .given .0 .0) (c .before .tag .given .0 .1 .0 .place) ≡ byte (on .rows .at) (sealAt on) (plainIn (on .rows .at))
+tag-read :
+    (c : tie.After-known-told Inv-loop μ-loop Inv-rows μ-rows) →
+    let on =
+    c .before .before .before .before in is (c .before .tag .given .0 .0) (c .before .tag .given .0 .1 .0 .place)
+    ≡ byte (on .rows .at) (sealAt on) (plainIn (on .rows .at))
 tag-read c = sym (ap (byteOf _) (c .before .tag .given .1)) ∙ c .before .before .before .byte .ensures
 
 -- it is new, once none of the earlier ones is the same
-new : (c : tie.After-loop Inv-loop μ-loop Inv-rows μ-rows) → let told = c .before .before .before in let on = told .before .before .before .before in New (versionAt on) (sealAt on) (on .before .before .args .start .place) (on .rows .tags) (on .rows .count) (on .rows .at) (told .before .tag .given .0 .0) (told .before .tag .given .0 .1 .0 .place)
+new :
+    (c : tie.After-loop Inv-loop μ-loop Inv-rows μ-rows) →
+    let told =
+    c .before .before .before in let on = told .before .before .before .before in New (versionAt on) (sealAt on)
+    (on .before .before .args .start .place) (on .rows .tags) (on .rows .count) (on .rows .at) (told .before .tag .given .0 .0)
+    (told .before .tag .given .0 .1 .0 .place)
 new c = record {
   kept = c .before .before .before .before .before .before .before .rows .inv;
   read = tag-read (c .before .before .before);
@@ -53,12 +64,22 @@ new c = record {
 }
 
 -- its length
-size-read : (c : tie.After-known-told2 Inv-loop μ-loop Inv-rows μ-rows) → let told = c .before .before .before .before .before .before .before in let on = told .before .before .before .before in is (c .before .length .given .0 .0) (c .before .length .given .0 .1 .0 .place) ≡ featureLength (versionAt on) (told .before .tag .given .0 .1 .0 .place) (sealAt on)
+size-read :
+    (c : tie.After-known-told2 Inv-loop μ-loop Inv-rows μ-rows) →
+    let told =
+    c .before .before .before .before .before .before .before in let on = told .before .before .before .before in is
+    (c .before .length .given .0 .0) (c .before .length .given .0 .1 .0 .place)
+    ≡ featureLength (versionAt on) (told .before .tag .given .0 .1 .0 .place) (sealAt on)
 size-read c = sym (ap numberOf (c .before .length .given .1)) ∙ c .before .before .before .feature-length .ensures
 
 -- the seal's bytes
-bytes : (c : tie.After-known-told3 Inv-loop μ-loop Inv-rows μ-rows) → Bytes (sealAt (c .before .before .before .before .before .before .before .before .before .before .before .before .before .before .before))
-bytes c i = c .before .before .before .before .before .before .before .before .before .before .before .before .before .before .before .before .shared-slice-known .given i .fits
+bytes :
+    (c : tie.After-known-told3 Inv-loop μ-loop Inv-rows μ-rows) →
+    Bytes
+    (sealAt (c .before .before .before .before .before .before .before .before .before .before .before .before .before .before .before))
+bytes c i =
+    c .before .before .before .before .before .before .before .before .before .before .before .before .before .before
+    .before .before .shared-slice-known .given i .fits
 
 rows-holds : tie.Need-rows-holds Inv-loop μ-loop Inv-rows μ-rows
 rows-holds c = kept-start _ _ _ _ refl
@@ -139,7 +160,8 @@ returns-4 c =
     let told = c .before in
     let on = told .before .before .before in
     says _ _ _ _ (c .of2 .ensures)
-    (new-short _ _ _ _ _ _ _ _ (new (on .before .before .before .before)) _ _ (size-read on) (sym (ap (wholeOf _) (told .enum-told3 .given .1)) ∙ told .before .before .skip .ensures))
+    (new-short _ _ _ _ _ _ _ _ (new (on .before .before .before .before)) _ _ (size-read on)
+    (sym (ap (wholeOf _) (told .enum-told3 .given .1)) ∙ told .before .before .skip .ensures))
 
 cast-tags : tie.Need-cast-tags Inv-loop μ-loop Inv-rows μ-rows
 cast-tags c = omega (arith, new-small _ _ _ _ _ _ _ _ (new (c .before .before .before .before .before .before .before .before)) (bytes c))
@@ -154,14 +176,18 @@ rows-less : tie.Need-rows-less Inv-loop μ-loop Inv-rows μ-rows
 rows-less c = omega (arith, array-write-tags c)
 
 rows-again : tie.Need-rows-again Inv-loop μ-loop Inv-rows μ-rows
-rows-again c = new-more _ _ _ _ _ _ _ _ (new (c .before .before .before .before .before .before .before .before)) _ _ (size-read (c .before .before .before .before)) _ (bytes c) (sym (ap (wholeOf _) (c .before .end .given .1)) ∙ c .before .before .before .skip .ensures)
+rows-again c =
+    new-more _ _ _ _ _ _ _ _ (new (c .before .before .before .before .before .before .before .before)) _ _
+    (size-read (c .before .before .before .before)) _ (bytes c)
+    (sym (ap (wholeOf _) (c .before .end .given .1)) ∙ c .before .before .before .skip .ensures)
 
 returns-5 : tie.Need-returns-5 Inv-loop μ-loop Inv-rows μ-rows
 returns-5 c =
     let test = c .before in
     let on = test .before .before .before in
     says _ _ _ _ (c .of3 .ensures)
-    (kept-again _ _ _ _ _ _ (on .before .before .before .before .before .before .rows .inv) _ _ _ (tag-read (on .before .before)) (test .before .before .loop-test .taken) (sym (test .before .wide .ensures) ∙ test .if2 .taken))
+    (kept-again _ _ _ _ _ _ (on .before .before .before .before .before .before .rows .inv) _ _ _ (tag-read (on .before .before))
+    (test .before .before .loop-test .taken) (sym (test .before .wide .ensures) ∙ test .if2 .taken))
 
 of-requires-3 : tie.Need-of-requires-3 Inv-loop μ-loop Inv-rows μ-rows
 of-requires-3 c κs = search needs

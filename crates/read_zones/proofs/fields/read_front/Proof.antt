@@ -10,23 +10,29 @@ use Rattle.read_items.specs.Meaning.{stepOf, editionOf, refused, whyOf, through
 use Rattle.read_names.specs.Meaning.{namesOf, measured, textOver}
 use Rattle.read_names.specs.declared.Names.the-variants as read
 use Rattle.read_zones.specs.Steps.{fields, namesIn}
-use Rattle.read_zones.specs.Steps.Laws.{fields-mark, fields-version, fields-country, fields-names, fields-all, names-reached, code-kept, code-given, text-kept}
+use Rattle.read_zones.specs.Steps.Laws.{fields-mark, fields-version, fields-country, fields-names, fields-all, names-reached}
+use Rattle.read_zones.specs.Steps.Laws.{code-kept, code-given, text-kept}
 use Rattle.read_zones.proofs.Says.{says}
 use Rattle.read_zones.proofs.fields.read_front.Statement.{statement}
 use Rattle.read_zones.proofs.fields.read_front.Tie as tie
 
-read-mark : (c : tie.After-known-told) → is tt (c .before .mark2 .given .0 .0 .place) ≡ mark 0 (now (c .before .before .before .before .before .args .seal))
+read-mark :
+    (c : tie.After-known-told) →
+    is tt (c .before .mark2 .given .0 .0 .place) ≡ mark 0 (now (c .before .before .before .before .before .args .seal))
 read-mark c = sym (ap (stepOf tt) (c .before .mark2 .given .1)) ∙ c .before .before .before .mark .ensures
 
 read-version : (c : tie.After-known-told2) →
     let told = c .before .before .before .before in
-    is (c .before .version2 .given .0 .0) (c .before .version2 .given .0 .1 .0 .place) ≡ version (told .before .mark2 .given .0 .0 .place) (now (told .before .before .before .before .before .args .seal))
+    is (c .before .version2 .given .0 .0) (c .before .version2 .given .0 .1 .0 .place)
+    ≡ version (told .before .mark2 .given .0 .0 .place) (now (told .before .before .before .before .before .args .seal))
 read-version c = sym (ap editionOf (c .before .version2 .given .1)) ∙ c .before .before .before .version .ensures
 
 read-country : (c : tie.After-known-told3) →
     let on = c .before .before .before in
     let told2 = on .before .before in
-    is (on .country .last .1 .1 .0) (c .before .code .given .0 .0 .place) ≡ country (told2 .before .version2 .given .0 .1 .0 .place) (now (told2 .before .before .before .before .before .before .before .before .before .args .seal))
+    is (on .country .last .1 .1 .0) (c .before .code .given .0 .0 .place)
+    ≡ country (told2 .before .version2 .given .0 .1 .0 .place)
+    (now (told2 .before .before .before .before .before .before .before .before .before .args .seal))
 read-country c =
     let on = c .before .before .before in
     sym (ap (stepOf (on .country .last .1 .1 .0)) (c .before .code .given .1)) ∙ on .country .ensures .0
@@ -37,7 +43,8 @@ read-names : (c : tie.After-known-told4) →
     let told2 = told3 .before .before .before .before .before in
     let g = c .before .read .given .0 in
     namesOf (on .signer-and-reference .last .1 .1 .1 .0) (read.Are (g .0) (g .1 .0)) ≡ through measured
-    (names (told2 .before .version2 .given .0 .0) (told3 .before .code .given .0 .0 .place) (now (told2 .before .before .before .before .before .before .before .before .before .args .seal)))
+    (names (told2 .before .version2 .given .0 .0) (told3 .before .code .given .0 .0 .place)
+    (now (told2 .before .before .before .before .before .before .before .before .before .args .seal)))
 read-names c =
     let on = c .before .before .before in
     sym (ap (namesOf (on .signer-and-reference .last .1 .1 .1 .0)) (c .before .read .given .1)) ∙ on .signer-and-reference .ensures .0
@@ -96,7 +103,8 @@ returns-5 c =
     let on = c .before .before .before in
     let told3 = on .before .before in
     let told2 = told3 .before .before .before .before .before in
-    let item = fields-all _ _ (read-mark (told2 .before .before .before .before)) _ _ (read-version told2) _ _ (read-country told3) _ _ (read-names c) in
+    let item = fields-all _ _ (read-mark (told2 .before .before .before .before)) _ _ (read-version told2) _ _ (read-country told3) _ _
+    (read-names c) in
     (item, (code-given _ _ _ item _, text-left on))
 
 mark-requires : tie.Need-mark-requires

@@ -11,16 +11,33 @@ use Rattle.read_zones.proofs.Says.{says}
 use Rattle.read_zones.proofs.fields.read_rest.Statement.{statement}
 use Rattle.read_zones.proofs.fields.read_rest.Tie as tie
 
-read-issued : (c : tie.After-known-told) → is (c .before .issued .given .0 .0) (c .before .issued .given .0 .1 .0 .place) ≡ date (c .before .before .before .before .before .args .at .place) (now (c .before .before .before .before .before .args .seal))
+read-issued :
+    (c : tie.After-known-told) →
+    is (c .before .issued .given .0 .0) (c .before .issued .given .0 .1 .0 .place)
+    ≡ date (c .before .before .before .before .before .args .at .place) (now (c .before .before .before .before .before .args .seal))
 read-issued c = sym (ap dayOf (c .before .issued .given .1)) ∙ c .before .before .before .date .ensures
 
-read-signed : (c : tie.After-known-told2) → is (c .before .signed .given .0 .0) (c .before .signed .given .0 .1 .0 .place) ≡ date (c .before .before .before .before .before .issued .given .0 .1 .0 .place) (now (c .before .before .before .before .before .before .before .before .before .args .seal))
+read-signed :
+    (c : tie.After-known-told2) →
+    is (c .before .signed .given .0 .0) (c .before .signed .given .0 .1 .0 .place)
+    ≡ date (c .before .before .before .before .before .issued .given .0 .1 .0 .place)
+    (now (c .before .before .before .before .before .before .before .before .before .args .seal))
 read-signed c = sym (ap dayOf (c .before .signed .given .1)) ∙ c .before .before .before .date2 .ensures
 
-read-definition : (c : tie.After-known-told3) → is (c .before .definition .given .0 .0) (c .before .definition .given .0 .1 .0 .place) ≡ last (c .before .before .before .before .before .signed .given .0 .1 .0 .place) (now (c .before .before .before .before .before .before .before .before .before .before .before .before .before .args .seal))
+read-definition :
+    (c : tie.After-known-told3) →
+    is (c .before .definition .given .0 .0) (c .before .definition .given .0 .1 .0 .place)
+    ≡ last (c .before .before .before .before .before .signed .given .0 .1 .0 .place)
+    (now (c .before .before .before .before .before .before .before .before .before .before .before .before .before .args .seal))
 read-definition c = sym (ap numberOf (c .before .definition .given .1)) ∙ c .before .before .before .last .ensures
 
-read-category : (c : tie.After-known-told4) → is (c .before .category .given .0 .0) (c .before .category .given .0 .1 .0 .place) ≡ last (c .before .before .before .before .before .definition .given .0 .1 .0 .place) (now (c .before .before .before .before .before .before .before .before .before .before .before .before .before .before .before .before .before .args .seal))
+read-category :
+    (c : tie.After-known-told4) →
+    is (c .before .category .given .0 .0) (c .before .category .given .0 .1 .0 .place)
+    ≡ last (c .before .before .before .before .before .definition .given .0 .1 .0 .place)
+    (now
+    (c .before .before .before .before .before .before .before .before .before .before .before .before .before .before
+    .before .before .before .args .seal))
 read-category c = sym (ap numberOf (c .before .category .given .1)) ∙ c .before .before .before .last2 .ensures
 
 returns : tie.Need-returns
@@ -42,17 +59,23 @@ returns-3 c =
     let told = c .before in
     let on = told .before .before in
     says _ _ _ _ (c .refusal3 .ensures ∙ ap (λ r. refused item.Definition (numberOf r)) (told .enum-told3 .given .1))
-    (dated-definition _ _ _ _ (read-issued (on .before .before .before .before .before)) _ _ (read-signed (on .before)) _ _ (sym (ap numberOf (told .enum-told3 .given .1)) ∙ on .last .ensures))
+    (dated-definition _ _ _ _ (read-issued (on .before .before .before .before .before)) _ _ (read-signed (on .before)) _ _
+    (sym (ap numberOf (told .enum-told3 .given .1)) ∙ on .last .ensures))
 
 returns-4 : tie.Need-returns-4
 returns-4 c =
     let told = c .before in
     let on = told .before .before in
     says _ _ _ _ (c .refusal4 .ensures ∙ ap (λ r. refused item.Category (numberOf r)) (told .enum-told4 .given .1))
-    (dated-category _ _ _ _ (read-issued (on .before .before .before .before .before .before .before .before .before)) _ _ (read-signed (on .before .before .before .before .before)) _ _ (read-definition (on .before)) _ _ (sym (ap numberOf (told .enum-told4 .given .1)) ∙ on .last2 .ensures))
+    (dated-category _ _ _ _ (read-issued (on .before .before .before .before .before .before .before .before .before)) _ _
+    (read-signed (on .before .before .before .before .before)) _ _ (read-definition (on .before)) _ _
+    (sym (ap numberOf (told .enum-told4 .given .1)) ∙ on .last2 .ensures))
 
 returns-5 : tie.Need-returns-5
-returns-5 c = dated-all _ _ _ _ (read-issued (c .before .before .before .before .before .before .before .before .before .before .before .before)) _ _ (read-signed (c .before .before .before .before .before .before .before .before)) _ _ (read-definition (c .before .before .before .before)) _ _ (read-category c)
+returns-5 c =
+    dated-all _ _ _ _ (read-issued (c .before .before .before .before .before .before .before .before .before .before .before .before)) _ _
+    (read-signed (c .before .before .before .before .before .before .before .before)) _ _
+    (read-definition (c .before .before .before .before)) _ _ (read-category c)
 
 date-requires : tie.Need-date-requires
 date-requires c κs = search needs

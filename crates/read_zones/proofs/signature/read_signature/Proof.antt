@@ -15,7 +15,10 @@ use Rattle.read_zones.proofs.Says.{says}
 use Rattle.read_zones.proofs.signature.read_signature.Statement.{statement}
 use Rattle.read_zones.proofs.signature.read_signature.Tie as tie
 
-read-length : (c : tie.After-known-told) → is (c .before .length .given .0 .0) (c .before .length .given .0 .1 .0 .place) ≡ derLength (c .before .before .before .before .before .args .at .place) (now (c .before .before .before .before .before .args .seal))
+read-length :
+    (c : tie.After-known-told) →
+    is (c .before .length .given .0 .0) (c .before .length .given .0 .1 .0 .place)
+    ≡ derLength (c .before .before .before .before .before .args .at .place) (now (c .before .before .before .before .before .args .seal))
 read-length c = sym (ap numberOf (c .before .length .given .1)) ∙ c .before .before .before .der-length .ensures
 
 not-not : (b : Bool) → not (not b) ≡ b
@@ -31,7 +34,11 @@ kept b e = sym (not-not b) ∙ ap not e
 sized : (c : tie.Else1) → isSignature (c .before .before .before .length .given .0 .0) ≡ true
 sized c = sym (c .before .is-signature .ensures) ∙ kept _ (c .if1 .left)
 
-there : (c : tie.After-known-told2) → let on = c .before .before .before .before .before .before in Past (on .before .length .given .0 .0) (on .before .length .given .0 .1 .0 .place) (now (on .before .before .before .before .before .args .seal)) (c .before .end .given .0 .0 .place)
+there :
+    (c : tie.After-known-told2) →
+    let on =
+    c .before .before .before .before .before .before in Past (on .before .length .given .0 .0) (on .before .length .given .0 .1 .0 .place)
+    (now (on .before .before .before .before .before .args .seal)) (c .before .end .given .0 .0 .place)
 there c = past-whole _ _ _ _ (sym (ap (wholeOf _) (c .before .end .given .1)) ∙ c .before .before .before .skip .ensures)
 
 returns : tie.Need-returns
@@ -55,7 +62,8 @@ returns-3 c =
     let start = told .before .length .given .0 .1 .0 .place in
     let s = now (told .before .before .before .before .before .args .seal) in
     says _ _ _ _ (c .of2 .ensures)
-    (signature-cut _ _ _ _ (read-length told) (sized (on .before)) (whole-none n start s (rawIn n start) (sym (ap (wholeOf start) (c .before .enum-told2 .given .1)) ∙ on .skip .ensures)))
+    (signature-cut _ _ _ _ (read-length told) (sized (on .before))
+    (whole-none n start s (rawIn n start) (sym (ap (wholeOf start) (c .before .enum-told2 .given .1)) ∙ on .skip .ensures)))
 
 returns-4 : tie.Need-returns-4
 returns-4 c =

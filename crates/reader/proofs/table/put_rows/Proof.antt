@@ -1,4 +1,5 @@
--- `put_rows` meets its contract. The loop's invariant: the rows before stand in the table, and those that are left are read from the place on.
+-- `put_rows` meets its contract. The loop's invariant: the rows before stand in the table, and those that are left are
+-- read from the place on.
 -- Assumes nothing.
 mod Turn
 use borrow.Author.Needs.{needs}
@@ -31,17 +32,27 @@ abbrev versionAt : tie.At-loop Inv-loop μ-loop → Version
 versionAt c = c .before .before .before .args .version
 
 -- the tag that was read, and its length
-tag-read : (c : tie.After-known-told Inv-loop μ-loop) → let on = c .before .before .before .before .before in is (c .before .tag .given .0 .0) (c .before .tag .given .0 .1 .0 .place) ≡ byte (on .loop .at) (sealAt on) (plainIn (on .loop .at))
+tag-read :
+    (c : tie.After-known-told Inv-loop μ-loop) →
+    let on =
+    c .before .before .before .before .before in is (c .before .tag .given .0 .0) (c .before .tag .given .0 .1 .0 .place)
+    ≡ byte (on .loop .at) (sealAt on) (plainIn (on .loop .at))
 tag-read c = sym (ap (byteOf _) (c .before .tag .given .1)) ∙ c .before .before .before .byte .ensures
 
-size-read : (c : tie.After-known-told2 Inv-loop μ-loop) → let told = c .before .before .before .before in let on = told .before .before .before .before .before in is (c .before .size .given .0 .0) (c .before .size .given .0 .1 .0 .place) ≡ featureLength (versionAt on) (told .before .tag .given .0 .1 .0 .place) (sealAt on)
+size-read :
+    (c : tie.After-known-told2 Inv-loop μ-loop) →
+    let told =
+    c .before .before .before .before in let on = told .before .before .before .before .before in is
+    (c .before .size .given .0 .0) (c .before .size .given .0 .1 .0 .place)
+    ≡ featureLength (versionAt on) (told .before .tag .given .0 .1 .0 .place) (sealAt on)
 size-read c = sym (ap numberOf (c .before .size .given .1)) ∙ c .before .before .before .feature-length .ensures
 
 -- neither is ever missing
 tag-there : tie.After-enum-told Inv-loop μ-loop → ⊥
 tag-there c =
     let on = c .before .before .before in
-    put-tag _ _ _ _ _ _ _ _ (on .before .loop .inv) (on .loop-test .taken) (sym (ap (byteOf _) (c .enum-told .given .1)) ∙ c .before .before .byte .ensures)
+    put-tag _ _ _ _ _ _ _ _ (on .before .loop .inv) (on .loop-test .taken)
+    (sym (ap (byteOf _) (c .enum-told .given .1)) ∙ c .before .before .byte .ensures)
 
 size-there : tie.After-enum-told2 Inv-loop μ-loop → ⊥
 size-there c =
@@ -51,7 +62,10 @@ size-there c =
     (sym (ap numberOf (c .enum-told2 .given .1)) ∙ c .before .before .feature-length .ensures)
 
 -- nor is the value
-value-there : (c : tie.After-known-told2 Inv-loop μ-loop) → c .before .size .given .0 .1 .0 .place + c .before .size .given .0 .0 ≤ length (sealAt (c .before .before .before .before .before .before .before .before .before))
+value-there :
+    (c : tie.After-known-told2 Inv-loop μ-loop) →
+    c .before .size .given .0 .1 .0 .place + c .before .size .given .0 .0 ≤ length
+    (sealAt (c .before .before .before .before .before .before .before .before .before))
 value-there c =
     let told = c .before .before .before .before in
     let on = told .before .before .before .before in

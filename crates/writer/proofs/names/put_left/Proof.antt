@@ -33,8 +33,11 @@ same-length : tie.Need-same-length
 same-length c = search needs
 
 returns : tie.Need-returns
-returns c = let s = c .before .before .before .before .before .before in
-    (omega (arith, length-publish (now (s .args .text))), put-text (now (s .args .text)) (now (s .args .out)) (s .args .at) (c .before .before .write .last .1 .0) (s .pre .0) (s .pre .1) (s .pre .2) (c .before .before .write .ensures .1))
+returns c = let s = c .before .before .before .before .before .before in (
+  omega (arith, length-publish (now (s .args .text))),
+  put-text (now (s .args .text)) (now (s .args .out)) (s .args .at) (c .before .before .write .last .1 .0) (s .pre .0) (s .pre .1)
+      (s .pre .2) (c .before .before .write .ensures .1),
+)
 
 pub put-left-spec : {M : Type 1} → statement M
 put-left-spec =

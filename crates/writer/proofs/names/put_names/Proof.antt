@@ -22,10 +22,14 @@ abbrev text : tie.After-enum-told2 → List ℕ
 text c = now (c .before .before .before .before .args .text)
 
 long : (c : tie.After-enum-told2) → 5 ≤ length (text c)
-long c = let s = c .before .before .before .before in size-four (s .args .version) (length (text c)) (c .enum-told2 .given .1) (s .pre .0 .size) .0
+long c =
+    let s = c .before .before .before .before in
+    size-four (s .args .version) (length (text c)) (c .enum-told2 .given .1) (s .pre .0 .size) .0
 
 short : (c : tie.After-enum-told2) → length (text c) ≤ 259
-short c = let s = c .before .before .before .before in size-four (s .args .version) (length (text c)) (c .enum-told2 .given .1) (s .pre .0 .size) .1
+short c =
+    let s = c .before .before .before .before in
+    size-four (s .args .version) (length (text c)) (c .enum-told2 .given .1) (s .pre .0 .size) .1
 
 -- the six characters
 abbrev codes : tie.After-hex-digit2 → List ℕ
@@ -57,8 +61,11 @@ enum-told-2 c = search needs
 put-text-requires : tie.Need-put-text-requires
 put-text-requires c κs = let s = c .before .before .before .before .before in
     let t = now (s .args .text) in
-    let nine = size-three (s .args .version) (length t) (c .before .enum-told .given .1) (s .pre .0 .size) in
-    (named-text (s .args .version) t (s .pre .0), omega arith, subst (Room (now (s .args .out)) (s .args .at)) (names-three (s .args .version) t (c .before .enum-told .given .1)) (s .pre .1))
+    let nine = size-three (s .args .version) (length t) (c .before .enum-told .given .1) (s .pre .0 .size) in (
+      named-text (s .args .version) t (s .pre .0),
+      omega arith,
+      subst (Room (now (s .args .out)) (s .args .at)) (names-three (s .args .version) t (c .before .enum-told .given .1)) (s .pre .1),
+    )
 
 same-length : tie.Need-same-length
 same-length c = search needs
@@ -96,34 +103,41 @@ slice-aggregate-put-text c = search needs
 put-text-requires-2 : tie.Need-put-text-requires-2
 put-text-requires-2 c κs = let on = c .before .before in
     let s = c .before .before .before .before .before .before .before .before .before .before .before .before in
-    six-asks (s .args .version) (now (s .args .text)) (now (s .args .out)) (s .args .at) (codes on) (s .pre .0) (c .before .before .before .before .before .before .before .before .enum-told2 .given .1) (s .pre .1) (six on)
+    six-asks (s .args .version) (now (s .args .text)) (now (s .args .out)) (s .args .at) (codes on) (s .pre .0)
+    (c .before .before .before .before .before .before .before .before .enum-told2 .given .1) (s .pre .1) (six on)
 
 sub-put-text : tie.Need-sub-put-text
 sub-put-text c = let l = long (c .before .before .before .before .before .before .before .before .before .before .before) in omega arith
 
 part-put-text-start : tie.Need-part-put-text-start
-part-put-text-start c = let l = long (c .before .before .before .before .before .before .before .before .before .before .before) in omega arith
+part-put-text-start c =
+    let l = long (c .before .before .before .before .before .before .before .before .before .before .before) in omega arith
 
 part-put-text-end : tie.Need-part-put-text-end
 part-put-text-end c = search needs
 
 put-text-requires-3 : tie.Need-put-text-requires-3
 put-text-requires-3 c κs = let on = c .before .before .before .before .before .before .before in
-    let s = c .before .before .before .before .before .before .before .before .before .before .before .before .before .before .before .before .before in
+    let s = c .before .before .before .before .before .before .before .before .before .before .before .before .before .before
+    .before .before .before in
     let p = c .before .before .before .before .put-text2 in
     let e = c .before .before .before .before .before .before .before .before .before .before .before .before .before in
-    reference-asks (s .args .version) (now (s .args .text)) (now (s .args .out)) (s .args .at) (codes on) (s .pre .0) (e .enum-told2 .given .1) (s .pre .1) (six on) (p .result) _ (p .ensures .0) (p .ensures .1) _ (reference e)
+    reference-asks (s .args .version) (now (s .args .text)) (now (s .args .out)) (s .args .at) (codes on) (s .pre .0)
+    (e .enum-told2 .given .1) (s .pre .1) (six on) (p .result) _ (p .ensures .0) (p .ensures .1) _ (reference e)
 
 same-length-2 : tie.Need-same-length-2
 same-length-2 c = search needs
 
 returns-2 : tie.Need-returns-2
 returns-2 c = let on = c .before .before .before .before .before .before .before .before .before .before in
-    let s = c .before .before .before .before .before .before .before .before .before .before .before .before .before .before .before .before .before .before .before .before in
+    let s = c .before .before .before .before .before .before .before .before .before .before .before .before .before .before
+    .before .before .before .before .before .before in
     let p = c .before .before .before .before .before .before .before .put-text2 in
     let q = c .before .before .put-text3 in
-    let e = c .before .before .before .before .before .before .before .before .before .before .before .before .before .before .before .before in
-    names-put (s .args .version) (now (s .args .text)) (now (s .args .out)) (s .args .at) (codes on) (s .pre .0) (e .enum-told2 .given .1) (s .pre .1) (six on) (p .result) _ (p .ensures .0) (p .ensures .1) _ (reference e) _ _ (q .ensures .0) (q .ensures .1)
+    let e = c .before .before .before .before .before .before .before .before .before .before .before .before .before .before
+    .before .before in
+    names-put (s .args .version) (now (s .args .text)) (now (s .args .out)) (s .args .at) (codes on) (s .pre .0) (e .enum-told2 .given .1)
+    (s .pre .1) (six on) (p .result) _ (p .ensures .0) (p .ensures .1) _ (reference e) _ _ (q .ensures .0) (q .ensures .1)
 
 pub put-names-spec : {M : Type 1} → statement M
 put-names-spec =

@@ -7,7 +7,8 @@ use Prim.Native.Nat.{_+_, _-_, _/_, _<_}
 use denote.Ref.{now}
 use lib.ListN.{length, take, drop, set, length-set, length-drop}
 use lib.Seq.{take-all}
-use Rattle.writer.specs.Put.{Texting, texting-start, texting-length, texting-end, texting-last, texting-asks, texting-room, texting-more}
+use Rattle.writer.specs.Put.{Texting, texting-start, texting-length, texting-end, texting-last, texting-asks, texting-room}
+use Rattle.writer.specs.Put.{texting-more}
 use Rattle.writer.proofs.names.put_text.Statement.{statement}
 use Rattle.writer.proofs.names.put_text.Tie as tie
 
@@ -18,8 +19,13 @@ abbrev μ-loop : tie.MeasureT-loop
 μ-loop text out₀ start n at₀ i₀ out at i = length text - i
 
 -- the part that is lent is what is left
-left : (on : tie.At-loop Inv-loop μ-loop) → let text = now (on .before .before .before .args .text) in take (length text - on .loop .i) (drop (on .loop .i) text) ≡ drop (on .loop .i) text
-left on = let text = now (on .before .before .before .args .text) in take-all (length text - on .loop .i) (drop (on .loop .i) text) (omega (arith, length-drop (on .loop .i) text))
+left :
+    (on : tie.At-loop Inv-loop μ-loop) →
+    let text =
+    now (on .before .before .before .args .text) in take (length text - on .loop .i) (drop (on .loop .i) text) ≡ drop (on .loop .i) text
+left on =
+    let text = now (on .before .before .before .args .text) in
+    take-all (length text - on .loop .i) (drop (on .loop .i) text) (omega (arith, length-drop (on .loop .i) text))
 
 loop-holds : tie.Need-loop-holds Inv-loop μ-loop
 loop-holds c = let s = c .before .before in texting-start (now (s .args .text)) (now (s .args .out)) (s .args .start) (s .pre .2)
@@ -79,7 +85,9 @@ loop-less : tie.Need-loop-less Inv-loop μ-loop
 loop-less c = omega arith
 
 loop-again : tie.Need-loop-again Inv-loop μ-loop
-loop-again c = texting-more _ _ _ _ _ _ (c .before .before .before .before .before .loop .inv) (omega arith) _ (c .number-of .ensures .0) (c .number-of .ensures .1)
+loop-again c =
+    texting-more _ _ _ _ _ _ (c .before .before .before .before .before .loop .inv) (omega arith) _ (c .number-of .ensures .0)
+    (c .number-of .ensures .1)
 
 sub-put-left : tie.Need-sub-put-left Inv-loop μ-loop
 sub-put-left c = omega arith
@@ -96,7 +104,9 @@ put-left-requires c κs = let on = c .before .before .before .before in
     texting-asks _ _ _ _ _ _ (on .loop .inv) _ (left on) (s .pre .0) (s .pre .1)
 
 same-length : tie.Need-same-length Inv-loop μ-loop
-same-length c = let on = c .before .before .before .before .before .before .before in c .before .before .put-left .kept .1 .0 ∙ texting-length _ _ _ _ _ _ (on .loop .inv)
+same-length c =
+    let on = c .before .before .before .before .before .before .before in
+    c .before .before .put-left .kept .1 .0 ∙ texting-length _ _ _ _ _ _ (on .loop .inv)
 
 returns : tie.Need-returns Inv-loop μ-loop
 returns c = let on = c .before .before .before .before .before .before .before in

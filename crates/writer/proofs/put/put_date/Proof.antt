@@ -16,13 +16,28 @@ use Rattle.writer.proofs.put.put_date.Tie as tie
 
 -- the number of the day, which there is
 is-number : (c : tie.After-known-told) → c .before .number2 .given .0 .0 ≡ numberOf (c .before .before .before .before .before .args .date)
-is-number c = ap (λ g. g .value) (sym (ap numberedOf (c .before .number2 .given .1)) ∙ c .before .before .before .number .ensures ∙ to-day _ (c .before .before .before .before .before .pre .0))
+is-number c =
+    ap (λ g. g .value)
+    (sym (ap numberedOf (c .before .number2 .given .1))
+    ∙ c .before .before .before .number .ensures
+    ∙ to-day _ (c .before .before .before .before .before .pre .0))
 
 none : tie.After-enum-told → ⊥
-none c = omega (arith, ap (λ g. g .number) (sym (ap numberedOf (c .enum-told .given .1)) ∙ c .before .before .number .ensures ∙ to-day _ (c .before .before .before .before .pre .0)))
+none c =
+    omega (
+      arith,
+      ap (λ g. g .number)
+          (sym (ap numberedOf (c .enum-told .given .1))
+          ∙ c .before .before .number .ensures
+          ∙ to-day _ (c .before .before .before .before .pre .0)),
+    )
 
-room : (c : tie.After-known-told) → c .before .before .before .before .before .args .at + 3 ≤ length (now (c .before .before .before .before .before .args .out))
-room c = let a = c .before .before .before .before .before .args in omega (arith, c .before .before .before .before .before .pre .1, length-publish (a .date))
+room :
+    (c : tie.After-known-told) →
+    c .before .before .before .before .before .args .at + 3 ≤ length (now (c .before .before .before .before .before .args .out))
+room c =
+    let a = c .before .before .before .before .before .args in
+    omega (arith, c .before .before .before .before .before .pre .1, length-publish (a .date))
 
 number-requires : tie.Need-number-requires
 number-requires c κs = search needs
@@ -40,7 +55,12 @@ returns : tie.Need-returns
 returns c = absurd (none c)
 
 cast-out : tie.Need-cast-out
-cast-out c = omega (arith, is-number c, number-below (c .before .before .before .before .before .args .date) (c .before .before .before .before .before .pre .0))
+cast-out c =
+    omega (
+      arith,
+      is-number c,
+      number-below (c .before .before .before .before .before .args .date) (c .before .before .before .before .before .pre .0),
+    )
 
 slice-write-out : tie.Need-slice-write-out
 slice-write-out c = let r = room c in omega arith
@@ -70,7 +90,9 @@ same-length : tie.Need-same-length
 same-length c = search needs
 
 returns-2 : tie.Need-returns-2
-returns-2 c = let a = c .before .before .before .before .before .args in (refl, put-date (a .date) _ (now (a .out)) (a .at) (c .before .before .before .before .before .pre .0) (is-number c) (room c))
+returns-2 c =
+    let a = c .before .before .before .before .before .args in
+    (refl, put-date (a .date) _ (now (a .out)) (a .at) (c .before .before .before .before .before .pre .0) (is-number c) (room c))
 
 pub put-date-spec : {M : Type 1} → statement M
 put-date-spec =

@@ -22,23 +22,37 @@ add-put-length : tie.Need-add-put-length
 add-put-length c = search needs
 
 put-length-requires : tie.Need-put-length-requires
-put-length-requires c κs = let s = c .before .before .before in (s .pre .1, feature-room (s .args .version) (s .args .tag) (now (s .args .value)) (now (s .args .out)) (s .args .at) (s .pre .2))
+put-length-requires c κs =
+    let s = c .before .before .before in
+    (s .pre .1, feature-room (s .args .version) (s .args .tag) (now (s .args .value)) (now (s .args .out)) (s .args .at) (s .pre .2))
 
 put-value-requires : tie.Need-put-value-requires
 put-value-requires c κs = let l = c .before .before .before in
     let s = l .before .before .before .before in
-    value-room (s .args .version) (s .args .tag) (now (s .args .value)) (now (s .args .out)) (s .args .at) (s .pre .2) _ _ (l .put-length .ensures .0) (l .put-length .ensures .1)
+    value-room (s .args .version) (s .args .tag) (now (s .args .value)) (now (s .args .out)) (s .args .at) (s .pre .2) _ _
+    (l .put-length .ensures .0) (l .put-length .ensures .1)
 
 -- what was put down
-put : (c : tie.After-slice-known3) → let a = c .before .before .before .before .before .before .before .before .before .before .args in (c .before .before .put-value .result ≡ a .at + length (feature (a .version) (record { tag = a .tag; value = now (a .value) }))) × (c .before .before .put-value .last .1 .0 ≡ over (now (a .out)) (a .at) (feature (a .version) (record { tag = a .tag; value = now (a .value) })))
+put :
+    (c : tie.After-slice-known3) →
+    let a =
+    c .before .before .before .before .before .before .before .before .before .before .args in
+    (c .before .before .put-value .result ≡ a .at + length (feature (a .version) (record { tag = a .tag; value = now (a .value) })))
+    × (c .before .before .put-value .last .1 .0
+    ≡ over (now (a .out)) (a .at) (feature (a .version) (record { tag = a .tag; value = now (a .value) })))
 put c =
     let s = c .before .before .before .before .before .before .before .before .before .before in
     let l = c .before .before .before .before .before .before in
     let p = c .before .before .put-value in
-    put-feature (s .args .version) (s .args .tag) (now (s .args .value)) (now (s .args .out)) (s .args .at) (s .pre .2) _ _ (l .put-length .ensures .0) (l .put-length .ensures .1) _ _ (p .ensures .0) (p .ensures .1)
+    put-feature (s .args .version) (s .args .tag) (now (s .args .value)) (now (s .args .out)) (s .args .at) (s .pre .2) _ _
+    (l .put-length .ensures .0) (l .put-length .ensures .1) _ _ (p .ensures .0) (p .ensures .1)
 
 same-length : tie.Need-same-length
-same-length c = let s = c .before .before .before .before .before .before .before .before .before .before in ap length (put c .1) ∙ length-over (now (s .args .out)) (s .args .at) (feature (s .args .version) (record { tag = s .args .tag; value = now (s .args .value) })) (s .pre .2)
+same-length c =
+    let s = c .before .before .before .before .before .before .before .before .before .before in
+    ap length (put c .1)
+    ∙ length-over (now (s .args .out)) (s .args .at)
+    (feature (s .args .version) (record { tag = s .args .tag; value = now (s .args .value) })) (s .pre .2)
 
 returns : tie.Need-returns
 returns c = put c

@@ -23,21 +23,33 @@ use Rattle.writer.proofs.put.put_front.Tie as tie
 abbrev codes : tie.After-carried3 → List ℕ
 codes c = c .before .before .carried .result ∷ c .before .carried2 .result ∷ c .carried3 .result ∷ []
 
-coded : (c : tie.After-carried3) → map carried (threeOf (c .before .before .before .before .before .before .before .args .header .country)) ≡ codes c
+coded :
+    (c : tie.After-carried3) →
+    map carried (threeOf (c .before .before .before .before .before .before .before .args .header .country)) ≡ codes c
 coded c = λ i. sym (c .before .before .carried .ensures) i ∷ sym (c .before .carried2 .ensures) i ∷ sym (c .carried3 .ensures) i ∷ []
 
 -- the version's byte, as it was stored
-stored : (c : tie.After-carried3) → c .before .before .before .byte .result ≡ versionByte (c .before .before .before .before .before .before .before .args .version)
+stored :
+    (c : tie.After-carried3) →
+    c .before .before .before .byte .result ≡ versionByte (c .before .before .before .before .before .before .before .args .version)
 stored c = c .before .before .before .byte .ensures
 
 -- what was put down
-put : (c : tie.After-slice-known3) → let s = c .before .before .before .before .before .before .before .before .before .before .before .before .before .before .before .before in (c .before .before .put-names .result ≡ length (front (s .args .version) (s .args .header) (now (s .args .text)))) × (c .before .before .put-names .last .1 .1 .0 ≡ over (now (s .args .out)) 0 (front (s .args .version) (s .args .header) (now (s .args .text))))
+put :
+    (c : tie.After-slice-known3) →
+    let s =
+    c .before .before .before .before .before .before .before .before .before .before .before .before .before .before .before .before in
+    (c .before .before .put-names .result ≡ length (front (s .args .version) (s .args .header) (now (s .args .text))))
+    × (c .before .before .put-names .last .1 .1 .0
+    ≡ over (now (s .args .out)) 0 (front (s .args .version) (s .args .header) (now (s .args .text))))
 put c =
-    let s = c .before .before .before .before .before .before .before .before .before .before .before .before .before .before .before .before in
+    let s = c .before .before .before .before .before .before .before .before .before .before .before .before .before .before
+    .before .before in
     let on = c .before .before .before .before .before .before .before .before .before in
     let p = c .before .before .before .before .before .before .put-text in
     let q = c .before .before .put-names in
-    put-front (s .args .version) (s .args .header) (now (s .args .text)) (now (s .args .out)) (s .pre .1) _ (stored on) (codes on) (p .last .1 .0) (p .result) (coded on) (p .ensures .0) (p .ensures .1) (q .last .1 .1 .0) (q .result) (q .ensures .0) (q .ensures .1)
+    put-front (s .args .version) (s .args .header) (now (s .args .text)) (now (s .args .out)) (s .pre .1) _ (stored on) (codes on)
+    (p .last .1 .0) (p .result) (coded on) (p .ensures .0) (p .ensures .1) (q .last .1 .1 .0) (q .result) (q .ensures .0) (q .ensures .1)
 
 slice-write-out : tie.Need-slice-write-out
 slice-write-out c = search needs
@@ -46,7 +58,9 @@ byte-requires : tie.Need-byte-requires
 byte-requires c κs = search needs
 
 slice-write-out-2 : tie.Need-slice-write-out-2
-slice-write-out-2 c = let s = c .before .before .before .before in let p : 1 < length (set (now (s .args .out)) 0 0xDC) = simp length-set (omega (arith, s .pre .1)) in p
+slice-write-out-2 c =
+    let s = c .before .before .before .before in
+    let p : 1 < length (set (now (s .args .out)) 0 0xDC) = simp length-set (omega (arith, s .pre .1)) in p
 
 array-read-carried : tie.Need-array-read-carried
 array-read-carried c = search needs
@@ -72,17 +86,30 @@ slice-aggregate-put-text c = search needs
 put-text-requires : tie.Need-put-text-requires
 put-text-requires c κs = let s = c .before .before .before .before .before .before .before .before .before in
     let on = c .before .before in
-    let k = s .args .header .country in
-    (subst Text (coded on) (country-text (getD k 0 0) (getD k 1 0) (getD k 2 0) (headed-country (s .args .version) (s .args .header) (now (s .args .text)) (s .pre .0))), omega arith, front-room (s .args .version) (s .args .header) (now (s .args .text)) (now (s .args .out)) (s .pre .1) _ (stored on) (codes on) (coded on))
+    let k = s .args .header .country in (
+      subst Text (coded on)
+          (country-text (getD k 0 0) (getD k 1 0) (getD k 2 0)
+          (headed-country (s .args .version) (s .args .header) (now (s .args .text)) (s .pre .0))),
+      omega arith,
+      front-room (s .args .version) (s .args .header) (now (s .args .text)) (now (s .args .out)) (s .pre .1) _ (stored on) (codes on)
+          (coded on),
+    )
 
 put-names-requires : tie.Need-put-names-requires
-put-names-requires c κs = let s = c .before .before .before .before .before .before .before .before .before .before .before .before .before in
+put-names-requires c κs =
+    let s = c .before .before .before .before .before .before .before .before .before .before .before .before .before in
     let on = c .before .before .before .before .before .before in
-    let p = c .before .before .before .put-text in
-    (headed-named (s .args .version) (s .args .header) (now (s .args .text)) (s .pre .0), names-room (s .args .version) (s .args .header) (now (s .args .text)) (now (s .args .out)) (s .pre .1) _ (stored on) (codes on) (p .last .1 .0) (p .result) (coded on) (p .ensures .0) (p .ensures .1))
+    let p = c .before .before .before .put-text in (
+      headed-named (s .args .version) (s .args .header) (now (s .args .text)) (s .pre .0),
+      names-room (s .args .version) (s .args .header) (now (s .args .text)) (now (s .args .out)) (s .pre .1) _ (stored on) (codes on)
+          (p .last .1 .0) (p .result) (coded on) (p .ensures .0) (p .ensures .1),
+    )
 
 same-length : tie.Need-same-length
-same-length c = let s = c .before .before .before .before .before .before .before .before .before .before .before .before .before .before .before .before in ap length (put c .1) ∙ length-over (now (s .args .out)) 0 (front (s .args .version) (s .args .header) (now (s .args .text))) (s .pre .1)
+same-length c =
+    let s = c .before .before .before .before .before .before .before .before .before .before .before .before .before .before
+    .before .before in
+    ap length (put c .1) ∙ length-over (now (s .args .out)) 0 (front (s .args .version) (s .args .header) (now (s .args .text))) (s .pre .1)
 
 returns : tie.Need-returns
 returns c = put c

@@ -14,31 +14,57 @@ abbrev whole : tie.Start → Given
 whole s = given (s .args .header) (now (s .args .text)) (now (s .args .rows)) (now (s .args .values)) (now (s .args .signature))
 
 put-front-requires : tie.Need-put-front-requires
-put-front-requires c κs = let s = c .before .before .before .before .before .before in (s .pre .0 .header, seal-front (s .args .version) (whole s) (now (s .args .out)) (s .pre .1))
+put-front-requires c κs =
+    let s = c .before .before .before .before .before .before in
+    (s .pre .0 .header, seal-front (s .args .version) (whole s) (now (s .args .out)) (s .pre .1))
 
 put-rest-requires : tie.Need-put-rest-requires
-put-rest-requires c κs = let s = c .before .before .before .before .before .before .before .before .before .before in let f = c .before .before .before .put-front in (s .pre .0 .dated, seal-rest (s .args .version) (whole s) (now (s .args .out)) (s .pre .1) (f .last .1 .1 .1 .0) (f .result) (f .ensures .0) (f .ensures .1))
+put-rest-requires c κs =
+    let s = c .before .before .before .before .before .before .before .before .before .before in
+    let f = c .before .before .before .put-front in (
+      s .pre .0 .dated,
+      seal-rest (s .args .version) (whole s) (now (s .args .out)) (s .pre .1) (f .last .1 .1 .1 .0) (f .result) (f .ensures .0)
+          (f .ensures .1),
+    )
 
 put-rows-requires : tie.Need-put-rows-requires
-put-rows-requires c κs = let s = c .before .before .before .before .before .before .before .before .before .before .before .before .before .before in let f = c .before .before .before .before .before .before .before .put-front in let r = c .before .before .before .put-rest in (passed-fit (s .args .version) (whole s) (s .pre .0), seal-rows (s .args .version) (whole s) (now (s .args .out)) (s .pre .1) (f .last .1 .1 .1 .0) (f .result) (f .ensures .0) (f .ensures .1) (r .last .1 .0) (r .result) (r .ensures .0) (r .ensures .1))
+put-rows-requires c κs =
+    let s = c .before .before .before .before .before .before .before .before .before .before .before .before .before .before in
+    let f = c .before .before .before .before .before .before .before .put-front in
+    let r = c .before .before .before .put-rest in (
+      passed-fit (s .args .version) (whole s) (s .pre .0),
+      seal-rows (s .args .version) (whole s) (now (s .args .out)) (s .pre .1) (f .last .1 .1 .1 .0) (f .result) (f .ensures .0)
+          (f .ensures .1) (r .last .1 .0) (r .result) (r .ensures .0) (r .ensures .1),
+    )
 
 put-feature-requires : tie.Need-put-feature-requires
-put-feature-requires c κs = let s = c .before .before .before .before .before .before .before .before .before .before .before .before .before .before .before .before .before .before in
+put-feature-requires c κs =
+    let s = c .before .before .before .before .before .before .before .before .before .before .before .before .before .before
+    .before .before .before .before in
     let f = c .before .before .before .before .before .before .before .before .before .before .before .put-front in
     let r = c .before .before .before .before .before .before .before .put-rest in
     let z = c .before .before .before .put-rows in
-    let n = signature-most (length (now (s .args .signature))) (s .pre .0 .signature) in
-    (omega arith, (omega arith, tt), seal-mark (s .args .version) (whole s) (now (s .args .out)) (s .pre .1) (f .last .1 .1 .1 .0) (f .result) (f .ensures .0) (f .ensures .1) (r .last .1 .0) (r .result) (r .ensures .0) (r .ensures .1) (z .last .1 .1 .1 .0) (z .result) (z .ensures .0) (z .ensures .1))
+    let n = signature-most (length (now (s .args .signature))) (s .pre .0 .signature) in (
+      omega arith,
+      (omega arith, tt),
+      seal-mark (s .args .version) (whole s) (now (s .args .out)) (s .pre .1) (f .last .1 .1 .1 .0) (f .result) (f .ensures .0)
+          (f .ensures .1) (r .last .1 .0) (r .result) (r .ensures .0) (r .ensures .1) (z .last .1 .1 .1 .0) (z .result) (z .ensures .0)
+          (z .ensures .1),
+    )
 
 same-length : tie.Need-same-length
 same-length c = search needs
 
 returns : tie.Need-returns
-returns c = let s = c .before .before .before .before .before .before .before .before .before .before .before .before .before .before .before .before .before .before .before .before .before in
+returns c =
+    let s = c .before .before .before .before .before .before .before .before .before .before .before .before .before .before
+    .before .before .before .before .before .before .before in
     let f = c .before .before .before .before .before .before .before .before .before .before .before .before .before .before .put-front in
     let r = c .before .before .before .before .before .before .before .before .before .before .put-rest in
     let z = c .before .before .before .before .before .before .put-rows in
-    put-seal (s .args .version) (whole s) (now (s .args .out)) (s .pre .1) (f .last .1 .1 .1 .0) (f .result) (f .ensures .0) (f .ensures .1) (r .last .1 .0) (r .result) (r .ensures .0) (r .ensures .1) (z .last .1 .1 .1 .0) (z .result) (z .ensures .0) (z .ensures .1) (c .before .before .put-feature .last .1 .1 .1 .0) (c .before .before .put-feature .ensures .1)
+    put-seal (s .args .version) (whole s) (now (s .args .out)) (s .pre .1) (f .last .1 .1 .1 .0) (f .result) (f .ensures .0) (f .ensures .1)
+    (r .last .1 .0) (r .result) (r .ensures .0) (r .ensures .1) (z .last .1 .1 .1 .0) (z .result) (z .ensures .0) (z .ensures .1)
+    (c .before .before .put-feature .last .1 .1 .1 .0) (c .before .before .put-feature .ensures .1)
 
 pub put-seal-spec : {M : Type 1} → statement M
 put-seal-spec =

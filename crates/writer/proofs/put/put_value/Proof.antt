@@ -23,7 +23,8 @@ kept : (c : tie.At-loop Inv-loop μ-loop) → length (c .loop .out) ≡ length (
 kept c =
     let s = c .before in
     let many = length-take-le (c .loop .i) (now (s .args .value)) (c .loop .inv .0) in
-    ap length (c .loop .inv .1) ∙ length-over (now (s .args .out)) (s .args .at) (take (c .loop .i) (now (s .args .value))) (omega (arith, s .pre))
+    ap length (c .loop .inv .1)
+    ∙ length-over (now (s .args .out)) (s .args .at) (take (c .loop .i) (now (s .args .value))) (omega (arith, s .pre))
 
 loop-holds : tie.Need-loop-holds Inv-loop μ-loop
 loop-holds c = (omega arith, sym (over-none _ _))

@@ -13,7 +13,9 @@ few : (c : tie.After-names-size) → c .names-size .result ≤ 176
 few c = let s = c .before .before in omega (arith, c .names-size .ensures, names-most (s .args .version) (s .args .text) (s .pre .0))
 
 small : (c : tie.After-width-of) → c .width-of .result ≤ 3
-small c = let s = c .before .before .before in omega (arith, c .width-of .ensures, width-small four (s .args .signature) (omega (arith, s .pre .1)))
+small c =
+    let s = c .before .before .before in
+    omega (arith, c .width-of .ensures, width-small four (s .args .signature) (omega (arith, s .pre .1)))
 
 names-size-requires : tie.Need-names-size-requires
 names-size-requires c κs = search needs

@@ -17,14 +17,18 @@ use Rattle.read_items.proofs.cursor.Cursor.date.Statement.{statement}
 use Rattle.read_items.proofs.cursor.Cursor.date.Tie as tie
 
 -- the three bytes are there
-there : (c : tie.After-known-told) → Past 3 (c .before .before .before .before .before .args .self .place) (now (c .before .before .before .before .before .args .seal)) (c .before .next .given .0 .0 .place)
+there :
+    (c : tie.After-known-told) →
+    Past 3 (c .before .before .before .before .before .args .self .place) (now (c .before .before .before .before .before .args .seal))
+    (c .before .next .given .0 .0 .place)
 there c = past-whole 3 _ _ _ (sym (ap (wholeOf _) (c .before .next .given .1)) ∙ c .before .before .before .skip .ensures)
 
 returns : tie.Need-returns
 returns c =
     let on = c .before .before in
     let a = on .before .before .args in
-    whole-none 3 (a .self .place) (now (a .seal)) (λ bytes. dateIn (a .self .place) (dateOf (val bytes 3))) (sym (ap (wholeOf (a .self .place)) (c .enum-told .given .1)) ∙ on .skip .ensures)
+    whole-none 3 (a .self .place) (now (a .seal)) (λ bytes. dateIn (a .self .place) (dateOf (val bytes 3)))
+    (sym (ap (wholeOf (a .self .place)) (c .enum-told .given .1)) ∙ on .skip .ensures)
 
 shared-slice-read-from-bytes : tie.Need-shared-slice-read-from-bytes
 shared-slice-read-from-bytes c = omega (arith, there (c .before) .there)

@@ -16,7 +16,10 @@ use Rattle.read_items.proofs.cursor.Cursor.der_length.Statement.{statem
 use Rattle.read_items.proofs.cursor.Cursor.der_length.Tie as tie
 
 -- what is read is the length at the place
-read : (c : tie.After-read-length) → c .read-length .result ≡ readLength (drop (c .before .before .before .before .args .self .place) (now (c .before .before .before .before .args .seal)))
+read :
+    (c : tie.After-read-length) →
+    c .read-length .result
+    ≡ readLength (drop (c .before .before .before .before .args .self .place) (now (c .before .before .before .before .args .seal)))
 read c =
     let a = c .before .before .before .before .args in
     let s = now (a .seal) in
@@ -34,7 +37,8 @@ add-t15 c =
     let a = on .before .before .before .before .args in
     let s = now (a .seal) in
     let at = a .self .place in
-    let taken = read-is-form (drop at s) (bytes-drop at s (λ i. on .before .before .before .shared-slice-known .given i .fits)) _ _ (sym (read on) ∙ c .before .read .given .1) in
+    let taken = read-is-form (drop at s) (bytes-drop at s (λ i. on .before .before .before .shared-slice-known .given i .fits)) _ _
+    (sym (read on) ∙ c .before .read .given .1) in
     let inside : c .before .read .given .0 .1 .0 ≤ length s - at = omega (arith, taken .there, length-drop at s) in
     omega (arith, inside)
 

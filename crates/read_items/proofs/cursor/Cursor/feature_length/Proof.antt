@@ -24,7 +24,9 @@ returns : tie.Need-returns
 returns c =
     let on = c .before .before in
     let a = on .before .before .before .before .args in
-    sym (ap (byteOf (a .self .place)) (c .enum-told2 .given .1)) ∙ on .byte .ensures ∙ sym (ap (λ v. featureLength v (a .self .place) (now (a .seal))) (on .before .enum-told .given .1))
+    sym (ap (byteOf (a .self .place)) (c .enum-told2 .given .1))
+    ∙ on .byte .ensures
+    ∙ sym (ap (λ v. featureLength v (a .self .place) (now (a .seal))) (on .before .enum-told .given .1))
 
 enum-told-3 : tie.Need-enum-told-3
 enum-told-3 c = search needs
@@ -36,7 +38,9 @@ returns-2 : tie.Need-returns-2
 returns-2 c =
     let on = c .before .before .before in
     let a = on .before .before .before .before .args in
-    sym (ap (byteOf (a .self .place)) (c .before .x .given .1)) ∙ on .byte .ensures ∙ sym (ap (λ v. featureLength v (a .self .place) (now (a .seal))) (on .before .enum-told .given .1))
+    sym (ap (byteOf (a .self .place)) (c .before .x .given .1))
+    ∙ on .byte .ensures
+    ∙ sym (ap (λ v. featureLength v (a .self .place) (now (a .seal))) (on .before .enum-told .given .1))
 
 returns-3 : tie.Need-returns-3
 returns-3 c =

@@ -12,11 +12,16 @@ use Rattle.read_items.proofs.cursor.Cursor.version.Statement.{statement
 use Rattle.read_items.proofs.cursor.Cursor.version.Tie as tie
 
 -- the byte that was read
-read : (c : tie.After-known-told) → Read (c .before .before .before .before .before .args .self .place) (now (c .before .before .before .before .before .args .seal)) (c .before .x .given .0 .0) (c .before .x .given .0 .1 .0 .place)
+read :
+    (c : tie.After-known-told) →
+    Read (c .before .before .before .before .before .args .self .place) (now (c .before .before .before .before .before .args .seal))
+    (c .before .x .given .0 .0) (c .before .x .given .0 .1 .0 .place)
 read c = read-byte _ _ _ _ (sym (ap (byteOf _) (c .before .x .given .1)) ∙ c .before .before .before .byte .ensures)
 
 none : (c : tie.After-enum-told)
-    → not rule.There (c .before .before .before .before .args .self .place) ≡ byte (c .before .before .before .before .args .self .place) (now (c .before .before .before .before .args .seal)) (plainIn (c .before .before .before .before .args .self .place))
+    → not rule.There (c .before .before .before .before .args .self .place)
+    ≡ byte (c .before .before .before .before .args .self .place) (now (c .before .before .before .before .args .seal))
+    (plainIn (c .before .before .before .before .args .self .place))
 none c = sym (ap (byteOf _) (c .enum-told .given .1)) ∙ c .before .before .byte .ensures
 
 byte-requires : tie.Need-byte-requires
@@ -43,10 +48,14 @@ enum-told-2 : tie.Need-enum-told-2
 enum-told-2 c = search needs
 
 returns-2 : tie.Need-returns-2
-returns-2 c = version-wrong _ _ _ _ (read (c .before .before .before)) (sym (ap statedOf (c .enum-told2 .given .1)) ∙ c .before .before .from-byte .ensures)
+returns-2 c =
+    version-wrong _ _ _ _ (read (c .before .before .before))
+    (sym (ap statedOf (c .enum-told2 .given .1)) ∙ c .before .before .from-byte .ensures)
 
 returns-3 : tie.Need-returns-3
-returns-3 c = version-is _ _ _ _ (read (c .before .before .before .before)) _ (sym (ap statedOf (c .before .version .given .1)) ∙ c .before .before .before .from-byte .ensures)
+returns-3 c =
+    version-is _ _ _ _ (read (c .before .before .before .before)) _
+    (sym (ap statedOf (c .before .version .given .1)) ∙ c .before .before .before .from-byte .ensures)
 
 pub version-spec : {M : Type 1} → statement M
 version-spec =

@@ -1,4 +1,5 @@
--- One turn of the walk over the features, on plain values: what is known at the place of a tag, and what each answer there makes of the features.
+-- One turn of the walk over the features, on plain values: what is known at the place of a tag, and what each answer
+-- there makes of the features.
 -- Assumes nothing.
 use mathlib.Core.Path.{_≡_, refl, ap, sym, subst, _∙_}
 use mathlib.Core.Bool.{true, false}
@@ -70,12 +71,17 @@ unfolding free has
 free-none zero = refl
 free-none (suc n) = let ih = free-none n in omega (arith, ih)
 
-free-row : (n : ℕ) (rows : List Row) (r : Row) → r .tag < n → used (r .tag) rows ≡ false → free n (tagsOf rows) ≡ suc (free n (tagsOf (rows ++ (r ∷ []))))
+free-row :
+    (n : ℕ) (rows : List Row) (r : Row) →
+    r .tag < n →
+    used (r .tag) rows ≡ false →
+    free n (tagsOf rows) ≡ suc (free n (tagsOf (rows ++ (r ∷ []))))
 unfolding has
 free-row n rows r h e =
     let same : (k : ℕ) → has k (r .tag ∷ tagsOf rows) ≡ has k (tagsOf (rows ++ (r ∷ []))) =
     λ k. ap (either (eqb k (r .tag))) (has-tags k rows) ∙ sym (has-tags k (rows ++ (r ∷ [])) ∙ used-end k rows r) in
-    free-less n (r .tag) (tagsOf rows) h (has-tags (r .tag) rows ∙ e) ∙ ap suc (free-same n (r .tag ∷ tagsOf rows) (tagsOf (rows ++ (r ∷ []))) same)
+    free-less n (r .tag) (tagsOf rows) h (has-tags (r .tag) rows ∙ e)
+    ∙ ap suc (free-same n (r .tag ∷ tagsOf rows) (tagsOf (rows ++ (r ∷ []))) same)
 
 -- what the features are, by what stands at the place
 module _ (more : ℕ) (v : Version) (rows : List Row) (at : ℕ) (s : List ℕ) where
@@ -110,9 +116,14 @@ module _ (v : Version) (x at : ℕ) (s : List ℕ) where
   unfolding row
   row-cut n value e w = rw (sym e, sym (whole-none n value s (valueIn x n value) w)) refl
 
-  row-is : (n value after : ℕ) → is n value ≡ featureLength v at s → Past n value s after → row v x at s ≡ is (record { tag = x; place = value; size = n }) after
+  row-is :
+      (n value after : ℕ) →
+      is n value ≡ featureLength v at s →
+      Past n value s after →
+      row v x at s ≡ is (record { tag = x; place = value; size = n }) after
   unfolding row
-  row-is n value after e p = rw (sym e, judged n value s after (valueIn x n value) p) (ap (is (record { tag = x; place = value; size = n })) (sym (p .reached)))
+  row-is n value after e p =
+      rw (sym e, judged n value s after (valueIn x n value) p) (ap (is (record { tag = x; place = value; size = n })) (sym (p .reached)))
 
 -- what is known at the place of a tag, after these rows
 pub record Turn (v : Version) (s : List ℕ) (from : ℕ) (rows : List Row) (at : ℕ) : Type 0 where
@@ -121,7 +132,8 @@ pub record Turn (v : Version) (s : List ℕ) (from : ℕ) (rows : List Row) (at 
   pub no-mark : used 0xFF rows ≡ false
 
 pub turn-start : (v : Version) (s : List ℕ) (from : ℕ) → Turn v s from [] from
-turn-start v s from = record { same = ap (λ n. features (suc n) v [] from s) (sym (free-none 255)); room = omega (arith, free-none 255); no-mark = refl }
+turn-start v s from =
+    record { same = ap (λ n. features (suc n) v [] from s) (sym (free-none 255)); room = omega (arith, free-none 255); no-mark = refl }
 
 module _ (v : Version) (s : List ℕ) (from : ℕ) (rows : List Row) (at : ℕ) (turn : Turn v s from rows at) where
   -- the seal ends here
@@ -141,7 +153,8 @@ module _ (v : Version) (s : List ℕ) (from : ℕ) (rows : List Row) (at : ℕ) 
       turn .same ∙ features-used (free 255 (tagsOf rows)) v rows at s x after (read-byte at s x after e) (used-at x rows i h f)
 
   -- a new tag
-  module _ (x after : ℕ) (e : is x after ≡ byte at s (plainIn at)) (other : x ≡ 0xFF → ⊥) (none : (i : ℕ) → i < length rows → getD (tagsOf rows) i 0 ≡ x → ⊥) where
+  module _ (x after : ℕ) (e : is x after ≡ byte at s (plainIn at)) (other : x ≡ 0xFF → ⊥)
+      (none : (i : ℕ) → i < length rows → getD (tagsOf rows) i 0 ≡ x → ⊥) where
     on : features 256 v [] from s ≡ pass (row v x after s) (λ r at. features (free 255 (tagsOf rows)) v (rows ++ (r ∷ [])) at s)
     on = turn .same ∙ features-row (free 255 (tagsOf rows)) v rows at s x after (read-byte at s x after e) (used-none x rows none) other
 
@@ -166,11 +179,16 @@ module _ (v : Version) (s : List ℕ) (from : ℕ) (rows : List Row) (at : ℕ) 
           (row-cut v x after s n value l w)
 
       -- whose value is there
-      pub walk-more : (end : ℕ) → x < 256 → is tt end ≡ whole n value s (past n value) → Turn v s from (rows ++ (record { tag = x; place = value; size = n } ∷ [])) end
+      pub walk-more :
+          (end : ℕ) →
+          x < 256 →
+          is tt end ≡ whole n value s (past n value) →
+          Turn v s from (rows ++ (record { tag = x; place = value; size = n } ∷ [])) end
       walk-more end small w =
           let r : Row = record { tag = x; place = value; size = n } in
           let p = past-whole n value s end w in
-          let less : free 255 (tagsOf rows) ≡ suc (free 255 (tagsOf (rows ++ (r ∷ [])))) = free-row 255 rows r (omega (arith, other)) (used-none x rows none) in
+          let less : free 255 (tagsOf rows) ≡ suc (free 255 (tagsOf (rows ++ (r ∷ [])))) =
+          free-row 255 rows r (omega (arith, other)) (used-none x rows none) in
           record {
             same =
                 on
@@ -201,7 +219,8 @@ module _ (v : Version) (s : List ℕ) (from : ℕ) (tags : List ℕ) (count at :
   kept-cut e = sym (ap (through length) (walk-cut v s from (kept .rows) at (kept .turn) e))
 
   pub kept-end : (x after : ℕ) → is x after ≡ byte at s (plainIn at) → x ≡ 0xFF → is count at ≡ through length (features 256 v [] from s)
-  kept-end x after e ff = ap (λ n. is n at) (sym (kept .many)) ∙ sym (ap (through length) (walk-end v s from (kept .rows) at (kept .turn) x after e ff))
+  kept-end x after e ff =
+      ap (λ n. is n at) (sym (kept .many)) ∙ sym (ap (through length) (walk-end v s from (kept .rows) at (kept .turn) x after e ff))
 
   pub kept-again : (x after i : ℕ) → is x after ≡ byte at s (plainIn at) → i < count → getD tags i 0 ≡ x
       → not (why item.Tag rule.NotUsedBefore) at ≡ through length (features 256 v [] from s)
@@ -227,18 +246,28 @@ module _ (v : Version) (s : List ℕ) (from : ℕ) (tags : List ℕ) (count at x
   pub new-unsized : (rule : Rule) (place : ℕ) → not rule place ≡ featureLength v after s
       → not (why item.Length rule) place ≡ through length (features 256 v [] from s)
   new-unsized rule place l =
-      sym (ap (through length) (walk-unsized v s from (new .kept .rows) at (new .kept .turn) x after (new .read) (new .other) none-of rule place l))
+      sym
+      (ap (through length)
+      (walk-unsized v s from (new .kept .rows) at (new .kept .turn) x after (new .read) (new .other) none-of rule place l))
 
   pub new-small : Bytes s → x < 256
   new-small bytes = omega (arith, bytes at, read-byte at s x after (new .read) .is-byte)
 
   pub new-room : Bytes s → count < 255
-  new-room bytes = omega (arith, new .kept .many, walk-room v s from (new .kept .rows) at (new .kept .turn) x after (new .read) (new .other) none-of (new-small bytes))
+  new-room bytes =
+      omega (
+        arith,
+        new .kept .many,
+        walk-room v s from (new .kept .rows) at (new .kept .turn) x after (new .read) (new .other) none-of (new-small bytes),
+      )
 
   module _ (n value : ℕ) (l : is n value ≡ featureLength v after s) where
     pub new-short : not rule.There value ≡ whole n value s (past n value)
         → not (why item.Value rule.There) value ≡ through length (features 256 v [] from s)
-    new-short w = sym (ap (through length) (walk-short v s from (new .kept .rows) at (new .kept .turn) x after (new .read) (new .other) none-of n value l w))
+    new-short w =
+        sym
+        (ap (through length)
+        (walk-short v s from (new .kept .rows) at (new .kept .turn) x after (new .read) (new .other) none-of n value l w))
 
     pub new-more : (end : ℕ) → Bytes s → is tt end ≡ whole n value s (past n value) → Kept v s from (set tags count x) (count + 1) end
     new-more end bytes w =
@@ -249,6 +278,10 @@ module _ (v : Version) (s : List ℕ) (from : ℕ) (tags : List ℕ) (count at x
           rows = k .rows ++ (r ∷ []);
           many = omega (arith, length-append (k .rows) (r ∷ []), k .many);
           size = simp length-set (k .size);
-          stand = ap (λ j. take j (set tags count x)) (add-one count) ∙ take-suc-set tags count x here ∙ ap (λ z. z ++ (x ∷ [])) (k .stand) ∙ sym (tags-end (k .rows) r);
+          stand =
+              ap (λ j. take j (set tags count x)) (add-one count)
+              ∙ take-suc-set tags count x here
+              ∙ ap (λ z. z ++ (x ∷ [])) (k .stand)
+              ∙ sym (tags-end (k .rows) r);
           turn = walk-more v s from (k .rows) at (k .turn) x after (new .read) (new .other) none-of n value l end (new-small bytes) w;
         }

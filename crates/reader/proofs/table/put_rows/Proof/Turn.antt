@@ -1,4 +1,5 @@
--- One turn of the loop that puts the rows, on plain values: the rows before stand in the table, and those that are left are read from the place on.
+-- One turn of the loop that puts the rows, on plain values: the rows before stand in the table, and those that are left
+-- are read from the place on.
 -- Assumes nothing.
 use mathlib.Core.Path.{_≡_, refl, ap, ap₂, sym, subst, _∙_}
 use Prim.Native.Nat.{ℕ, zero, suc, _+_, _*_, _≤_, _<_}
@@ -64,7 +65,8 @@ record Behind (r : Row) (i : Way (List Row)) (rest : List Row) (end : ℕ) : Typ
   in-front : r ∷ others ≡ rest
 
 behind : (r : Row) (i : Way (List Row)) (rest : List Row) (end : ℕ) → through (λ rows. r ∷ rows) i ≡ is rest end → Behind r i rest end
-behind r (is rows at) rest end e = record { others = rows; is-read = ap (is rows) (same-place (r ∷ rows) rest at end e); in-front = same-value (r ∷ rows) rest at end e }
+behind r (is rows at) rest end e =
+    record { others = rows; is-read = ap (is rows) (same-place (r ∷ rows) rest at end e); in-front = same-value (r ∷ rows) rest at end e }
 behind r (not why place) rest end e = absurd (unread why place rest end e)
 
 -- the next row, and those after it
@@ -77,7 +79,10 @@ record Ahead (more : ℕ) (v : Version) (at : ℕ) (s : List ℕ) (rest : List R
   parts : RowParts v x mid s r after
   others : Behind r (rowsAt more v after s) rest end
 
-ahead : (more : ℕ) (v : Version) (at : ℕ) (s : List ℕ) (rest : List Row) (end : ℕ) → rowsAt (suc more) v at s ≡ is rest end → Ahead more v at s rest end
+ahead :
+    (more : ℕ) (v : Version) (at : ℕ) (s : List ℕ) (rest : List Row) (end : ℕ) →
+    rowsAt (suc more) v at s ≡ is rest end →
+    Ahead more v at s rest end
 unfolding rowsAt
 ahead more v at s rest end e =
     let i =
@@ -112,7 +117,17 @@ pub put-start :
 unfolding table
 put-start v s count from entry a room =
     let e = ended (rowsAt count v from s) a in
-    record { done = []; rest = rowsRead (rowsAt count v from s); left = count; end = e .end; counted = omega arith; is-left = e .is-read; all = refl; held = held-start entry; room = room }
+    record {
+      done = [];
+      rest = rowsRead (rowsAt count v from s);
+      left = count;
+      end = e .end;
+      counted = omega arith;
+      is-left = e .is-read;
+      all = refl;
+      held = held-start entry;
+      room = room;
+    }
 
 module _ (v : Version) (s : List ℕ) (count from : ℕ) (entry out : List ℕ) (at to : ℕ) (put : Put v s count from entry out at to) where
   pub put-length : length out ≡ length entry
