@@ -126,7 +126,8 @@ reads-only-published s room t bytes e =
     by-test (ltb 4096 (length s))
     (λ long. absurd (never 45 0 (omega arith) (reading-long s room (ltb-true 4096 (length s) long))))
     (λ size. by-test (eqb (length s % 2) 1)
-    (λ odd. absurd (never 40 (length s) (omega arith) (reading-odd s room (ltb-false 4096 (length s) size) (eqb-true (length s % 2) 1 odd))))
+    (λ odd. absurd (never 40 (length s) (omega arith)
+    (reading-odd s room (ltb-false 4096 (length s) size) (eqb-true (length s % 2) 1 odd))))
     (λ even. pairs (ltb-false 4096 (length s) size) (eqb-false (length s % 2) 1 even) (decode 0 s) refl))
   where
     never : (number place : ℕ) → 0 < number → reading s room ≡ refused number place → ⊥

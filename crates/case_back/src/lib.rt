@@ -8,7 +8,7 @@ use case_file::at;
 use case_file::put_call;
 use case_file::put_text;
 use face::FrFilled;
-use read_items::Header;
+use fields::Header;
 use reader::Reading;
 
 // Whether a buffer begins with all of a seal.

@@ -8,7 +8,7 @@ use case_file::put_call;
 use case_file::put_text;
 use dates::Date;
 use face::FrFilled;
-use read_items::Header;
+use fields::Header;
 
 // The greatest number that a header or a row can have.
 const GREATEST: usize = 18446744073709551615;

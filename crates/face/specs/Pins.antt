@@ -2,7 +2,7 @@
 -- Assumes nothing.
 use mathlib.Core.Path.{_≡_, refl}
 use mathlib.Core.List.{[], _∷_}
-use Rattle.read_items.specs.declared.Header.{Header}
+use Rattle.fields.specs.declared.Header.{Header}
 use Rattle.face.specs.declared.FrHeader.{FrHeader}
 use Rattle.face.specs.Face.{headerOf, readingOf, innerHeader}
 

@@ -69,7 +69,8 @@ header-bytes h l =
     bytes-append (c40 (map carried (h .country))) p4 (publish-bytes (map carried (h .country)) (country-text (h .country) (l .country) .1))
     b4 in
     subst Bytes (sym (sym (append-nil (headerZone h)) ∙ header-parts h []))
-    (bytes-cons 0xDC (versionByte (h .version) ∷ p3) (omega arith) (bytes-cons (versionByte (h .version)) p3 (version-byte (h .version)) b3))
+    (bytes-cons 0xDC (versionByte (h .version) ∷ p3) (omega arith)
+    (bytes-cons (versionByte (h .version)) p3 (version-byte (h .version)) b3))
 
 length-bytes : (v : Version) (n : ℕ) → ValueSize v n → Bytes (lengthOf v n)
 length-bytes three n h = byte n (omega arith)

@@ -46,8 +46,8 @@ pub fn country(at: Cursor, seal: &[u8], code: &mut [u8; 3]) -> Step
     let Step::Past(next) = read else {
         return read;
     };
-    found[1] = letters::shown(found[1]);
-    found[2] = letters::shown(found[2]);
+    found[1] = fields::shown(found[1]);
+    found[2] = fields::shown(found[2]);
     *code = found;
     Step::Past(next)
 }

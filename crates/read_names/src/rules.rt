@@ -26,7 +26,7 @@ fn in_country(text: &[u8]) -> Kept
     requires { ⌜ length (now text) ≡ 3 ⌝ }
     ensures { λ r. ⌜ keptOf r ≡ read.inCountry (now (text .entry)) ⌝ }
 {
-    if letters::is_country(text[0], text[1], text[2], b' ') {
+    if fields::is_country(text[0], text[1], text[2], b' ') {
         return Kept::All;
     }
     Kept::Not(Rule::CountryCode)
@@ -36,7 +36,7 @@ fn in_country(text: &[u8]) -> Kept
 fn in_reference(text: &[u8]) -> Kept
     ensures { λ r. ⌜ keptOf r ≡ read.inReference (now (text .entry)) ⌝ }
 {
-    if letters::all_reference(text) {
+    if fields::all_reference(text) {
         return Kept::All;
     }
     Kept::Not(Rule::ReferenceCharacters)
@@ -47,7 +47,7 @@ fn in_nine(text: &[u8]) -> Kept
     requires { ⌜ length (now text) ≡ 9 ⌝ }
     ensures { λ r. ⌜ keptOf r ≡ read.inNine (now (text .entry)) ⌝ }
 {
-    if letters::is_signer(text[0], text[1], text[2], text[3]) {
+    if fields::is_signer(text[0], text[1], text[2], text[3]) {
         return in_reference(&text[4..]);
     }
     Kept::Not(Rule::SignerCharacters)
@@ -58,7 +58,7 @@ fn in_six(text: &[u8]) -> Kept
     requires { ⌜ length (now text) ≡ 6 ⌝ }
     ensures { λ r. ⌜ keptOf r ≡ read.inSix (now (text .entry)) ⌝ }
 {
-    if !letters::is_signer(text[0], text[1], text[2], text[3]) {
+    if !fields::is_signer(text[0], text[1], text[2], text[3]) {
         return Kept::Not(Rule::SignerCharacters);
     }
     let high = octets::hex_value(text[4]);

@@ -7,10 +7,10 @@ use mathlib.Core.List.{List}
 use Rattle.format.specs.OneToOne.{OneToOne, by-way-back, one-back}
 use Rattle.verdict.specs.Items.{Way, is, not}
 use Rattle.read_zones.specs.Steps.{Fields, Dated, frontOf, restOf, featuresOf, signatureOf}
-use Rattle.read_zones.specs.declared.fields.Front.{Front}
-use Rattle.read_zones.specs.declared.fields.Front.the-variants as front
-use Rattle.read_zones.specs.declared.fields.Rest.{Rest}
-use Rattle.read_zones.specs.declared.fields.Rest.the-variants as rest
+use Rattle.read_zones.specs.declared.header.Front.{Front}
+use Rattle.read_zones.specs.declared.header.Front.the-variants as front
+use Rattle.read_zones.specs.declared.header.Rest.{Rest}
+use Rattle.read_zones.specs.declared.header.Rest.the-variants as rest
 use Rattle.read_zones.specs.declared.features.Features.{Features}
 use Rattle.read_zones.specs.declared.features.Features.the-variants as features
 use Rattle.read_zones.specs.declared.signature.Signature.{Signature}

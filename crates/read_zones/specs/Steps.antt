@@ -11,10 +11,10 @@ use Rattle.versions.specs.declared.Version.{Version}
 use Rattle.causes.specs.declared.Item.the-variants as item
 use Rattle.verdict.specs.Items.{Way, is, not, next, pass, mark, version, country, names, date, last, Names}
 use Rattle.read_names.specs.Meaning.{Measured, measured}
-use Rattle.read_zones.specs.declared.fields.Front.{Front}
-use Rattle.read_zones.specs.declared.fields.Front.the-variants as front
-use Rattle.read_zones.specs.declared.fields.Rest.{Rest}
-use Rattle.read_zones.specs.declared.fields.Rest.the-variants as rest
+use Rattle.read_zones.specs.declared.header.Front.{Front}
+use Rattle.read_zones.specs.declared.header.Front.the-variants as front
+use Rattle.read_zones.specs.declared.header.Rest.{Rest}
+use Rattle.read_zones.specs.declared.header.Rest.the-variants as rest
 use Rattle.read_zones.specs.declared.features.Features.{Features}
 use Rattle.read_zones.specs.declared.features.Features.the-variants as features
 use Rattle.read_zones.specs.declared.signature.Signature.{Signature}

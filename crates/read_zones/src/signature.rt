@@ -36,7 +36,7 @@ pub fn read_signature(at: Cursor, seal: &[u8]) -> Signature
     let Number::Is(size, start) = length else {
         return Signature::Not(length.refusal(Item::SignatureLength));
     };
-    if !read_items::is_signature(size) {
+    if !fields::is_signature(size) {
         return Signature::Not(Refusal::of(Item::SignatureLength, Rule::SignatureSize, at.place));
     }
     let Whole::Past(end) = start.skip(seal, size) else {

@@ -16,7 +16,7 @@ use Rattle.versions.specs.Versions.{versionNumber}
 use Rattle.versions.specs.declared.Version.{Version}
 use Rattle.versions.specs.declared.Stated.{Stated}
 use Rattle.versions.specs.declared.Stated.the-variants as stated
-use Rattle.read_items.specs.declared.Header.{Header}
+use Rattle.fields.specs.declared.Header.{Header}
 use Rattle.rows.specs.Rows.{width, table}
 use Rattle.verdict.specs.Judge.{Report, Verdict, accepted, refused, judge}
 use Rattle.reader.specs.declared.Ends.{Ends}

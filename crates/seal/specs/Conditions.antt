@@ -1,9 +1,11 @@
 -- The tender's conditions of acceptance for reader and writer, as theorems: each after its sentence. What is cited stands in
---   Legal, publish, signedBytes, Content           crates/grammar/specs (a grammar that knows nothing of reader and writer: crates.txt)
---   reading, answerOf, rowsIn, textIn, then        crates/reader/specs/Calls.antt (the contract of `read`; of `judge`: crates/verdict/specs/Judge.antt), contentIn: Answer.antt there
---   writing, Lent, Sound                           crates/writer/specs/Calls.antt (the contract of `write`), Legal.antt there; contentOf: crates/write_given/specs/Given.antt
---   told, filled                                   crates/format/specs/Answers.antt
---   againFrom                                      crates/seal/specs/Again.antt
+--   Legal, publish, signedBytes, Content     crates/grammar/specs (a grammar that knows nothing of reader and writer: crates.txt)
+--   reading, answerOf, rowsIn, textIn, then  crates/reader/specs/Calls.antt (the contract of `read`); contentIn: Answer.antt there
+--   judge                                    crates/verdict/specs/Judge.antt (the contract of `judge`)
+--   writing, Lent, Sound                     crates/writer/specs/Calls.antt (the contract of `write`), Legal.antt there
+--   contentOf                                crates/write_given/specs/Given.antt
+--   told, filled                             crates/format/specs/Answers.antt
+--   againFrom                                crates/seal/specs/Again.antt
 -- C40 text, dates, INTEGERs and signature forms: condition 1 in Entries.antt beside this file, condition 2 in the file
 -- Exact.antt of c40, dates, integers and ecdsa.
 -- Assumes nothing.

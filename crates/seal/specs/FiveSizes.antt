@@ -11,7 +11,7 @@ use Rattle.format.specs.Choice.Laws.{by-test}
 use Rattle.format.specs.Choice.{either}
 use Rattle.grammar.specs.Legal.{SignatureSize}
 use Rattle.ecdsa.specs.Signature.{isSize}
-use Rattle.verdict.specs.Judge.{isSignature}
+use Rattle.fields.specs.Signature.{isSignature}
 use Rattle.verdict.specs.Judge.Complete.{size-passes}
 use Rattle.verdict.specs.Judge.Sound.{size-of}
 

@@ -31,7 +31,7 @@ use Rattle.causes.specs.declared.Rule.{Rule}
 use Rattle.causes.specs.declared.Rule.the-variants as rule
 use Rattle.causes.specs.declared.Why.{Why}
 use Rattle.grammar.specs.Content.{Version, three, four}
-use Rattle.letters.specs.Characters.{isReference, isCountry, isSigner, all, shown}
+use Rattle.fields.specs.Characters.{isReference, isCountry, isSigner, all, shown}
 
 -- what is read and the place after it, or why it is not read, and the place
 pub data Read (R A : Type 0) : Type 0 where

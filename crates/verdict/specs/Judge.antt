@@ -13,6 +13,7 @@ use mathlib.Core.List.{List, [], _∷_, _++_}
 use lib.Dec.{ltb, eqb}
 use lib.ListN.{length}
 use Rattle.format.specs.Choice.{pick, either}
+use Rattle.fields.specs.Signature.{isSignature}
 use Rattle.grammar.specs.Content.{Version, Header}
 pub use Rattle.rows.specs.declared.Row.{Row}
 use Rattle.causes.specs.Causes.{ruleNumber}
@@ -85,10 +86,6 @@ features (suc more) v rows at s =
     next item.Tag (tag rows at s)
     (λ x at′. pick (eqb x 0xFF) (is rows at)
     (pass (row v x at′ s) (λ r at. features more v (rows ++ (r ∷ [])) at s)))
-
--- raw length 2n for n of 28, 32, 48, 64 or 66
-abbrev pub isSignature : ℕ → Bool
-isSignature n = either (eqb n 56) (either (eqb n 64) (either (eqb n 96) (either (eqb n 128) (eqb n 132))))
 
 -- the signature after FF: its size; that is judged before its bytes are looked for, and nothing follows them
 abbrev pub rawIn : ℕ → ℕ → List ℕ → Item ℕ

@@ -10,7 +10,7 @@ use Rattle.versions.specs.Versions.{versionOf}
 use Rattle.grammar.specs.Content.{Feature, Content, Header as Headed}
 use Rattle.rows.specs.Rows.{rowsOf}
 use Rattle.verdict.specs.Report.{featureOf}
-use Rattle.read_items.specs.declared.Header.{Header}
+use Rattle.fields.specs.declared.Header.{Header}
 
 pub record Given : Type 0 where
   pub header : Header

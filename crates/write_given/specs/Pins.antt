@@ -8,7 +8,7 @@ use mathlib.Core.Option.{none, some}
 use Rattle.dates.specs.Days.{firstDay}
 use Rattle.grammar.specs.Content.{three, four}
 use Rattle.grammar.specs.Examples.{uto, utab, ref-00001, d-fillers, spring}
-use Rattle.read_items.specs.declared.Header.{Header}
+use Rattle.fields.specs.declared.Header.{Header}
 use Rattle.rows.specs.Rows.{numbers, valued, rowAt, table, firstRows, rowsOf}
 use Rattle.write_given.specs.Given.{contentAs, contentOf, given}
 use Rattle.write_given.specs.Tests.{isTextSize, areNames, areRows, isTable, areShort, areValues}

@@ -10,11 +10,11 @@ use lib.ListN.{length, take, drop}
 use Rattle.format.specs.Choice.{pick, both, within}
 use Rattle.dates.specs.Days.{isDay}
 use Rattle.grammar.specs.Content.{Version, three, four}
-use Rattle.letters.specs.Characters.{isReference, all, isCountry, isSigner}
+use Rattle.fields.specs.Characters.{isReference, all, isCountry, isSigner}
 use Rattle.rows.specs.declared.Row.{Row}
 use Rattle.rows.specs.Rows.{isWhole, rowsOf}
 use Rattle.verdict.specs.Judge.{used}
-use Rattle.read_items.specs.declared.Header.{Header}
+use Rattle.fields.specs.declared.Header.{Header}
 
 -- the text is signer then reference: 9 bytes in version 3, 5 to 259 in version 4
 abbrev pub isTextSize : Version → ℕ → Bool

@@ -1,11 +1,11 @@
 // What the writer is given, judged (document 01, numbers 21 to 25): header and text here, rows in table.rt. 20 is `Version::from_number`,
-// 26 `read_items::is_signature`.
+// 26 `fields::is_signature`.
 ghost use mathlib.Core.Path.{_≡_};
 ghost use Rattle.write_given.specs.Tests as test;
 
 mod table;
 
-use read_items::Header;
+use fields::Header;
 pub use table::are_rows;
 pub use table::are_values;
 use versions::Version;
@@ -28,7 +28,7 @@ pub fn are_names(version: Version, header: Header, text: &[u8]) -> bool
     ensures { λ r. ⌜ r ≡ test.areNames version header (now (text .entry)) ⌝ }
 {
     let country = header.country;
-    if !letters::is_country(country[0], country[1], country[2], b'<') {
+    if !fields::is_country(country[0], country[1], country[2], b'<') {
         return false;
     }
     let size = text.len();
@@ -38,10 +38,10 @@ pub fn are_names(version: Version, header: Header, text: &[u8]) -> bool
     if header.length != size - 4 {
         return false;
     }
-    if !letters::is_signer(text[0], text[1], text[2], text[3]) {
+    if !fields::is_signer(text[0], text[1], text[2], text[3]) {
         return false;
     }
-    letters::all_reference(&text[4..])
+    fields::all_reference(&text[4..])
 }
 
 // Both dates are days.

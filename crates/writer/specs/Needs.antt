@@ -13,10 +13,10 @@ use Rattle.versions.specs.Versions.{versionByte}
 use Rattle.versions.specs.declared.Version.{Version}
 use Rattle.grammar.specs.Legal.{ValueSize}
 use Rattle.grammar.specs.Publish.{carried, hexDigits, names, publish}
-use Rattle.letters.specs.Characters.{isReference, all, isSigner}
+use Rattle.fields.specs.Characters.{isReference, all, isSigner}
 use Rattle.rows.specs.declared.Row.{Row}
-use Rattle.verdict.specs.Judge.{isSignature}
-use Rattle.read_items.specs.declared.Header.{Header}
+use Rattle.fields.specs.Signature.{isSignature}
+use Rattle.fields.specs.declared.Header.{Header}
 use Rattle.write_given.specs.Tests.{isTextSize, areNames, areDays, areLast, isTable, areValues}
 use Rattle.write_given.specs.Given.{Given, threeOf, contentAs}
 

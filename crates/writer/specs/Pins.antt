@@ -13,7 +13,7 @@ use Rattle.dates.specs.Days.{isDay, publish as date}
 use Rattle.der.specs.Length.{form}
 use Rattle.grammar.specs.Publish.{headerZone, messageZone, signatureZone, signedBytes, publish}
 use Rattle.grammar.specs.Examples.{uto, utab, ref-00001, spring, seal-a}
-use Rattle.read_items.specs.declared.Header.{Header}
+use Rattle.fields.specs.declared.Header.{Header}
 use Rattle.write_given.specs.Tests.{areRows, areShort}
 use Rattle.rows.specs.Rows.{numbers, valued, rowAt, table, firstRows, rowsOf}
 use Rattle.write_given.specs.Given.{Given, given, contentAs}

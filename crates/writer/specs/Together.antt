@@ -23,14 +23,15 @@ use Rattle.grammar.specs.Content.{Version, three, four}
 use Rattle.versions.specs.Versions.{versionByte}
 use Rattle.grammar.specs.Publish.{carried, names, lengthOf, feature, headerZone, messageZone, signatureZone, signedBytes, publish}
 use Rattle.format.specs.Choice.Laws.{both-true, within-both}
-use Rattle.letters.specs.Characters.{isSigner, isCountry}
+use Rattle.fields.specs.Characters.{isSigner, isCountry}
 use Rattle.verdict.specs.Report.{featureOf}
 use Rattle.rows.specs.declared.Row.{Row}
 use Rattle.rows.specs.Rows.{rowsOf, isWhole}
-use Rattle.verdict.specs.Judge.{used, isSignature}
+use Rattle.verdict.specs.Judge.{used}
+use Rattle.fields.specs.Signature.{isSignature}
 use Rattle.verdict.specs.Judge.Complete.{size-small}
 use Rattle.verdict.specs.Judge.Sound.{size-of}
-use Rattle.read_items.specs.declared.Header.{Header}
+use Rattle.fields.specs.declared.Header.{Header}
 use Rattle.write_given.specs.Tests.Laws.{size-three, size-four, sized-head}
 use Rattle.write_given.specs.Tests.{isTextSize, isRow, areRows, isTable, areSized}
 use Rattle.write_given.specs.Given.{threeOf, Given, contentAs}

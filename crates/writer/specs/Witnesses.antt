@@ -17,7 +17,7 @@ use Rattle.dates.specs.Days.{isDay, firstDay, lastDay, publish as date}
 use Rattle.der.specs.Length.{form}
 use Rattle.grammar.specs.Publish.{headerZone, messageZone, signatureZone, signedBytes, publish}
 use Rattle.grammar.specs.Examples.{uto, utab, ref-00001, d-fillers, spring, content-a, seal-a, content-b, signed-b}
-use Rattle.read_items.specs.declared.Header.{Header}
+use Rattle.fields.specs.declared.Header.{Header}
 use Rattle.write_given.specs.Tests.{areRows, areShort}
 use Rattle.rows.specs.Rows.{numbers, valued, rowAt, table, firstRows, rowsOf}
 use Rattle.write_given.specs.Given.{Given, contentAs, contentOf, given}

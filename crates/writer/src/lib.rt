@@ -9,7 +9,7 @@ mod names;
 mod put;
 mod size;
 
-use read_items::Header;
+use fields::Header;
 use versions::Stated;
 use versions::Version;
 
@@ -68,7 +68,7 @@ pub fn write(
     if !write_given::are_values(version, rows) {
         return Writing::Values;
     }
-    if !read_items::is_signature(signature.len()) {
+    if !fields::is_signature(signature.len()) {
         return Writing::Signature;
     }
     let size = size::seal_size(version, text.len(), rows, signature.len());

@@ -16,7 +16,7 @@ use crate::names::put_text;
 use dates::Date;
 use dates::Numbered;
 use der::Form;
-use read_items::Header;
+use fields::Header;
 use rows::Found;
 use rows::WIDTH;
 use rows::row_at;

@@ -85,7 +85,8 @@ content-found n r c rest many small h =
     let content : part from to t ≡ c = ap₂ (λ j l. take j l) wide body ∙ take-at c rest m refl in
     let whole : length (element 0x02 c) ≡ to = ap suc (length-append (form m) c) ∙ omega arith in
     let end : to ≤ length t = omega (arith, length-append (element 0x02 c) rest) in
-    let digits : part (from + lead c) to t ≡ drop (lead c) c = digits-part from to (lead c) t end (omega (arith, size .0)) ∙ ap (drop (lead c)) content in (
+    let digits : part (from + lead c) to t ≡ drop (lead c) c =
+    digits-part from to (lead c) t end (omega (arith, size .0)) ∙ ap (drop (lead c)) content in (
       sym (number-at n t from to (element-found 0x02 c rest (omega (arith, size .2))))
           ∙ ap (λ d. digitsIn n from to d) content
           ∙ sym (digits-is n from to c (h .is-strict) (h .low) (lead c) refl (omega (arith, size .1))),

@@ -13,7 +13,7 @@ use lib.Seq.{take-append-le, drop-append-le, take-at, drop-at, length-take-le}
 use Rattle.grammar.specs.Content.{three, four}
 use Rattle.format.specs.Choice.Laws.{both-true, within-both}
 use Rattle.format.specs.Hex.{hexValue}
-use Rattle.letters.specs.Characters.{isLetter, isSigner, isCountry, shown}
+use Rattle.fields.specs.Characters.{isLetter, isSigner, isCountry, shown}
 use Rattle.causes.specs.declared.Item.the-variants as item
 use Rattle.causes.specs.declared.Rule.{Rule}
 use Rattle.causes.specs.declared.Rule.the-variants as rule

@@ -11,7 +11,7 @@ use lib.Dec.{ltb}
 use lib.ListN.{length, take, getD}
 use Rattle.format.specs.Choice.{both}
 use Rattle.format.specs.Hex.{hexValue}
-use Rattle.letters.specs.Characters.{isSigner}
+use Rattle.fields.specs.Characters.{isSigner}
 use Rattle.causes.specs.declared.Rule.{Rule}
 use Rattle.causes.specs.declared.Rule.the-variants as rule
 use Rattle.verdict.specs.Items.{unless, lengthIn, isHex, inSix}

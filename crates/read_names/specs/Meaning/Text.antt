@@ -40,7 +40,8 @@ module _ (bytes room out : List ℕ) (sized : Sized bytes room) (r : Reading) (a
   answered : {C : Type 0}
       → ((fault : Fault) (at : ℕ) → decode 0 bytes ≡ wrong fault at → readingOf r ≡ told (refused 41 at) → C)
       → ((t : List ℕ) → decode 0 bytes ≡ text t → length room < length t → readingOf r ≡ told (refused 42 0) → C)
-      → ((t : List ℕ) → decode 0 bytes ≡ text t → length t ≤ length room → readingOf r ≡ told (done t) → out ≡ t ++ drop (length t) room → C)
+      → ((t : List ℕ) → decode 0 bytes ≡ text t → length t ≤ length room
+      → readingOf r ≡ told (done t) → out ≡ t ++ drop (length t) room → C)
       → C
   answered {C} bad long good = by (decode 0 bytes) refl
     where

@@ -18,7 +18,8 @@ use Rattle.verdict.specs.Items.Laws.{unread}
 use Rattle.read_items.specs.Meaning.{through, valueOr}
 use Rattle.read_names.specs.Meaning.{Measured, measured, textOver}
 use Rattle.read_items.specs.Meaning.Laws.{Past, judged}
-use Rattle.verdict.specs.Judge.{isSignature, signature, rawIn, endIn}
+use Rattle.verdict.specs.Judge.{signature, rawIn, endIn}
+use Rattle.fields.specs.Signature.{isSignature}
 use Rattle.read_zones.specs.Steps.{Fields, fields, codeIn, namesIn, dated}
 
 -- what is not read through a map is not read itself

@@ -13,8 +13,8 @@ use Rattle.verdict.specs.Judge.{features, signature as signatureAt}
 use Rattle.read_zones.specs.Steps.{fields, dated, frontOf, restOf, featuresOf, signatureOf}
 use Rattle.read_zones.specs.Steps.Laws.{through-unread}
 use Rattle.read_zones.specs.Steps.Together.{Counted, counted, fields-known}
-use Rattle.read_zones.specs.declared.fields.Front.the-variants as front
-use Rattle.read_zones.specs.declared.fields.Rest.the-variants as rest
+use Rattle.read_zones.specs.declared.header.Front.the-variants as front
+use Rattle.read_zones.specs.declared.header.Rest.the-variants as rest
 use Rattle.read_zones.specs.declared.signature.Signature.the-variants as signature
 use Rattle.reader.specs.Judged.{judge-fields, judge-dated, judge-features, judge-signature, judge-accepted}
 use Rattle.reader.specs.FeatureRows.Laws.{mark-inside}

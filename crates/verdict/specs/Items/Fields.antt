@@ -24,8 +24,8 @@ use Rattle.grammar.specs.Publish.{carried, hexDigits}
 use Rattle.grammar.specs.Publish as form
 use Rattle.grammar.specs.Legal.{Letter, Filler, Country, Signer, ReferenceCharacter}
 use Rattle.grammar.specs.Parts.{country-text, signer-text, reference-text, Names as LegalNames, six, six-text, four-form}
-use Rattle.letters.specs.Characters.Grammar.{letter, reference-passes, all-pass, signer-passes}
-use Rattle.letters.specs.Characters.{isLetter, isReference, all, isCountry, isSigner, shown}
+use Rattle.fields.specs.Characters.Grammar.{letter, reference-passes, all-pass, signer-passes}
+use Rattle.fields.specs.Characters.{isLetter, isReference, all, isCountry, isSigner, shown}
 use Rattle.causes.specs.declared.Rule.the-variants as rule
 use Rattle.causes.specs.declared.Item.the-variants as item
 use Rattle.verdict.specs.Items.{is, next, pass, unless, field, inCountry, country, inNine, lengthIn, isHex, inSix, inReference, named}

@@ -26,8 +26,8 @@ use Rattle.grammar.specs.Publish as form
 use Rattle.grammar.specs.Legal.{Letter, Filler, Country, Signer, ReferenceCharacter}
 use Rattle.grammar.specs.Parts.{Names as LegalNames, four-form}
 use Rattle.grammar.specs.Pins.{filled-three}
-use Rattle.letters.specs.Characters.Grammar.{reference-of, all-of, signer-of}
-use Rattle.letters.specs.Characters.{isLetter, isReference, all, isCountry, isSigner, shown}
+use Rattle.fields.specs.Characters.Grammar.{reference-of, all-of, signer-of}
+use Rattle.fields.specs.Characters.{isLetter, isReference, all, isCountry, isSigner, shown}
 use Rattle.causes.specs.declared.Rule.{Rule}
 use Rattle.causes.specs.declared.Rule.the-variants as rule
 use Rattle.causes.specs.declared.Item.the-variants as item

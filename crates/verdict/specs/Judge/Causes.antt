@@ -6,8 +6,8 @@ use mathlib.Core.List.{List, [], _∷_, _++_}
 use lib.ListN.{take, replicate}
 use Rattle.format.specs.Bytes.{All}
 use Rattle.format.specs.BigEndian.{val}
-use Rattle.c40.specs.Chart.{theChart, valueOf}
-use Rattle.c40.specs.Pairs.{pairOf, single, values}
+use Rattle.pairs.specs.Chart.{theChart, valueOf}
+use Rattle.pairs.specs.Pairs.{pairOf, single, values}
 use Rattle.c40.specs.Decode.{decode}
 use Rattle.dates.specs.Days.{isDay}
 use Rattle.der.specs.Length.{readLength, longForm}

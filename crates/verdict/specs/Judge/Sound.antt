@@ -28,7 +28,8 @@ use Rattle.verdict.specs.Items.Sound.{mark-read, version-read, last-read
 use Rattle.verdict.specs.Items.Laws.{unread, whole-read}
 use Rattle.verdict.specs.Items.FieldsSound.{country-read, names-read}
 use Rattle.verdict.specs.Judge.{Row, Report, Verdict, accepted, refused, header, used, tagIn, tag, valueIn, row, features}
-use Rattle.verdict.specs.Judge.{isSignature, rawIn, endIn, sizeIn, signature, verdict, reading, judging, judge}
+use Rattle.verdict.specs.Judge.{rawIn, endIn, sizeIn, signature, verdict, reading, judging, judge}
+use Rattle.fields.specs.Signature.{isSignature}
 
 pub header-read : (s : List ℕ) (h : Header) (end : ℕ) → Bytes s → header s ≡ is h end → LegalHeader h × Stands (headerZone h) 0 end s
 unfolding header

@@ -6,7 +6,7 @@ use mathlib.Core.Path.{_≡_, sym, ap, _∙_}
 use mathlib.Core.Bool.{true, false}
 use Rattle.format.specs.Choice.{both}
 use Rattle.dates.specs.Days.{isDay}
-use Rattle.read_items.specs.declared.Header.{Header}
+use Rattle.fields.specs.declared.Header.{Header}
 use Rattle.write_given.specs.Tests.{areDays}
 use Rattle.write_given.proofs.are_days.Statement.{statement}
 use Rattle.write_given.proofs.are_days.Tie as tie

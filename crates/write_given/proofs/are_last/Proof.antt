@@ -6,7 +6,7 @@ use Prim.Native.Nat.{_<_, _≤_}
 use native.Mathlib.Omega.{arith}
 use borrow.Author.Tests.{lt-leb, le-leb}
 use lib.Dec.{leb}
-use Rattle.read_items.specs.declared.Header.{Header}
+use Rattle.fields.specs.declared.Header.{Header}
 use Rattle.write_given.specs.Tests.{areLast}
 use Rattle.write_given.proofs.are_last.Statement.{statement}
 use Rattle.write_given.proofs.are_last.Tie as tie

@@ -8,8 +8,8 @@ use mathlib.Core.Bool.{true}
 use Prim.Native.Nat.{_+_, _≤_}
 use denote.Ref.{now}
 use lib.ListN.{length, take}
-use Rattle.letters.specs.Characters.{isSigner, isReference, all, isCountry}
-use Rattle.letters.specs.Characters.Laws.{first-four, rest-of}
+use Rattle.fields.specs.Characters.{isSigner, isReference, all, isCountry}
+use Rattle.fields.specs.Characters.Laws.{first-four, rest-of}
 use Rattle.write_given.specs.Tests.Laws.{names-country, names-size, names-length, names-signer, names-reference, size-any}
 use Rattle.write_given.specs.Tests.{isTextSize}
 use Rattle.write_given.proofs.are_names.Statement.{statement}

@@ -11,10 +11,10 @@ use lib.ListN.{length, take, drop}
 use Rattle.format.specs.Choice.{both}
 use Rattle.format.specs.Choice.Laws.{both-true, both-are, within-both}
 use Rattle.grammar.specs.Content.{Version, three, four}
-use Rattle.letters.specs.Characters.{isReference, all, isCountry, isSigner}
+use Rattle.fields.specs.Characters.{isReference, all, isCountry, isSigner}
 use Rattle.grammar.specs.Legal.{ValueSize}
 use Rattle.rows.specs.declared.Row.{Row}
-use Rattle.read_items.specs.declared.Header.{Header}
+use Rattle.fields.specs.declared.Header.{Header}
 use Rattle.write_given.specs.Tests.{isTextSize, areNames, areShort, areSized}
 
 -- country, sizes, signer and reference, test by test

@@ -10,7 +10,7 @@ use Rattle.format.specs.Answers.{done, refused}
 use Rattle.versions.specs.declared.Version.{Version}
 use Rattle.versions.specs.Versions.{versionOf}
 use Rattle.grammar.specs.Publish.{publish}
-use Rattle.verdict.specs.Judge.{isSignature}
+use Rattle.fields.specs.Signature.{isSignature}
 use Rattle.write_given.specs.Tests.{areNames, areDays, areLast, isTable, areValues}
 use Rattle.write_given.specs.Given.{Given, contentAs}
 use Rattle.writer.specs.Calls.{inVersion, writingAs, writing}

@@ -16,9 +16,9 @@ use Rattle.grammar.specs.Content.{Version, three, four}
 use Rattle.grammar.specs.Legal.{Letter, Filler, Country, Signer, ReferenceCharacter, ReferenceSize}
 use Rattle.grammar.specs.Pins.{filled-three}
 use Rattle.format.specs.Choice.Laws.{both-true, both-are, either-true, either-left, either-right, within-true, within-both}
-use Rattle.letters.specs.Characters.Grammar.{letter, reference-passes, all-pass, signer-passes, reference-of, all-of, signer-of}
-use Rattle.letters.specs.Characters.{isLetter, isReference, all, isSigner, isCountry}
-use Rattle.read_items.specs.declared.Header.{Header}
+use Rattle.fields.specs.Characters.Grammar.{letter, reference-passes, all-pass, signer-passes, reference-of, all-of, signer-of}
+use Rattle.fields.specs.Characters.{isLetter, isReference, all, isSigner, isCountry}
+use Rattle.fields.specs.declared.Header.{Header}
 use Rattle.write_given.specs.Tests.{isTextSize, areNames}
 use Rattle.write_given.specs.Given.{threeOf}
 

@@ -20,8 +20,8 @@ use Rattle.grammar.specs.Content.{Version, three, four}
 use Rattle.grammar.specs.Publish.{carried, hexDigits, lengthOf}
 use Rattle.grammar.specs.Legal.{ReferenceCharacter}
 use Rattle.grammar.specs.Parts.{hex-text, reference-text as text-of}
-use Rattle.letters.specs.Characters.{isLetter, isDigit, isLetterOrDigit, isReference, isSigner, all, isCountry}
-use Rattle.letters.specs.Characters.Grammar.{reference-of, all-of}
+use Rattle.fields.specs.Characters.{isLetter, isDigit, isLetterOrDigit, isReference, isSigner, all, isCountry}
+use Rattle.fields.specs.Characters.Grammar.{reference-of, all-of}
 use Rattle.writer.specs.Needs.{Named, spelled, sixOf}
 
 pub either-is : {C : Type 0} (a b : Bool) → either a b ≡ true → (a ≡ true → C) → (b ≡ true → C) → C

@@ -5,7 +5,7 @@ use mathlib.Core.Path.{ap, _∙_}
 use denote.Ref.{now}
 use lib.ListN.{length}
 use Rattle.format.specs.Answers.{Outcome, told, filled}
-use Rattle.read_items.specs.declared.Header.{Header}
+use Rattle.fields.specs.declared.Header.{Header}
 use Rattle.write_given.specs.Given.{given}
 use Rattle.writer.specs.Calls.{writing}
 use Rattle.face.specs.Face.{filledOf}

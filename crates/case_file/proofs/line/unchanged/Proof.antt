@@ -26,7 +26,8 @@ returns : tie.Need-returns Inv-loop μ-loop
 returns c =
     let turn = c .before .before .before in
     sym
-    (turn .loop .inv ∙ all-not (turn .before .args .buffer .now) (turn .loop .i) (turn .before .args .filling) (omega arith) (c .if1 .taken))
+    (turn .loop .inv ∙ all-not (turn .before .args .buffer .now) (turn .loop .i) (turn .before .args .filling)
+    (omega arith) (c .if1 .taken))
 
 add-i : tie.Need-add-i Inv-loop μ-loop
 add-i c = omega arith
@@ -38,7 +39,8 @@ loop-again : tie.Need-loop-again Inv-loop μ-loop
 loop-again c =
     let turn = c .before .before .before in
     rw add-one
-    (turn .loop .inv ∙ all-turn (turn .before .args .buffer .now) (turn .loop .i) (turn .before .args .filling) (omega arith) (c .if1 .left))
+    (turn .loop .inv ∙ all-turn (turn .before .args .buffer .now) (turn .loop .i) (turn .before .args .filling)
+    (omega arith) (c .if1 .left))
 
 returns-2 : tie.Need-returns-2 Inv-loop μ-loop
 returns-2 c =

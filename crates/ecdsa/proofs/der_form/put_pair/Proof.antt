@@ -65,11 +65,17 @@ r-held :
     c .before .before .before .before .before .before .before .before .before in Held
     (now (on .before .before .before .before .before .before .before .args .out)) (c .put-integer .last .1 .1 .0) (c .put-integer .result)
     ((0x30 ∷ form (on .before .size-from .result + on .size-from2 .result + 4)) ++ integer
-    (contentFrom (now (on .before .before .before .before .before .before .before .args .r)) (on .before .before .before .start-of .result)))
+    (contentFrom (now (on .before .before .before .before .before .before .before .args .r))
+    (on .before .before .before .start-of .result)))
 r-held c =
     let on = c .before .before .before .before .before .before .before .before .before in
     held-more _ _ _ _ (head-held (c .before .before .before .before)) _ _ _ (c .put-integer .ensures .1) (sym (c .put-integer .ensures .0))
-    (omega (arith, c .put-integer .ensures .0, r-length _ _ _ _ _ _ (measured on), fits (c .before .before .before .before .before .before)))
+    (omega (
+      arith,
+      c .put-integer .ensures .0,
+      r-length _ _ _ _ _ _ (measured on),
+      fits (c .before .before .before .before .before .before),
+    ))
 
 -- there is room for s behind r
 s-fits :
@@ -122,7 +128,8 @@ returns-2 : tie.Need-returns-2
 returns-2 c =
     let m = measured (c .before .before .before) in
     refuses _ 63 0 _
-    (formed-no-room _ _ _ (omega (arith, content-size _ _ _ _ _ _ m)) (omega (arith, whole-size _ _ _ _ _ _ m, c .before .head-of .ensures)))
+    (formed-no-room _ _ _ (omega (arith, content-size _ _ _ _ _ _ m))
+    (omega (arith, whole-size _ _ _ _ _ _ m, c .before .head-of .ensures)))
 
 put-head-requires : tie.Need-put-head-requires
 put-head-requires c κs = search needs

@@ -3,7 +3,7 @@
 use borrow.Author.Needs.{needs}
 use mathlib.Core.Path.{ap₂}
 use Rattle.dates.specs.declared.Date.{Date}
-use Rattle.read_items.specs.declared.Header.{Header}
+use Rattle.fields.specs.declared.Header.{Header}
 use Rattle.face.specs.declared.FrHeader.{FrHeader}
 use Rattle.face.proofs.FrHeader.inner.Statement.{statement}
 use Rattle.face.proofs.FrHeader.inner.Tie as tie

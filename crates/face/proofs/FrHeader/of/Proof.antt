@@ -2,7 +2,7 @@
 -- Assumes nothing.
 use borrow.Author.Needs.{needs}
 use mathlib.Core.Path.{ap₂}
-use Rattle.read_items.specs.declared.Header.{Header}
+use Rattle.fields.specs.declared.Header.{Header}
 use Rattle.face.specs.declared.FrDate.{FrDate}
 use Rattle.face.specs.declared.FrHeader.{FrHeader}
 use Rattle.face.proofs.FrHeader.of.Statement.{statement}

@@ -5,7 +5,7 @@ use native.Mathlib.Omega.{arith}
 use mathlib.Core.Path.{_≡_, _∙_, ap, sym}
 use lib.ListN.{length}
 use mathlib.Core.Option.{none}
-use Rattle.letters.specs.Characters.{isCountry}
+use Rattle.fields.specs.Characters.{isCountry}
 use Rattle.causes.specs.declared.Rule.the-variants as rule
 use Rattle.read_names.specs.Meaning.Rules.{breaks, keeps, first-three}
 use Rattle.read_names.proofs.rules.in_country.Statement.{statement}

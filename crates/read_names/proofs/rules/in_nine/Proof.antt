@@ -4,8 +4,8 @@ use borrow.Author.Needs.{needs}
 use native.Mathlib.Omega.{arith}
 use mathlib.Core.Path.{_≡_, _∙_, ap, sym}
 use lib.ListN.{length, take}
-use Rattle.letters.specs.Characters.{isSigner}
-use Rattle.letters.specs.Characters.Laws.{first-four, rest-of}
+use Rattle.fields.specs.Characters.{isSigner}
+use Rattle.fields.specs.Characters.Laws.{first-four, rest-of}
 use Rattle.causes.specs.declared.Rule.the-variants as rule
 use Rattle.verdict.specs.Items.{inReference}
 use Rattle.read_names.specs.Meaning.Rules.{breaks, keeps}

@@ -9,8 +9,8 @@ use Prim.Native.Nat.{_≤_, _<_}
 use lib.ListN.{length, take, getD}
 use Rattle.format.specs.Hex.{hexValue}
 use Rattle.format.specs.Hex.Laws.{value-most}
-use Rattle.letters.specs.Characters.{isSigner}
-use Rattle.letters.specs.Characters.Laws.{first-four}
+use Rattle.fields.specs.Characters.{isSigner}
+use Rattle.fields.specs.Characters.Laws.{first-four}
 use Rattle.causes.specs.declared.Rule.the-variants as rule
 use Rattle.read_names.specs.Meaning.Rules.{breaks, six-first, six-second, six-none, six-is}
 use Rattle.read_names.proofs.rules.in_six.Statement.{statement}

@@ -9,7 +9,8 @@ use Rattle.causes.specs.declared.Item.the-variants as item
 use Rattle.verdict.specs.Items.{is, derLength}
 use Rattle.read_items.specs.Meaning.{numberOf, wholeOf, refused}
 use Rattle.read_items.specs.Meaning.Laws.{Past, past-whole, whole-none}
-use Rattle.verdict.specs.Judge.{isSignature, rawIn}
+use Rattle.verdict.specs.Judge.{rawIn}
+use Rattle.fields.specs.Signature.{isSignature}
 use Rattle.read_zones.specs.Steps.Laws.{signature-length, signature-size, signature-cut, signature-more, signature-is}
 use Rattle.read_zones.proofs.Says.{says}
 use Rattle.read_zones.proofs.signature.read_signature.Statement.{statement}
