@@ -1,13 +1,54 @@
 // The words of the numbers that a call answers (document 01, "The numbers a call answers"), for programs that tell them to people.
 ghost use mathlib.Core.Path.{_≡_};
-ghost use lib.ListN.{length};
+ghost use Prim.Native.Nat.{_+_};
+ghost use lib.ListN.{length, drop};
 ghost use Rattle.format.specs.Answers.{told, filled};
-ghost use Rattle.words.specs.Words.{sought, fromWriter, fromCodecs, signatures};
+ghost use Rattle.words.specs.Words.{table, wordsOf};
+ghost use Rattle.words.specs.Page.{pageOf, lineSize};
 ghost use Rattle.format.specs.Order.{inRoom};
 ghost use Rattle.words.specs.Calls.{saying, toldOf, Longest};
+use octets::wide;
 
 // The length of the longest words: a buffer of so many bytes has room for any.
 pub const LONGEST: usize = 93;
+
+// The table of the words, a line a number: two digits, a space, the words. `pageOf` of specs/Page.antt makes it of the table there.
+const PAGE: [u8; 1273] = *b"\
+00 done\n\
+01 seal longer than 4,096\n\
+02 the input ends before an item is whole\n\
+03 first byte is not DC\n\
+04 version byte is not 02 or 03\n\
+05 country, signer, L or reference wrongly coded or with a wrong character\n\
+06 no such date\n\
+07 definition reference or category is 0 or 255\n\
+08 DER length malformed or not shortest\n\
+09 tag already used\n\
+10 signature length is not 56, 64, 96, 128 or 132\n\
+11 bytes after the signature\n\
+12 seal good, but the lent table has under 3 numbers a feature, or the text room is under 4 + L\n\
+20 writer: version not 3 or 4\n\
+21 writer: country, signer or reference\n\
+22 writer: date\n\
+23 writer: definition reference or category\n\
+24 writer: table not in threes, tag over 254 or used twice, or a value outside the values buffer\n\
+25 writer: value over 255 bytes in version 3\n\
+26 writer: signature length\n\
+27 writer: seal would pass 4,096\n\
+28 writer: no room for the whole seal\n\
+40 C40 bytes odd in number\n\
+41 C40 pair wrongly coded\n\
+42 no room for the text\n\
+43 character that is not in the chart\n\
+44 no room for the C40 bytes\n\
+45 text or bytes over the size\n\
+60 n is not one of the five\n\
+61 raw length is not 2n\n\
+62 not strict DER, with bytes left over, negative, or too big for n\n\
+63 no room\n\
+64 writing DER: content would pass 255 bytes\n\
+65 not one whole DER INTEGER of 1 to 8 bytes\n\
+";
 
 // What telling a number's words answers; `toldOf` of specs/Calls.antt gives each case its number.
 pub enum Told {
@@ -30,90 +71,37 @@ fn put_all(words: &[u8], out: &mut [u8]) -> Told
     Told::Done(size)
 }
 
-// Puts down the words of a number of signatures and INTEGERs; any other has none.
-fn put_signatures(number: usize, out: &mut [u8]) -> Told
-    ensures answer { λ r. ⌜ toldOf r ≡ told (inRoom 63 (sought number signatures) (length (now (out .entry)))) ⌝ }
-    ensures buffer { λ r. ⌜ now (out .exit) ≡ filled (inRoom 63 (sought number signatures) (length (now (out .entry)))) (now (out .entry)) ⌝ }
+// The place of the first newline at or after `from`, or the end.
+fn line_end(page: &[u8], from: usize) -> usize
+    ensures { λ r. ⌜ r ≡ from + lineSize (drop from (now (page .entry))) ⌝ }
 {
-    match number {
-        60 => put_all(b"n is not one of the five", out),
-        61 => put_all(b"raw length is not 2n", out),
-        62 => put_all(
-            b"not strict DER, with bytes left over, negative, or too big for n",
-            out,
-        ),
-        63 => put_all(b"no room", out),
-        64 => put_all(b"writing DER: content would pass 255 bytes", out),
-        65 => put_all(b"not one whole DER INTEGER of 1 to 8 bytes", out),
-        _ => put_all(b"", out),
+    let mut i = from;
+    while i < page.len() {
+        if page[i] == b'\n' {
+            return i;
+        }
+        i += 1;
     }
+    i
 }
 
-// Puts down the words of a number of C40 text or of those after it.
-fn put_codecs(number: usize, out: &mut [u8]) -> Told
-    ensures answer { λ r. ⌜ toldOf r ≡ told (inRoom 63 (sought number fromCodecs) (length (now (out .entry)))) ⌝ }
-    ensures buffer { λ r. ⌜ now (out .exit) ≡ filled (inRoom 63 (sought number fromCodecs) (length (now (out .entry)))) (now (out .entry)) ⌝ }
+// The words of a number: what stands in its line of the page after the two digits and the space, or nothing where it has no line.
+fn words_in(page: &[u8], number: usize) -> &[u8]
+    requires { ⌜ now page ≡ pageOf table ⌝ }
+    ensures { λ r. ⌜ now r ≡ wordsOf number ⌝ }
 {
-    match number {
-        40 => put_all(b"C40 bytes odd in number", out),
-        41 => put_all(b"C40 pair wrongly coded", out),
-        42 => put_all(b"no room for the text", out),
-        43 => put_all(b"character that is not in the chart", out),
-        44 => put_all(b"no room for the C40 bytes", out),
-        45 => put_all(b"text or bytes over the size", out),
-        _ => put_signatures(number, out),
+    let mut at: usize = 0;
+    while at < page.len() {
+        let end = line_end(page, at);
+        let tens = wide(page[at] - b'0');
+        let ones = wide(page[at + 1] - b'0');
+        if tens * 10 + ones == number {
+            let from = at + 3;
+            return &page[from..end];
+        }
+        at = end + 1;
     }
-}
-
-// Puts down the words of a number of the writer or of those after it.
-fn put_writer(number: usize, out: &mut [u8]) -> Told
-    ensures answer { λ r. ⌜ toldOf r ≡ told (inRoom 63 (sought number fromWriter) (length (now (out .entry)))) ⌝ }
-    ensures buffer { λ r. ⌜ now (out .exit) ≡ filled (inRoom 63 (sought number fromWriter) (length (now (out .entry)))) (now (out .entry)) ⌝ }
-{
-    match number {
-        20 => put_all(b"writer: version not 3 or 4", out),
-        21 => put_all(b"writer: country, signer or reference", out),
-        22 => put_all(b"writer: date", out),
-        23 => put_all(b"writer: definition reference or category", out),
-        24 => put_all(
-            b"writer: table not in threes, tag over 254 or used twice, or a value outside the values buffer",
-            out,
-        ),
-        25 => put_all(b"writer: value over 255 bytes in version 3", out),
-        26 => put_all(b"writer: signature length", out),
-        27 => put_all(b"writer: seal would pass 4,096", out),
-        28 => put_all(b"writer: no room for the whole seal", out),
-        _ => put_codecs(number, out),
-    }
-}
-
-// Puts down the words of a number of the reader or of those after it.
-fn put_reader(number: usize, out: &mut [u8]) -> Told
-    ensures answer { λ r. ⌜ toldOf r ≡ told (saying number (length (now (out .entry)))) ⌝ }
-    ensures buffer { λ r. ⌜ now (out .exit) ≡ filled (saying number (length (now (out .entry)))) (now (out .entry)) ⌝ }
-{
-    match number {
-        0 => put_all(b"done", out),
-        1 => put_all(b"seal longer than 4,096", out),
-        2 => put_all(b"the input ends before an item is whole", out),
-        3 => put_all(b"first byte is not DC", out),
-        4 => put_all(b"version byte is not 02 or 03", out),
-        5 => put_all(
-            b"country, signer, L or reference wrongly coded or with a wrong character",
-            out,
-        ),
-        6 => put_all(b"no such date", out),
-        7 => put_all(b"definition reference or category is 0 or 255", out),
-        8 => put_all(b"DER length malformed or not shortest", out),
-        9 => put_all(b"tag already used", out),
-        10 => put_all(b"signature length is not 56, 64, 96, 128 or 132", out),
-        11 => put_all(b"bytes after the signature", out),
-        12 => put_all(
-            b"seal good, but the lent table has under 3 numbers a feature, or the text room is under 4 + L",
-            out,
-        ),
-        _ => put_writer(number, out),
-    }
+    &page[at..]
 }
 
 // Puts the words of a number down from the start of `out`: all of them, or none where there is no room. Another number has none.
@@ -122,5 +110,5 @@ pub fn put_words(number: usize, out: &mut [u8]) -> Told
     ensures buffer { λ r. ⌜ now (out .exit) ≡ filled (saying number (length (now (out .entry)))) (now (out .entry)) ⌝ }
     ensures room { λ r. do ⌜ Longest (← ⟦LONGEST⟧ .entry) ⌝ }
 {
-    put_reader(number, out)
+    put_all(words_in(&PAGE, number), out)
 }
