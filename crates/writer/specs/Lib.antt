@@ -1,6 +1,5 @@
 pub mod Calls
 pub mod Needs
-pub mod SealSize
 pub mod Put
 pub mod Together
 pub mod Pins

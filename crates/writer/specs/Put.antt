@@ -1,25 +1,20 @@
--- Laws of the parts put down: text, a date, a length, a feature, the features of the rows.
+-- Laws of the parts put down: names, a date, a length, a feature, the features of the rows.
 -- Assumes nothing.
 use mathlib.Core.Path.{_≡_, refl, ap, sym, subst, _∙_}
 use Prim.Native.Nat.{ℕ, _+_, _-_, _/_, _%_, _<_, _≤_}
 use native.Mathlib.Omega.{arith}
 use mathlib.Core.List.{List, [], _∷_, _++_, map, append-assoc, append-nil}
-use lib.ListN.{length, getD, take, drop, set, length-append, length-drop, length-set, take-append-drop, drop-of-length-le}
-use lib.Seq.{take-all, drop-drop, length-take-le}
+use lib.ListN.{length, getD, take, drop, set, length-append, length-drop, length-set, take-append-drop}
+use lib.Seq.{length-take-le}
 use Rattle.format.specs.Bytes.{All}
-use Rattle.format.specs.Bytes.Laws.{all-back}
 use Rattle.format.specs.BigEndian.{be}
-use Rattle.format.specs.BigEndian.Laws.{be-two}
 use Rattle.format.specs.Buffer.{over}
 use Rattle.format.specs.Buffer.Laws.{over-none, length-over, over-over, set-over, over-two, over-three}
-use Rattle.format.specs.Answers.{filled}
 use Rattle.format.specs.Hex.{hexDigit}
-use Rattle.pairs.specs.Chart.{InChart, valueOf}
+use Rattle.pairs.specs.Chart.{valueOf}
 use Rattle.c40.specs.Text.{Text, publish as c40}
-use Rattle.pairs.specs.Pairs.{packedOf, triple}
-use Rattle.c40.specs.Text.Laws.{length-publish, publish-three, publish-none, left-three, left-none}
-use Rattle.c40.specs.Calls.{writing}
-use Rattle.c40.specs.Calls.Laws.{writing-done, text-known}
+use Rattle.pairs.specs.Pairs.{triple}
+use Rattle.c40.specs.Text.Laws.{publish-three, publish-none}
 use Rattle.dates.specs.Days.{Day, numberOf, publish as date}
 use Rattle.dates.specs.Days.Laws.{number-below}
 use Rattle.dates.specs.declared.Date.{Date}
@@ -30,41 +25,12 @@ use Rattle.verdict.specs.Report.{featureOf}
 use Rattle.rows.specs.declared.Row.{Row}
 use Rattle.rows.specs.Rows.{width, rowAt, rowsOf}
 use Rattle.rows.specs.Rows.Laws.{rows-here, rows-end}
+use Rattle.octets.specs.Copy.{copied, reached}
+use Rattle.write_text.specs.Coded.{coded, firstSix}
+use Rattle.write_text.specs.Coded.Laws.{text-put, six-all}
 use Rattle.writer.specs.Needs.{Room, Named, Measured, Fits, Fitting, spelled, sixOf}
 use Rattle.write_given.specs.Tests.Laws.{size-four}
 use Rattle.writer.specs.Needs.Laws.{spelled-six, six-text, reference-text}
-
--- what a part of a buffer holds, from a place on, put back
-part-over :
-    (out : List ℕ) (at : ℕ) (bytes after : List ℕ) →
-    Room out at bytes →
-    after ≡ bytes ++ drop (length bytes) (take (length out - at) (drop at out)) →
-    take at out ++ (after ++ drop (length out - at) (drop at out)) ≡ over out at bytes
-unfolding over
-part-over out at bytes after room e =
-    let all : take (length out - at) (drop at out) ≡ drop at out =
-    take-all (length out - at) (drop at out) (omega (arith, length-drop at out)) in
-    let none : drop (length out - at) (drop at out) ≡ [] =
-    drop-of-length-le (drop at out) {i = length out - at} (omega (arith, length-drop at out)) in
-    let back : drop (length bytes) (drop at out) ≡ drop (at + length bytes) out = drop-drop (length bytes) at out in
-    ap (λ a. take at out ++ (a ++ drop (length out - at) (drop at out))) (e ∙ ap (λ l. bytes ++ drop (length bytes) l) all)
-    ∙ ap (λ r. take at out ++ ((bytes ++ drop (length bytes) (drop at out)) ++ r)) none
-    ∙ ap (λ r. take at out ++ r) (append-nil (bytes ++ drop (length bytes) (drop at out)))
-    ∙ ap (λ r. take at out ++ (bytes ++ r)) back
-    ∙ sym (append-assoc (take at out) bytes (drop (at + length bytes) out))
-
-pub put-text :
-    (text out : List ℕ) (at : ℕ) (after : List ℕ) →
-    Text text →
-    length text ≤ 261 →
-    Room out at (c40 text) →
-    after ≡ filled (writing text (length (take (length out - at) (drop at out)))) (take (length out - at) (drop at out)) →
-    take at out ++ (after ++ drop (length out - at) (drop at out)) ≡ over out at (c40 text)
-put-text text out at after is-text size room e =
-    let part = take (length out - at) (drop at out) in
-    let long : length part ≡ length out - at = length-take-le (length out - at) (drop at out) (omega (arith, length-drop at out)) in
-    let w = writing-done text (length part) (omega arith) (omega (arith, text-known text is-text)) (omega (arith, length-publish text)) in
-    part-over out at (c40 text) after room (e ∙ ap (λ o. filled o part) w)
 
 -- three bytes of a date
 pub put-date :
@@ -179,140 +145,63 @@ names-six v t e h =
     names-four v t e ∙ ap c40 (spelled-six t h) ∙ pairs u ∙ sym (append-assoc one two (c40 u)) ∙ ap (λ r. r ++ c40 u) (sym front)
 
 -- version 4's names put down: the six characters, then the reference
-module _ (v : Version) (t out : List ℕ) (at : ℕ) (codes : List ℕ) (n : Named v t) (other : v ≡ four)
-    (room : Room out at (names v (take 4 t) (drop 4 t))) (e : codes ≡ sixOf t) where
+module _ (v : Version) (t out : List ℕ) (at : ℕ) (n : Named v t) (other : v ≡ four)
+    (room : Room out at (names v (take 4 t) (drop 4 t))) where
   four-size : (5 ≤ length t) × (length t ≤ 259)
   four-size = size-four v (length t) other (n .size)
 
+  abbrev codes : List ℕ
+  codes = firstSix t
+
+  six-is : codes ≡ sixOf t
+  six-is =
+      let left = length-drop 4 t in
+      let high : (length t - 4) / 16 % 16 ≡ length (drop 4 t) / 16 = omega (arith, four-size .1) in
+      let low : (length t - 4) % 16 ≡ length (drop 4 t) % 16 = omega arith in
+      sym (six-all t (omega (arith, four-size .0)))
+      ∙ (λ i. getD t 0 0 ∷ getD t 1 0 ∷ getD t 2 0 ∷ getD t 3 0 ∷ hexDigit (high i) ∷ hexDigit (low i) ∷ [])
+
   both-parts : names v (take 4 t) (drop 4 t) ≡ c40 codes ++ c40 (drop 4 t)
-  both-parts = names-six v t other (omega (arith, four-size .0)) ∙ ap (λ l. c40 l ++ c40 (drop 4 t)) (sym e)
+  both-parts = names-six v t other (omega (arith, four-size .0)) ∙ ap (λ l. c40 l ++ c40 (drop 4 t)) (sym six-is)
 
   both-long : length (names v (take 4 t) (drop 4 t)) ≡ length (c40 codes) + length (c40 (drop 4 t))
   both-long = ap length both-parts ∙ length-append (c40 codes) (c40 (drop 4 t))
 
-  pub six-asks : Text codes × (length codes ≤ 261) × Room out at (c40 codes)
-  six-asks = (
-    subst Text (sym e) (six-text v t n (omega (arith, four-size .0)) (omega (arith, four-size .1, length-drop 4 t))),
-    omega (arith, ap length e),
-    omega (arith, both-long, room),
-  )
+  six-text-put : (next : ℕ) (out1 : List ℕ) →
+      next ≡ reached (coded codes) (length out) at →
+      out1 ≡ copied (coded codes) out at →
+      (next ≡ at + length (c40 codes)) × (out1 ≡ over out at (c40 codes))
+  six-text-put next out1 =
+      text-put codes out at next out1
+      (subst Text (sym six-is) (six-text v t n (omega (arith, four-size .0)) (omega (arith, four-size .1, length-drop 4 t))))
+      (omega (arith, both-long, room))
 
-  module _ (next : ℕ) (out1 : List ℕ) (reach : next ≡ at + length (c40 codes)) (first : out1 ≡ over out at (c40 codes)) (left : List ℕ)
-      (is-left : left ≡ drop 4 t) where
-    same-room : length out1 ≡ length out
-    same-room = ap length first ∙ length-over out at (c40 codes) (omega (arith, both-long, room))
-
-    pub reference-asks : Text left × (length left ≤ 261) × Room out1 next (c40 left)
-    reference-asks = (
-      subst Text (sym is-left) (reference-text v t n),
-      omega (arith, ap length is-left, four-size .1, length-drop 4 t),
-      omega (arith, ap (λ l. length (c40 l)) is-left, both-long, room, reach, same-room),
-    )
-
-    pub names-put :
-        (to : ℕ) (after : List ℕ) →
-        to ≡ next + length (c40 left) →
-        after ≡ over out1 next (c40 left) →
-        (to ≡ at + length (names v (take 4 t) (drop 4 t))) × (after ≡ over out at (names v (take 4 t) (drop 4 t)))
-    names-put to after et ea =
-        let l = c40 (drop 4 t) in (
-          omega (arith, et, ap (λ x. length (c40 x)) is-left, both-long, reach),
-          ea
-              ∙ ap (λ x. over out1 next (c40 x)) is-left
-              ∙ ap (λ o. over o next l) first
-              ∙ ap (λ k. over (over out at (c40 codes)) k l) reach
-              ∙ over-over out at (c40 codes) l (omega (arith, both-long, room))
-              ∙ ap (over out at) (sym both-parts),
-        )
-
--- how far text is put down: the full pairs before a place
-pub record Texting (text out₀ : List ℕ) (start : ℕ) (out : List ℕ) (at i : ℕ) : Type 0 where
-  pub before : List ℕ
-  pub reached : at ≡ start + length before
-  pub is : out ≡ over out₀ start before
-  pub whole : c40 text ≡ before ++ c40 (drop i text)
-  pub room : Room out₀ start (c40 text)
-  pub inside : i ≤ length text
-
-pub texting-start : (text out : List ℕ) (start : ℕ) → Room out start (c40 text) → Texting text out start out start 0
-texting-start text out start room =
-    record { before = []; reached = omega arith; is = sym (over-none out start); whole = refl; room = room; inside = omega arith }
-
-module _ (text out₀ : List ℕ) (start : ℕ) (out : List ℕ) (at i : ℕ) (p : Texting text out₀ start out at i) where
-  sum : length (c40 text) ≡ length (p .before) + length (c40 (drop i text))
-  sum = ap length (p .whole) ∙ length-append (p .before) (c40 (drop i text))
-
-  pub texting-length : length out ≡ length out₀
-  texting-length = ap length (p .is) ∙ length-over out₀ start (p .before) (omega (arith, sum, p .room))
-
-  -- what is left, put down
-  pub texting-last :
+  pub names-put :
+      (next : ℕ) (out1 : List ℕ) →
+      next ≡ reached (coded (firstSix t)) (length out) at →
+      out1 ≡ copied (coded (firstSix t)) out at →
       (left : List ℕ) →
-      left ≡ drop i text →
+      left ≡ drop 4 t →
       (to : ℕ) (after : List ℕ) →
-      to ≡ at + length (c40 left) →
-      after ≡ over out at (c40 left) →
-      (to ≡ start + length (c40 text)) × (after ≡ over out₀ start (c40 text))
-  texting-last left e to after et eo =
-      let l = c40 (drop i text) in
-      let el : to ≡ at + length l = et ∙ ap (λ t. at + length (c40 t)) e in (
-        omega (arith, el, sum, p .reached),
-        eo
-            ∙ ap (λ t. over out at (c40 t)) e
-            ∙ ap (λ o. over o at l) (p .is)
-            ∙ ap (λ k. over (over out₀ start (p .before)) k l) (p .reached)
-            ∙ over-over out₀ start (p .before) l (omega (arith, sum, p .room))
-            ∙ ap (over out₀ start) (sym (p .whole)),
+      to ≡ reached (coded left) (length out1) next →
+      after ≡ copied (coded left) out1 next →
+      (to ≡ at + length (names v (take 4 t) (drop 4 t))) × (after ≡ over out at (names v (take 4 t) (drop 4 t)))
+  names-put next out1 en eo left is-left to after et ea =
+      let l = c40 (drop 4 t) in
+      let six = six-text-put next out1 en eo in
+      let same : length out1 ≡ length out = ap length (six .1) ∙ length-over out at (c40 codes) (omega (arith, both-long, room)) in
+      let long = ap (λ x. length (c40 x)) is-left in
+      let last =
+      text-put left out1 next to after (subst Text (sym is-left) (reference-text v t n))
+      (omega (arith, long, both-long, room, six .0, same)) et ea in (
+        omega (arith, last .0, long, both-long, six .0),
+        last .1
+            ∙ ap (λ x. over out1 next (c40 x)) is-left
+            ∙ ap (λ o. over o next l) (six .1)
+            ∙ ap (λ k. over (over out at (c40 codes)) k l) (six .0)
+            ∙ over-over out at (c40 codes) l (omega (arith, both-long, room))
+            ∙ ap (over out at) (sym both-parts),
       )
-
-  pub texting-end : length text ≤ i → (at ≡ start + length (c40 text)) × (out ≡ over out₀ start (c40 text))
-  texting-end h =
-      let all : c40 text ≡ p .before = p .whole ∙ ap (λ z. p .before ++ z) (left-none text i h) ∙ append-nil (p .before) in
-      (omega (arith, ap length all, p .reached), p .is ∙ ap (over out₀ start) (sym all))
-
-  pub texting-asks :
-      (left : List ℕ) →
-      left ≡ drop i text →
-      Text text →
-      length text ≤ 261 →
-      Text left × (length left ≤ 261) × Room out at (c40 left)
-  texting-asks left e is-text long = (
-    subst Text (sym e) (all-back InChart (take i text) (drop i text) (subst Text (sym (take-append-drop i text)) is-text)),
-    omega (arith, ap length e, length-drop i text),
-    omega (arith, ap (λ t. length (c40 t)) e, sum, p .room, p .reached, texting-length),
-  )
-
-  module _ (here : i + 2 < length text) where
-    next-pair :
-        c40 (drop i text)
-        ≡ be 2 (packedOf (valueOf (getD text i 0)) (valueOf (getD text (i + 1) 0)) (valueOf (getD text (i + 2) 0))) ++ c40
-        (drop (i + 3) text)
-    next-pair = left-three text i (omega arith)
-
-    pub texting-room : at + 2 ≤ length out
-    texting-room = omega (arith, sum, length-publish (drop i text), length-drop i text, p .room, p .reached, texting-length)
-
-    pub texting-more :
-        (number : ℕ) →
-        number ≡ packedOf (valueOf (getD text i 0)) (valueOf (getD text (i + 1) 0)) (valueOf (getD text (i + 2) 0)) →
-        number ≤ 64000 →
-        Texting text out₀ start (set (set out at (number / 256)) (at + 1) (number % 256)) (at + 2) (i + 3)
-    texting-more number e small =
-        let pair = (number / 256) ∷ (number % 256) ∷ [] in
-        let form : be 2 (packedOf (valueOf (getD text i 0)) (valueOf (getD text (i + 1) 0)) (valueOf (getD text (i + 2) 0))) ≡ pair =
-        ap (be 2) (sym e) ∙ be-two number (omega arith) in
-        let rest = c40 (drop (i + 3) text) in record {
-          before = p .before ++ pair;
-          reached = omega (arith, p .reached, length-append (p .before) pair);
-          is =
-              over-two out at (number / 256) (number % 256) texting-room
-              ∙ ap (λ o. over o at pair) (p .is)
-              ∙ ap (λ k. over (over out₀ start (p .before)) k pair) (p .reached)
-              ∙ over-over out₀ start (p .before) pair (omega (arith, sum, p .room));
-          whole = p .whole ∙ ap (λ z. p .before ++ z) (next-pair ∙ ap (λ f. f ++ rest) form) ∙ sym (append-assoc (p .before) pair rest);
-          room = p .room;
-          inside = omega arith;
-        }
 
 -- the features of rows
 pub zone-none : (v : Version) (values : List ℕ) → messageZone v (map (featureOf values) []) ≡ []

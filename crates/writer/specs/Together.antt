@@ -2,19 +2,20 @@
 -- Assumes nothing.
 use mathlib.Core.Path.{_≡_, refl, ap, sym, subst, _∙_}
 use mathlib.Core.Bool.{true, false}
-use Prim.Native.Nat.{ℕ, _+_, _-_, _*_, _/_, _≤_}
+use Prim.Native.Nat.{ℕ, _+_, _*_, _/_, _≤_}
 use native.Mathlib.Omega.{arith}
 use native.Mathlib.Nat.{zero-add}
 use borrow.Author.Tests.{leb-true}
 use mathlib.Core.List.{List, [], _∷_, _++_, map, append-assoc}
 use lib.Dec.{eqb, leb}
-use lib.ListN.{length, take, drop, set, length-append, length-drop, length-set}
+use lib.ListN.{length, getD, take, drop, set, length-append, length-drop, length-set}
 use lib.Seq.{length-take-le}
 use Rattle.format.specs.Bytes.{All}
 use Rattle.format.specs.Choice.{pick, both}
 use Rattle.format.specs.Buffer.{over}
 use Rattle.format.specs.Buffer.Laws.{length-over, over-over, over-two, Held, held-more}
-use Rattle.c40.specs.Text.{publish as c40}
+use Rattle.octets.specs.Copy.{copied, reached}
+use Rattle.c40.specs.Text.{Text, publish as c40}
 use Rattle.c40.specs.Text.Laws.{length-publish}
 use Rattle.dates.specs.Days.{isDay, publish as date}
 use Rattle.dates.specs.Days.Laws.{length-publish as length-date}
@@ -36,7 +37,10 @@ use Rattle.write_given.specs.Tests.Laws.{size-three, size-four, sized-head}
 use Rattle.write_given.specs.Tests.{isTextSize, isRow, areRows, isTable, areSized}
 use Rattle.write_given.specs.Given.{threeOf, Given, contentAs}
 use Rattle.writer.specs.Needs.{Room, Fitting, Named, Headed, Dated, front, rest, Passed, spelled}
-use Rattle.writer.specs.SealSize.{rowsSize, namesSize, sealSize}
+use Rattle.writer.specs.Needs.Laws.{country-text}
+use Rattle.write_text.specs.Coded.{coded}
+use Rattle.write_text.specs.Coded.Laws.{text-put}
+use Rattle.write_size.specs.SealSize.{rowsSize, namesSize, sealSize}
 use Rattle.writer.specs.Put.{zone-none, zone-cons, names-three, names-four, spelled-long}
 
 -- what the judged names say
@@ -84,8 +88,13 @@ rest-size h =
     )
 
 -- the front put down
-module _ (v : Version) (h : Header) (t out : List ℕ) (room : Room out 0 (front v h t)) (b : ℕ) (is-byte : b ≡ versionByte v) where
-  pub front-room : (code : List ℕ) → map carried (threeOf (h .country)) ≡ code → Room (set (set out 0 0xDC) 1 b) 2 (c40 code)
+module _ (v : Version) (h : Header) (t out : List ℕ) (d : Headed v h t) (room : Room out 0 (front v h t)) (b : ℕ)
+    (is-byte : b ≡ versionByte v) where
+  front-text : Text (map carried (threeOf (h .country)))
+  front-text =
+      country-text (getD (h .country) 0 0) (getD (h .country) 1 0) (getD (h .country) 2 0) (headed-country v h t d)
+
+  front-room : (code : List ℕ) → map carried (threeOf (h .country)) ≡ code → Room (set (set out 0 0xDC) 1 b) 2 (c40 code)
   front-room code e =
       let n = names v (take 4 t) (drop 4 t) in
       omega (
@@ -96,8 +105,12 @@ module _ (v : Version) (h : Header) (t out : List ℕ) (room : Room out 0 (front
         length-set out 0 0xDC,
       )
 
-  module _ (code out1 : List ℕ) (at1 : ℕ) (e : map carried (threeOf (h .country)) ≡ code) (e1 : at1 ≡ 2 + length (c40 code))
-      (o1 : out1 ≡ over (set (set out 0 0xDC) 1 b) 2 (c40 code)) where
+  module _ (code out1 : List ℕ) (at1 : ℕ) (e : map carried (threeOf (h .country)) ≡ code)
+      (to : at1 ≡ reached (coded code) (length (set (set out 0 0xDC) 1 b)) 2)
+      (put : out1 ≡ copied (coded code) (set (set out 0 0xDC) 1 b) 2) where
+    placed : (at1 ≡ 2 + length (c40 code)) × (out1 ≡ over (set (set out 0 0xDC) 1 b) 2 (c40 code))
+    placed = text-put code (set (set out 0 0xDC) 1 b) 2 at1 out1 (subst Text e front-text) (front-room code e) to put
+
     first : Held out (set (set out 0 0xDC) 1 b) 2 (0xDC ∷ b ∷ [])
     first = record {
       many = refl;
@@ -106,11 +119,17 @@ module _ (v : Version) (h : Header) (t out : List ℕ) (room : Room out 0 (front
 
     sum : length (front v h t) ≡ at1 + length (names v (take 4 t) (drop 4 t))
     sum =
-        omega
-        (arith, length-append (c40 (map carried (threeOf (h .country)))) (names v (take 4 t) (drop 4 t)), ap (λ l. length (c40 l)) e, e1)
+        omega (
+          arith,
+          length-append (c40 (map carried (threeOf (h .country)))) (names v (take 4 t) (drop 4 t)),
+          ap (λ l. length (c40 l)) e,
+          placed .0,
+        )
 
     second : Held out out1 at1 (0xDC ∷ b ∷ c40 code)
-    second = held-more out (set (set out 0 0xDC) 1 b) 2 (0xDC ∷ b ∷ []) first (c40 code) out1 at1 o1 (sym e1) (omega (arith, sum))
+    second =
+        held-more out (set (set out 0 0xDC) 1 b) 2 (0xDC ∷ b ∷ []) first (c40 code) out1 at1 (placed .1) (sym (placed .0))
+        (omega (arith, sum))
 
     pub names-room : Room out1 at1 (names v (take 4 t) (drop 4 t))
     names-room = omega (arith, sum, ap length (second .is) ∙ length-over out 0 (0xDC ∷ b ∷ c40 code) (omega (arith, second .many, sum)))

@@ -7,7 +7,6 @@ ghost use Rattle.writer.specs.Calls.{writing, writingOf};
 
 mod names;
 mod put;
-mod size;
 
 use fields::Header;
 use versions::Stated;
@@ -71,7 +70,7 @@ pub fn write(
     if !fields::is_signature(signature.len()) {
         return Writing::Signature;
     }
-    let size = size::seal_size(version, text.len(), rows, signature.len());
+    let size = write_size::seal_size(version, text.len(), rows, signature.len());
     if 4096 < size {
         return Writing::TooLong;
     }

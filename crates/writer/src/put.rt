@@ -10,9 +10,7 @@ ghost use Rattle.rows.specs.Rows.{rowsOf};
 ghost use Rattle.verdict.specs.Report.{featureOf};
 ghost use Rattle.write_given.specs.Given.{given, contentAs};
 ghost use Rattle.writer.specs.Needs.{Room, Measured, Fitting, Headed, Dated, front, rest, Passed};
-use crate::names::carried;
 use crate::names::put_names;
-use crate::names::put_text;
 use dates::Date;
 use dates::Numbered;
 use der::Form;
@@ -21,6 +19,8 @@ use rows::Found;
 use rows::WIDTH;
 use rows::row_at;
 use versions::Version;
+use write_text::country;
+use write_text::put_text;
 
 // Puts down a date.
 pub(crate) fn put_date(date: Date, out: &mut [u8], at: usize) -> usize
@@ -43,14 +43,10 @@ pub(crate) fn put_front(version: Version, header: Header, text: &[u8], out: &mut
     ensures place { λ r. ⌜ r ≡ length (front version header (now (text .entry))) ⌝ }
     ensures buffer { λ r. ⌜ now (out .exit) ≡ over (now (out .entry)) 0 (front version header (now (text .entry))) ⌝ }
 {
-    let country = header.country;
     out[0] = 0xDC;
     out[1] = version.byte();
-    let code = [
-        carried(country[0]),
-        carried(country[1]),
-        carried(country[2]),
-    ];
+    let letters = header.country;
+    let code = country(letters);
     let at = put_text(&code, out, 2);
     put_names(version, text, out, at)
 }

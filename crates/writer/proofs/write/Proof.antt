@@ -14,13 +14,12 @@ use Rattle.versions.specs.declared.Version.{Version}
 use Rattle.versions.specs.Versions.{versionOf, statedOf}
 use Rattle.grammar.specs.Publish.{publish}
 use Rattle.fields.specs.Signature.{isSignature}
-use Rattle.write_given.specs.Tests.Laws.{size-any}
 use Rattle.write_given.specs.Tests.{areNames, areDays, areLast, isTable, areValues}
 use Rattle.write_given.specs.Given.{Given, given, contentAs}
 use Rattle.writer.specs.Calls.Laws.{writing-version, writing-names, writing-days, writing-last, writing-rows, writing-values}
 use Rattle.writer.specs.Calls.Laws.{writing-signature, writing-long, writing-no-room, writing-done}
 use Rattle.writer.specs.Needs.{Headed}
-use Rattle.writer.specs.Together.{headed-named, signature-most, seal-size}
+use Rattle.writer.specs.Together.{seal-size}
 use Rattle.writer.proofs.write.Statement.{statement}
 use Rattle.writer.proofs.write.Tie as tie
 
@@ -218,15 +217,7 @@ returns-7 c =
     (sym (c .before .is-signature .ensures) ∙ not-true _ (c .if6 .taken)))
 
 seal-size-requires : tie.Need-seal-size-requires
-seal-size-requires c κs =
-    let s = c .before .before .before .before .before .before .before .before .before .before .before .before .before .before
-    .before .before .before .before .before .before .before in (
-      size-any (ver (c .before .before .before .before .before .before .before .before .before .before .before .before))
-          (length (now (s .args .text)))
-          (headed-named (ver (c .before .before .before .before .before .before .before .before .before .before .before .before))
-          (s .args .header) (now (s .args .text)) (headed c) .size) .1,
-      signature-most (length (now (s .args .signature))) (pass-7 c),
-    )
+seal-size-requires c κs = search needs
 
 returns-8 : tie.Need-returns-8
 returns-8 c =

@@ -1,8 +1,8 @@
--- Laws of the judged parts: what the tests say of the characters, and the forms of a length.
+-- Laws of the judged parts: what the tests say of the characters.
 -- Assumes nothing.
 use mathlib.Core.Path.{_≡_, refl, ap, sym, subst, _∙_}
 use mathlib.Core.Bool.{Bool, true, false}
-use Prim.Native.Nat.{ℕ, _+_, _≤_}
+use Prim.Native.Nat.{ℕ, _≤_}
 use native.Mathlib.Omega.{arith}
 use borrow.Author.Tests.{ne-eqb}
 use mathlib.Core.List.{List, [], _∷_, _++_}
@@ -14,10 +14,8 @@ use Rattle.format.specs.Choice.{either}
 use Rattle.pairs.specs.Chart.{InChart}
 use Rattle.pairs.specs.Chart.Laws.{letter-in, digit-in, space-in}
 use Rattle.c40.specs.Text.{Text}
-use Rattle.der.specs.Length.{written}
-use Rattle.der.specs.Length.Written.{written-form}
-use Rattle.grammar.specs.Content.{Version, three, four}
-use Rattle.grammar.specs.Publish.{carried, hexDigits, lengthOf}
+use Rattle.grammar.specs.Content.{Version}
+use Rattle.grammar.specs.Publish.{carried, hexDigits}
 use Rattle.grammar.specs.Legal.{ReferenceCharacter}
 use Rattle.grammar.specs.Parts.{hex-text, reference-text as text-of}
 use Rattle.fields.specs.Characters.{isLetter, isDigit, isLetterOrDigit, isReference, isSigner, all, isCountry}
@@ -97,11 +95,3 @@ pub six-text : (v : Version) (t : List ℕ) → Named v t → 4 ≤ length t →
 six-text v t n low h =
     let k = length (drop 4 t) in
     subst Text (six-is t low) (all-append InChart (take 4 t) (hexDigits k) (signer-text (take 4 t) (n .signer)) (hex-text k h))
-
--- the forms of a length up to 4,096
-module _ (v : Version) (n : ℕ) where
-  pub length-plain : v ≡ three → lengthOf v n ≡ n ∷ []
-  length-plain e = ap (λ w. lengthOf w n) e
-
-  pub length-der : v ≡ four → n ≤ 4096 → written n ≡ lengthOf v n
-  length-der e h = written-form n (omega arith) ∙ sym (ap (λ w. lengthOf w n) e)

@@ -11,7 +11,7 @@ use Rattle.der.specs.declared.Form.{Form}
 use Rattle.grammar.specs.Legal.{ValueSize}
 use Rattle.grammar.specs.Publish.{lengthOf}
 use Rattle.writer.specs.Put.{put-one, put-two, put-three}
-use Rattle.writer.specs.Needs.Laws.{length-plain, length-der}
+use Rattle.write_size.specs.SealSize.Laws.{length-plain, length-der}
 use Rattle.writer.proofs.put.put_length.Statement.{statement}
 use Rattle.writer.proofs.put.put_length.Tie as tie
 

@@ -4,8 +4,8 @@ use mathlib.Core.Path.{_≡_, refl}
 use Prim.Native.Nat.{ℕ}
 use borrow.Author.Tests.{eq-eqb, ne-eqb}
 use Rattle.grammar.specs.Publish.{carried}
-use Rattle.writer.proofs.names.carried.Statement.{statement}
-use Rattle.writer.proofs.names.carried.Tie as tie
+use Rattle.write_text.proofs.carried.Statement.{statement}
+use Rattle.write_text.proofs.carried.Tie as tie
 
 filler : (c : ℕ) → c ≡ 60 → 32 ≡ carried c
 filler c e = rw (eq-eqb c 60 e) refl

@@ -4,14 +4,14 @@ ghost use Prim.Native.Nat.{min, _+_, _≤_};
 ghost use lib.ListN.{length};
 ghost use Rattle.grammar.specs.Publish.{lengthOf};
 ghost use Rattle.rows.specs.Rows.{rowsOf};
-ghost use Rattle.writer.specs.SealSize.{rowsSize, namesSize, sealSize};
+ghost use Rattle.write_size.specs.SealSize.{rowsSize, namesSize, sealSize};
 use rows::Found;
 use rows::WIDTH;
 use rows::row_at;
 use versions::Version;
 
 // How many bytes a length takes.
-pub(crate) fn width_of(version: Version, size: usize) -> usize
+fn width_of(version: Version, size: usize) -> usize
     requires { ⌜ size ≤ 4096 ⌝ }
     ensures { λ r. ⌜ r ≡ length (lengthOf version size) ⌝ }
 {
@@ -22,7 +22,7 @@ pub(crate) fn width_of(version: Version, size: usize) -> usize
 }
 
 // A start and the size of the features after it.
-pub(crate) fn rows_size(version: Version, rows: &[usize], start: usize) -> usize
+fn rows_size(version: Version, rows: &[usize], start: usize) -> usize
     requires { ⌜ start ≤ 4096 ⌝ }
     ensures { λ r. ⌜ r ≡ min (start + rowsSize version (rowsOf (now (rows .entry)))) 4097 ⌝ }
 {
@@ -44,22 +44,29 @@ pub(crate) fn rows_size(version: Version, rows: &[usize], start: usize) -> usize
     }
 }
 
-// How many bytes signer and reference take, of so many characters.
-pub(crate) fn names_size(version: Version, text: usize) -> usize
-    requires { ⌜ text ≤ 259 ⌝ }
-    ensures { λ r. ⌜ r ≡ namesSize version text ⌝ }
+// How many bytes signer and reference take, of so many characters; over 6,144 they take more than 4,096, and 4,097 is told.
+fn names_size(version: Version, text: usize) -> usize
+    ensures { λ r. ⌜ (min r 4097 ≡ min (namesSize version text) 4097) × (r ≤ 4098) ⌝ }
 {
     if let Version::Three = version {
         return 6;
     }
+    if 6144 < text {
+        return 4097;
+    }
     (text + 4) / 3 * 2
 }
 
-// The size of a seal with so many bytes of text and of signature.
-pub(crate) fn seal_size(version: Version, text: usize, rows: &[usize], signature: usize) -> usize
-    requires { ⌜ (text ≤ 259) × (signature ≤ 132) ⌝ }
+// The size of a seal with so many characters of text and bytes of signature, up to 4,097.
+pub fn seal_size(version: Version, text: usize, rows: &[usize], signature: usize) -> usize
     ensures { λ r. ⌜ r ≡ min (sealSize version text (rowsOf (now (rows .entry))) signature) 4097 ⌝ }
 {
+    if 4096 < signature {
+        return 4097;
+    }
     let fixed = 12 + names_size(version, text) + 1 + width_of(Version::Four, signature) + signature;
+    if 4096 < fixed {
+        return 4097;
+    }
     rows_size(version, rows, fixed)
 }

@@ -10,9 +10,9 @@ use mathlib.Core.List.{List}
 use lib.ListN.{length}
 use Rattle.rows.specs.Rows.{width, rowAt}
 use Rattle.rows.specs.Rows.Laws.{found-none, found-row}
-use Rattle.writer.specs.SealSize.Laws.{Summed, summed-start, summed-end, summed-great, summed-past, summed-more, width-small}
-use Rattle.writer.proofs.size.rows_size.Statement.{statement}
-use Rattle.writer.proofs.size.rows_size.Tie as tie
+use Rattle.write_size.specs.SealSize.Laws.{Summed, summed-start, summed-end, summed-great, summed-past, summed-more, width-small}
+use Rattle.write_size.proofs.rows_size.Statement.{statement}
+use Rattle.write_size.proofs.rows_size.Tie as tie
 
 abbrev Inv-loop : tie.InvT-loop
 Inv-loop version rows start total₀ at₀ total at = Summed version rows start total at

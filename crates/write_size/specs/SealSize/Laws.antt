@@ -1,4 +1,4 @@
--- Laws of the sizes: the width of a length, and that a seal's size is the sum of its parts'.
+-- Laws of the sizes: the form and the width of a length, and the sum part by part, up to one past 4,096.
 -- Assumes nothing.
 use mathlib.Core.Path.{_≡_, refl, ap, sym, _∙_}
 use Prim.Native.Nat.{ℕ, _+_, _*_, _/_, _<_, _≤_, min}
@@ -6,21 +6,27 @@ use native.Mathlib.Omega.{arith}
 use mathlib.Core.List.{List, [], _∷_}
 use lib.ListN.{length, drop}
 use Rattle.der.specs.Length.{written}
-use Rattle.der.specs.Length.Written.{written-some}
+use Rattle.der.specs.Length.Written.{written-form, written-some}
 use Rattle.grammar.specs.Publish.{lengthOf}
 use Rattle.rows.specs.declared.Row.{Row}
 use Rattle.rows.specs.Rows.{width, rowAt, rowsOf}
 use Rattle.rows.specs.Rows.Laws.{rows-here, rows-end}
 use Rattle.grammar.specs.Content.{Version, three, four}
-use Rattle.writer.specs.SealSize.{rowsSize, namesSize}
-use Rattle.writer.specs.Needs.Laws.{length-plain, length-der}
+use Rattle.write_size.specs.SealSize.{rowsSize, namesSize}
 
+-- the forms of a length up to 4,096, and how many bytes they take
 module _ (v : Version) (n : ℕ) where
+  pub length-plain : v ≡ three → lengthOf v n ≡ n ∷ []
+  length-plain e = ap (λ w. lengthOf w n) e
+
+  pub length-der : v ≡ four → n ≤ 4096 → written n ≡ lengthOf v n
+  length-der e h = written-form n (omega arith) ∙ sym (ap (λ w. lengthOf w n) e)
+
   pub width-three : v ≡ three → 1 ≡ length (lengthOf v n)
-  width-three e = sym (ap length (length-plain v n e))
+  width-three e = sym (ap length (length-plain e))
 
   pub width-four : v ≡ four → n ≤ 4096 → length (written n) ≡ length (lengthOf v n)
-  width-four e h = ap length (length-der v n e h)
+  width-four e h = ap length (length-der e h)
 
 size-none : (v : Version) → rowsSize v [] ≡ 0
 unfolding rowsSize
@@ -66,14 +72,17 @@ pub width-small : (v : Version) (n : ℕ) → n ≤ 4096 → length (lengthOf v 
 width-small three n h = omega arith
 width-small four n h = omega (arith, width-four four n refl h, written-some n (omega arith) .1)
 
--- signer and reference, by version
+-- signer and reference, by version; past 4,096 it is enough that they are past it
 module _ (v : Version) (text : ℕ) where
-  pub names-plain : v ≡ three → 6 ≡ namesSize v text
-  names-plain e = sym (ap (λ w. namesSize w text) e)
+  pub names-plain : v ≡ three → (min 6 4097 ≡ min (namesSize v text) 4097) × (6 ≤ 4098)
+  names-plain e = (sym (ap (λ w. min (namesSize w text) 4097) e), omega arith)
 
-  pub names-long : v ≡ four → (text + 4) / 3 * 2 ≡ namesSize v text
-  names-long e = sym (ap (λ w. namesSize w text) e)
+  module _ (e : v ≡ four) where
+    long : namesSize v text ≡ (text + 4) / 3 * 2
+    long = ap (λ w. namesSize w text) e
 
-pub names-most : (v : Version) (text : ℕ) → text ≤ 259 → namesSize v text ≤ 176
-names-most three text h = omega arith
-names-most four text h = omega arith
+    pub names-past : 6144 < text → (min 4097 4097 ≡ min (namesSize v text) 4097) × (4097 ≤ 4098)
+    names-past h = (omega (arith, long), omega arith)
+
+    pub names-long : text ≤ 6144 → (min ((text + 4) / 3 * 2) 4097 ≡ min (namesSize v text) 4097) × ((text + 4) / 3 * 2 ≤ 4098)
+    names-long h = (omega (arith, long), omega arith)

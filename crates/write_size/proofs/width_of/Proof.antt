@@ -2,9 +2,9 @@
 -- Assumes nothing.
 use borrow.Author.Needs.{needs}
 use mathlib.Core.Path.{_∙_}
-use Rattle.writer.specs.SealSize.Laws.{width-three, width-four}
-use Rattle.writer.proofs.size.width_of.Statement.{statement}
-use Rattle.writer.proofs.size.width_of.Tie as tie
+use Rattle.write_size.specs.SealSize.Laws.{width-three, width-four}
+use Rattle.write_size.proofs.width_of.Statement.{statement}
+use Rattle.write_size.proofs.width_of.Tie as tie
 
 enum-told : tie.Need-enum-told
 enum-told c = search needs

@@ -1,0 +1,136 @@
+-- `put_pairs` meets its contract. The loop's invariant: the full pairs before stand in `out`.
+-- Assumes nothing.
+use borrow.Author.Needs.{needs}
+use native.Mathlib.Omega.{arith}
+use mathlib.Core.Path.{_≡_, _∙_, ap}
+use Prim.Native.Nat.{_-_}
+use denote.Ref.{now}
+use lib.ListN.{length, take, drop, length-drop}
+use lib.Seq.{take-all}
+use Rattle.write_text.specs.Coded.Laws.{Texting, texting-start, texting-length, texting-room, texting-last, texting-end, texting-more}
+use Rattle.write_text.proofs.put_pairs.Statement.{statement}
+use Rattle.write_text.proofs.put_pairs.Tie as tie
+
+abbrev Inv-loop : tie.InvT-loop
+Inv-loop text out₀ start n at₀ i₀ out at i = Texting text out₀ start out at i
+
+abbrev μ-loop : tie.MeasureT-loop
+μ-loop text out₀ start n at₀ i₀ out at i = length text - i
+
+-- the part that is lent is what is left
+left :
+    (on : tie.At-loop Inv-loop μ-loop) →
+    let text =
+    now (on .before .before .before .args .text) in take (length text - on .loop .i) (drop (on .loop .i) text) ≡ drop (on .loop .i) text
+left on =
+    let text = now (on .before .before .before .args .text) in
+    take-all (length text - on .loop .i) (drop (on .loop .i) text) (omega (arith, length-drop (on .loop .i) text))
+
+loop-holds : tie.Need-loop-holds Inv-loop μ-loop
+loop-holds c = let s = c .before .before in texting-start (now (s .args .text)) (now (s .args .out)) (s .args .start) (s .pre)
+
+add-loop : tie.Need-add-loop Inv-loop μ-loop
+add-loop c = omega (arith, c .loop .inv .inside)
+
+shared-slice-read-number-of : tie.Need-shared-slice-read-number-of Inv-loop μ-loop
+shared-slice-read-number-of c = omega arith
+
+add-number-of : tie.Need-add-number-of Inv-loop μ-loop
+add-number-of c = omega arith
+
+shared-slice-read-number-of-2 : tie.Need-shared-slice-read-number-of-2 Inv-loop μ-loop
+shared-slice-read-number-of-2 c = omega arith
+
+add-number-of-2 : tie.Need-add-number-of-2 Inv-loop μ-loop
+add-number-of-2 c = omega arith
+
+shared-slice-read-number-of-3 : tie.Need-shared-slice-read-number-of-3 Inv-loop μ-loop
+shared-slice-read-number-of-3 c = omega arith
+
+number-of-requires : tie.Need-number-of-requires Inv-loop μ-loop
+number-of-requires c κs = search needs
+
+put-number-requires : tie.Need-put-number-requires Inv-loop μ-loop
+put-number-requires c κs =
+    let on = c .before .before .before .before .before .before in
+    (omega (arith, c .before .number-of .ensures .1), texting-room _ _ _ _ _ _ (on .loop .inv) (omega arith))
+
+add-i : tie.Need-add-i Inv-loop μ-loop
+add-i c = omega arith
+
+loop-less : tie.Need-loop-less Inv-loop μ-loop
+loop-less c = omega arith
+
+loop-again : tie.Need-loop-again Inv-loop μ-loop
+loop-again c =
+    let on = c .before .before .before .before .before .before .before .before .before in
+    let packed = c .before .before .before .before .number-of in
+    let put = c .before .before .put-number in
+    texting-more _ _ _ _ _ _ (on .loop .inv) (omega arith) (packed .result) (packed .ensures .0) _ _ (put .ensures .0) (put .ensures .1)
+
+sub-number-of-left : tie.Need-sub-number-of-left Inv-loop μ-loop
+sub-number-of-left c = omega arith
+
+part-number-of-left-start : tie.Need-part-number-of-left-start Inv-loop μ-loop
+part-number-of-left-start c = omega arith
+
+part-number-of-left-end : tie.Need-part-number-of-left-end Inv-loop μ-loop
+part-number-of-left-end c = omega arith
+
+number-of-left-requires : tie.Need-number-of-left-requires Inv-loop μ-loop
+number-of-left-requires c κs =
+    let on = c .before .before .before in
+    let text = now (on .before .before .before .args .text) in
+    let many = ap length (left on) ∙ length-drop (on .loop .i) text in
+    (omega (arith, many), omega (arith, many))
+
+put-number-requires-2 : tie.Need-put-number-requires-2 Inv-loop μ-loop
+put-number-requires-2 c κs =
+    let on = c .before .before .before .before .before in
+    (c .before .number-of-left .ensures .1, texting-room _ _ _ _ _ _ (on .loop .inv) (omega arith))
+
+same-length : tie.Need-same-length Inv-loop μ-loop
+same-length c =
+    let on = c .before .before .before .before .before .before .before .before in
+    c .before .before .put-number2 .kept .1 .0 ∙ texting-length _ _ _ _ _ _ (on .loop .inv)
+
+returns : tie.Need-returns Inv-loop μ-loop
+returns c =
+    let on = c .before .before .before .before .before .before .before .before in
+    let form = c .before .before .before .before .number-of-left in
+    let put = c .before .before .put-number2 in
+    texting-last _ _ _ _ _ _ (on .loop .inv) (form .result) _ (left on) (form .ensures .0) _ _ (put .ensures .0) (put .ensures .1)
+
+same-length-2 : tie.Need-same-length-2 Inv-loop μ-loop
+same-length-2 c = texting-length _ _ _ _ _ _ (c .before .before .loop .inv)
+
+returns-2 : tie.Need-returns-2 Inv-loop μ-loop
+returns-2 c = texting-end _ _ _ _ _ _ (c .before .before .loop .inv) (omega arith)
+
+pub put-pairs-spec : {M : Type 1} → statement M
+put-pairs-spec =
+    tie.close
+    (tie.spec
+    Inv-loop
+    μ-loop
+    loop-holds
+    add-loop
+    shared-slice-read-number-of
+    add-number-of
+    shared-slice-read-number-of-2
+    add-number-of-2
+    shared-slice-read-number-of-3
+    number-of-requires
+    put-number-requires
+    add-i
+    loop-less
+    loop-again
+    sub-number-of-left
+    part-number-of-left-start
+    part-number-of-left-end
+    number-of-left-requires
+    put-number-requires-2
+    same-length
+    returns
+    same-length-2
+    returns-2)

@@ -1,0 +1,105 @@
+// Text put down in C40 (document 01, C40 and Layout) for the writer, which has judged its characters: none is judged again.
+ghost use mathlib.Core.Path.{_≡_};
+ghost use Prim.Native.Nat.{_+_, _<_, _≤_};
+ghost use mathlib.Core.List.{[], _∷_};
+ghost use lib.ListN.{length, getD};
+ghost use Rattle.format.specs.BigEndian.{be};
+ghost use Rattle.format.specs.Buffer.{over};
+ghost use Rattle.octets.specs.Copy.{copied, reached};
+ghost use Rattle.grammar.specs.Publish.{carried as carriedIn};
+ghost use Rattle.write_text.specs.Coded.{coded, firstSix};
+use pairs::number_of;
+use pairs::number_of_one;
+use pairs::number_of_two;
+
+// Puts down a number in two bytes, big-endian.
+fn put_number(number: usize, out: &mut [u8], at: usize) -> usize
+    requires { ⌜ (number < 65536) × (at + 2 ≤ length (now out)) ⌝ }
+    ensures place { λ r. ⌜ r ≡ at + 2 ⌝ }
+    ensures buffer { λ r. ⌜ now (out .exit) ≡ over (now (out .entry)) at (be 2 number) ⌝ }
+{
+    out[at] = (number / 256) as u8;
+    out[at + 1] = (number % 256) as u8;
+    at + 2
+}
+
+// The number of the last pair, for the one or two characters that are left over.
+fn number_of_left(left: &[u8]) -> usize
+    requires { ⌜ (0 < length (now left)) × (length (now left) < 3) ⌝ }
+    ensures { λ r. ⌜ (be 2 r ≡ coded (now (left .entry))) × (r < 65536) ⌝ }
+{
+    if left.len() == 2 {
+        return number_of_two(left[0], left[1]);
+    }
+    number_of_one(left[0])
+}
+
+// Puts down characters in C40, three at a time, where there is room for them.
+fn put_pairs(text: &[u8], out: &mut [u8], start: usize) -> usize
+    requires { ⌜ start + length (coded (now text)) ≤ length (now out) ⌝ }
+    ensures place { λ r. ⌜ r ≡ start + length (coded (now (text .entry))) ⌝ }
+    ensures buffer { λ r. ⌜ now (out .exit) ≡ over (now (out .entry)) start (coded (now (text .entry))) ⌝ }
+{
+    let n = text.len();
+    let mut at = start;
+    let mut i: usize = 0;
+    while i + 2 < n {
+        at = put_number(number_of(text[i], text[i + 1], text[i + 2]), out, at);
+        i += 3;
+    }
+    if i < n {
+        return put_number(number_of_left(&text[i..]), out, at);
+    }
+    at
+}
+
+// Puts down characters in C40 from a place on and answers the place reached; where they do not fit, nothing is put down and the place stays.
+pub fn put_text(text: &[u8], out: &mut [u8], at: usize) -> usize
+    ensures place { λ r. ⌜ r ≡ reached (coded (now (text .entry))) (length (now (out .entry))) at ⌝ }
+    ensures buffer { λ r. ⌜ now (out .exit) ≡ copied (coded (now (text .entry))) (now (out .entry)) at ⌝ }
+{
+    let room = out.len();
+    if room < at {
+        return at;
+    }
+    if room - at < (text.len() + 2) / 3 * 2 {
+        return at;
+    }
+    put_pairs(text, out, at)
+}
+
+// A filler is carried as a space.
+fn carried(c: u8) -> u8
+    ensures { λ r. ⌜ r ≡ carriedIn c ⌝ }
+{
+    if c == b'<' {
+        return b' ';
+    }
+    c
+}
+
+// The country's three characters as they are carried.
+pub fn country(code: [u8; 3]) -> [u8; 3]
+    ensures { λ r. ⌜ r ≡ carriedIn (getD code 0 0) ∷ carriedIn (getD code 1 0) ∷ carriedIn (getD code 2 0) ∷ [] ⌝ }
+{
+    [carried(code[0]), carried(code[1]), carried(code[2])]
+}
+
+// The six characters that fill version 4's first two pairs: the signer, and the reference's length in two hexadecimal digits; all 0 where the
+// text is shorter than a signer.
+pub fn first_six(text: &[u8]) -> [u8; 6]
+    ensures { λ r. ⌜ r ≡ firstSix (now (text .entry)) ⌝ }
+{
+    let n = text.len();
+    if n < 4 {
+        return [0; 6];
+    }
+    [
+        text[0],
+        text[1],
+        text[2],
+        text[3],
+        octets::hex_digit((n - 4) / 16),
+        octets::hex_digit(n - 4),
+    ]
+}
