@@ -3,7 +3,7 @@ ghost use mathlib.Core.Path.{_≡_};
 ghost use Prim.Native.Nat.{_≤_};
 ghost use lib.ListN.{length, take};
 ghost use Rattle.case_file.specs.Line.{Within};
-ghost use Rattle.case_back.specs.Back.{Tells};
+ghost use Rattle.case_file.specs.Tells.{Tells};
 use case_file::at;
 use case_file::put_call;
 use case_file::put_text;

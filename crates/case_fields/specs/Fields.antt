@@ -1,9 +1,7 @@
--- The fields of a reading but number and place, and what it is that an answer tells.
+-- The fields of a reading but number and place, and when two readings are the same.
 -- Assumes nothing.
-pub mod Laws
 use Prim.Native.Nat.{ℕ, _<_}
 use mathlib.Core.Path.{_≡_}
-use mathlib.Core.Bool.{Bool, true}
 use mathlib.Core.List.{List, [], _∷_}
 use lib.ListN.{getD}
 use Rattle.reader.specs.declared.Reading.{Reading}
@@ -20,10 +18,6 @@ fieldsOf r =
 -- two lists have the same nineteen numbers
 abbrev pub Same : List ℕ → List ℕ → Type 0
 Same a b = (i : ℕ) → i < 19 → getD a i 0 ≡ getD b i 0
-
--- the answer is yes exactly when it is so
-abbrev pub Tells : Bool → Type 0 → Type 0
-Tells answer fact = (answer ≡ true → fact) × (fact → answer ≡ true)
 
 -- two readings are the same in number, place and every other field
 abbrev pub Alike : Reading → Reading → Type 0

@@ -1,7 +1,8 @@
 // A reading in the line of a case: number, place and every field, and whether `judge` tells the same.
 ghost use Rattle.case_file.specs.Line.{Within};
 ghost use mathlib.Core.Path.{_≡_};
-ghost use Rattle.case_fields.specs.Fields.{fieldsOf, Same, Tells, Alike};
+ghost use Rattle.case_file.specs.Tells.{Tells};
+ghost use Rattle.case_fields.specs.Fields.{fieldsOf, Same, Alike};
 use case_file::put;
 use case_file::put_number;
 use case_file::put_part;

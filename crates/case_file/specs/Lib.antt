@@ -1,4 +1,5 @@
--- What the contracts of casefile cite: building a line, and what a line says of a buffer.
+-- What the contracts of `case_file` cite: building a line, what a line says of a buffer, and what an answer tells.
 -- Assumes nothing.
 pub mod Line
 pub mod Fill
+pub mod Tells

@@ -5,7 +5,8 @@ use borrow.Author.Count.{below-more}
 use Prim.Native.Nat.{ℕ, _-_, _≤_, _<_}
 use mathlib.Core.Path.{_≡_}
 use lib.ListN.{length, getD}
-use Rattle.case_back.specs.Back.Laws.{yes-tells, no-tells, begins-all, begins-at, begins-short}
+use Rattle.case_file.specs.Tells.{yes-tells, no-tells}
+use Rattle.case_back.specs.Begins.{begins-all, begins-at, begins-short}
 use Rattle.case_back.proofs.begins.Statement.{statement}
 use Rattle.case_back.proofs.begins.Tie as tie
 

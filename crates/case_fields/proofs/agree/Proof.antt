@@ -7,7 +7,7 @@ use Prim.Native.Nat.{ℕ}
 use lib.ListN.{getD}
 use lib.Seq.{ext-getD}
 use Rattle.case_fields.specs.Fields.{fieldsOf}
-use Rattle.case_fields.specs.Fields.Laws.{no-tells, tells-through}
+use Rattle.case_file.specs.Tells.{no-tells, tells-through}
 use Rattle.case_fields.proofs.agree.Statement.{statement}
 use Rattle.case_fields.proofs.agree.Tie as tie
 

@@ -6,7 +6,7 @@ use borrow.Author.Count.{below-more}
 use Prim.Native.Nat.{ℕ, _-_, _≤_, _<_}
 use mathlib.Core.Path.{_≡_}
 use lib.ListN.{getD}
-use Rattle.case_fields.specs.Fields.Laws.{yes-tells, no-tells}
+use Rattle.case_file.specs.Tells.{yes-tells, no-tells}
 use Rattle.case_fields.proofs.same.Statement.{statement}
 use Rattle.case_fields.proofs.same.Tie as tie
 

@@ -1,10 +1,12 @@
--- An answer that tells a fact, when it is yes, when it is no, and by another fact.
+-- What it is that an answer tells: that it is yes exactly when a fact holds.
 -- Assumes nothing.
 use Prim.Native.Nat.{ℕ}
 use native.Mathlib.Omega.{arith}
 use mathlib.Core.Path.{_≡_, refl, ap}
 use mathlib.Core.Bool.{Bool, true, false, cond}
-use Rattle.case_fields.specs.Fields.{Tells}
+
+abbrev pub Tells : Bool → Type 0 → Type 0
+Tells answer fact = (answer ≡ true → fact) × (fact → answer ≡ true)
 
 pub yes-tells : {fact : Type 0} → fact → Tells true fact
 yes-tells f = (λ e. f, λ g. refl)
@@ -17,5 +19,6 @@ no-tells n = (
   λ f. absurd (n f),
 )
 
+-- by another fact
 pub tells-through : {fact other : Type 0} {answer : Bool} → (fact → other) → (other → fact) → Tells answer fact → Tells answer other
 tells-through f g t = (λ e. f (t .0 e), λ o. t .1 (g o))

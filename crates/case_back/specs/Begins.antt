@@ -1,24 +1,11 @@
--- An answer that tells a fact, when it is yes and when it is no; and a list that begins with another, by their items.
+-- A list that begins with another, by their items.
 -- Assumes nothing.
 use Prim.Native.Nat.{ℕ, _<_, _≤_}
 use native.Mathlib.Omega.{arith}
-use mathlib.Core.Path.{_≡_, refl, ap, sym, _∙_}
-use mathlib.Core.Bool.{Bool, true, false, cond}
+use mathlib.Core.Path.{_≡_, ap, sym, _∙_}
 use mathlib.Core.List.{List}
 use lib.ListN.{length, take, getD, length-take}
 use lib.Seq.{ext-getD, getD-take, length-take-le}
-use Rattle.case_back.specs.Back.{Tells}
-
-pub yes-tells : {fact : Type 0} → fact → Tells true fact
-yes-tells f = (λ e. f, λ g. refl)
-
-pub no-tells : {fact : Type 0} → (fact → ⊥) → Tells false fact
-no-tells n = (
-  λ e.
-      let z : _≡_ {A = ℕ} 1 0 = ap (λ (b : Bool). cond b 0 1) e in
-      absurd (omega (arith, z)),
-  λ f. absurd (n f),
-)
 
 pub begins-all : (s t : List ℕ) → length t ≤ length s → ((i : ℕ) → i < length t → getD s i 0 ≡ getD t i 0) → take (length t) s ≡ t
 begins-all s t fits same =
