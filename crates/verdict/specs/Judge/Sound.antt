@@ -6,7 +6,7 @@ use mathlib.Core.Bool.{Bool, true, false}
 use Prim.Native.Nat.{ℕ, zero, suc, _+_, _≤_, _<_}
 use native.Mathlib.Omega.{arith}
 use borrow.Author.Tests.{eqb-true, eqb-false, ltb-false}
-use mathlib.Core.List.{List, [], _∷_, _++_, append-assoc, append-nil}
+use mathlib.Core.List.{List, [], _∷_, _++_, map, append-assoc, append-nil}
 use lib.Dec.{ltb, eqb}
 use lib.ListN.{length, take, drop, getD, drop-of-length-le}
 use Rattle.format.specs.Choice.{pick, either}
@@ -14,15 +14,19 @@ use Rattle.format.specs.Choice.Laws.{by-test, not-true}
 use Rattle.format.specs.Bytes.{Bytes}
 use Rattle.format.specs.Bytes.Laws.{bytes-drop, bytes-take}
 use Rattle.der.specs.Length.{form as derForm}
+use Rattle.c40.specs.Text.{publish as c40}
+use Rattle.versions.specs.Versions.{versionByte}
 use Rattle.grammar.specs.Content.{Version, Header, Feature, Content}
-use Rattle.grammar.specs.Publish.{lengthOf, headerZone, messageZone, signatureZone, signedBytes, publish}
-use Rattle.grammar.specs.Legal.{LegalHeader, Unused, ValueSize, LegalFeatures, SignatureSize, n28, n32, n48, n64, n66, Legal}
+use Rattle.grammar.specs.Publish.{carried, names as namesForm, lengthOf, headerZone, messageZone, signatureZone, signedBytes, publish}
+use Rattle.grammar.specs.Legal.{LastByte, LegalHeader, Unused, ValueSize, LegalFeatures, SignatureSize, n28, n32, n48, n64, n66, Legal}
 use Rattle.grammar.specs.Zones.{header-parts}
+use Rattle.dates.specs.declared.Date.{Date}
+use Rattle.dates.specs.Days.{Day, publish as publishedDay}
 use Rattle.causes.specs.Causes.{ruleNumber}
 use Rattle.causes.specs.declared.Rule.the-variants as rule
 use Rattle.causes.specs.declared.Item.the-variants as item
 use Rattle.verdict.specs.Items.{Item, Way, is, not, why, next, pass, whole, mark, version, country, names, date, last, derLength}
-use Rattle.verdict.specs.Items.{featureLength}
+use Rattle.verdict.specs.Items.{Names, featureLength}
 use Rattle.verdict.specs.Items.Sound.{Stands, stands-append, steps, steps-on, stands, taken-size, same-value, same-place, passed}
 use Rattle.verdict.specs.Items.Sound.{mark-read, version-read, last-read, date-read, der-read, feature-length-read, byte-read}
 use Rattle.verdict.specs.Items.Laws.{unread, whole-read}
@@ -31,61 +35,112 @@ use Rattle.verdict.specs.Judge.{Row, Report, Verdict, accepted, refused,
 use Rattle.verdict.specs.Judge.{rawIn, endIn, sizeIn, signature, verdict, reading, judging, judge}
 use Rattle.fields.specs.Signature.{isSignature}
 
+-- a header of these fields
+fieldsOf : Version → List ℕ → Names → Date → Date → ℕ → ℕ → Header
+fieldsOf v c n issued signed definition category = record {
+  version = v;
+  country = c;
+  signer = n .signer;
+  reference = n .reference;
+  issued = issued;
+  signed = signed;
+  definition = definition;
+  category = category;
+}
+
+-- what was read from the dates on
+record RestRead (v : Version) (c : List ℕ) (n : Names) (at : ℕ) (s : List ℕ) (h : Header) (end : ℕ) : Type 0 where
+  issued : Date
+  signed : Date
+  definition : ℕ
+  category : ℕ
+  issued-day : Day issued
+  signed-day : Day signed
+  definition-last : LastByte definition
+  category-last : LastByte category
+  same : fieldsOf v c n issued signed definition category ≡ h
+  there : Stands (publishedDay issued ++ (publishedDay signed ++ (definition ∷ category ∷ []))) at end s
+
+rest-read :
+    (v : Version) (c : List ℕ) (n : Names) (at : ℕ) (s : List ℕ) (h : Header) (end : ℕ) →
+    Bytes s →
+    next item.Issued (date at s)
+    (λ issued at. next item.Signed (date at s)
+    (λ signed at. next item.Definition (last at s)
+    (λ definition at. next item.Category (last at s) (λ category at. is (fieldsOf v c n issued signed definition category) at))))
+    ≡ is h end →
+    RestRead v c n at s h end
+rest-read v c n at s h end bytes e =
+    let i0 = steps-on item.Issued (date at s) _ h end e in
+    let i1 = steps-on item.Signed (date (i0 .at) s) _ h end (i0 .goes-on) in
+    let i2 = steps-on item.Definition (last (i1 .at) s) _ h end (i1 .goes-on) in
+    let i3 = steps-on item.Category (last (i2 .at) s) _ h end (i2 .goes-on) in
+    let r0 = date-read at s (i0 .value) (i0 .at) bytes (i0 .read) in
+    let r1 = date-read (i0 .at) s (i1 .value) (i1 .at) bytes (i1 .read) in
+    let r2 = last-read (i1 .at) s (i2 .value) (i2 .at) (i2 .read) in
+    let r3 = last-read (i2 .at) s (i3 .value) (i3 .at) (i3 .read) in
+    let g = fieldsOf v c n (i0 .value) (i1 .value) (i2 .value) (i3 .value) in
+    let place = same-place g h (i3 .at) end (i3 .goes-on) in
+    let a2 = stands-append _ _ _ _ _ s (r2 .1) (r3 .1) in
+    let a1 = stands-append _ _ _ _ _ s (r1 .1) a2 in
+    let a0 = stands-append _ _ _ _ _ s (r0 .1) a1 in
+    record {
+      issued = i0 .value;
+      signed = i1 .value;
+      definition = i2 .value;
+      category = i3 .value;
+      issued-day = r0 .0;
+      signed-day = r1 .0;
+      definition-last = r2 .0;
+      category-last = r3 .0;
+      same = same-value g h (i3 .at) end (i3 .goes-on);
+      there =
+          subst (λ k. Stands (publishedDay (i0 .value) ++ (publishedDay (i1 .value) ++ (i2 .value ∷ i3 .value ∷ []))) at k s) place a0;
+    }
+
+-- the parts of a header that stand one after another are its zone
+zone-stands :
+    (g : Header) (s : List ℕ) (a b c d end : ℕ) →
+    Stands (0xDC ∷ []) 0 a s →
+    Stands (versionByte (g .version) ∷ []) a b s →
+    Stands (c40 (map carried (g .country))) b c s →
+    Stands (namesForm (g .version) (g .signer) (g .reference)) c d s →
+    Stands (publishedDay (g .issued) ++ (publishedDay (g .signed) ++ (g .definition ∷ g .category ∷ []))) d end s →
+    Stands (headerZone g) 0 end s
+zone-stands g s a b c d end mark version country names rest =
+    let on3 = stands-append _ _ c d end s names rest in
+    let on2 = stands-append _ _ b c end s country on3 in
+    let on1 = stands-append _ _ a b end s version on2 in
+    let on0 = stands-append _ _ 0 a end s mark on1 in
+    subst (λ u. Stands u 0 end s) (sym (header-parts g []) ∙ append-nil (headerZone g)) on0
+
 pub header-read : (s : List ℕ) (h : Header) (end : ℕ) → Bytes s → header s ≡ is h end → LegalHeader h × Stands (headerZone h) 0 end s
-unfolding header
+unfolding header fieldsOf
 header-read s h end bytes e =
     let i0 = steps-on item.Mark (mark 0 s) _ h end e in
     let i1 = steps-on item.Version (version (i0 .at) s) _ h end (i0 .goes-on) in
     let i2 = steps-on item.Country (country (i1 .at) s) _ h end (i1 .goes-on) in
     let i3 = steps (names (i1 .value) (i2 .at) s) _ h end (i2 .goes-on) in
-    let i4 = steps-on item.Issued (date (i3 .at) s) _ h end (i3 .goes-on) in
-    let i5 = steps-on item.Signed (date (i4 .at) s) _ h end (i4 .goes-on) in
-    let i6 = steps-on item.Definition (last (i5 .at) s) _ h end (i5 .goes-on) in
-    let i7 = steps-on item.Category (last (i6 .at) s) _ h end (i6 .goes-on) in
+    let q = rest-read (i1 .value) (i2 .value) (i3 .value) (i3 .at) s h end bytes (i3 .goes-on) in
     let r0 = mark-read 0 s (i0 .value) (i0 .at) (i0 .read) in
     let r1 = version-read (i0 .at) s (i1 .value) (i1 .at) (i1 .read) in
     let r2 = country-read (i1 .at) s (i2 .value) (i2 .at) bytes (i2 .read) in
     let r3 = names-read (i1 .value) (i2 .at) s (i3 .value) (i3 .at) bytes (i3 .read) in
-    let r4 = date-read (i3 .at) s (i4 .value) (i4 .at) bytes (i4 .read) in
-    let r5 = date-read (i4 .at) s (i5 .value) (i5 .at) bytes (i5 .read) in
-    let r6 = last-read (i5 .at) s (i6 .value) (i6 .at) (i6 .read) in
-    let r7 = last-read (i6 .at) s (i7 .value) (i7 .at) (i7 .read) in
-    let g : Header =
-    record {
-      version = i1 .value;
-      country = i2 .value;
-      signer = i3 .value .signer;
-      reference = i3 .value .reference;
-      issued = i4 .value;
-      signed = i5 .value;
-      definition = i6 .value;
-      category = i7 .value;
-    } in
-    let same = same-value g h (i7 .at) end (i7 .goes-on) in
-    let place = same-place g h (i7 .at) end (i7 .goes-on) in
+    let g = fieldsOf (i1 .value) (i2 .value) (i3 .value) (q .issued) (q .signed) (q .definition) (q .category) in
     let legal : LegalHeader g =
     record {
       country = r2 .0;
       signer = r3 .0 .signer;
       reference = r3 .0 .reference;
       size = r3 .0 .size;
-      issued = r4 .0;
-      signed = r5 .0;
-      definition = r6 .0;
-      category = r7 .0;
+      issued = q .issued-day;
+      signed = q .signed-day;
+      definition = q .definition-last;
+      category = q .category-last;
     } in
-    let a7 = stands-append _ _ _ _ _ s (r6 .1) (r7 .1) in
-    let a6 = stands-append _ _ _ _ _ s (r5 .1) a7 in
-    let a5 = stands-append _ _ _ _ _ s (r4 .1) a6 in
-    let a4 = stands-append _ _ _ _ _ s (r3 .1) a5 in
-    let a3 = stands-append _ _ _ _ _ s (r2 .1) a4 in
-    let a2 = stands-append _ _ _ _ _ s r1 a3 in
-    let a1 = stands-append _ _ _ _ _ s r0 a2 in
-    let whole-form : Stands (headerZone g) 0 (i7 .at) s =
-    subst (λ u. Stands u 0 (i7 .at) s) (sym (header-parts g []) ∙ append-nil (headerZone g)) a1 in (
-      subst LegalHeader same legal,
-      subst (λ (z : Header). Stands (headerZone z) 0 end s) same (subst (λ k. Stands (headerZone g) 0 k s) place whole-form),
-    )
+    let there : Stands (headerZone g) 0 end s =
+    zone-stands g s (i0 .at) (i1 .at) (i2 .at) (i3 .at) end r0 r1 (r2 .1) (r3 .1) (q .there) in
+    (subst LegalHeader (q .same) legal, subst (λ (z : Header). Stands (headerZone z) 0 end s) (q .same) there)
 
 -- a tag that no row has was not among the tags before
 abbrev Covers : List Row → List ℕ → Type 0
@@ -180,6 +235,15 @@ form-of :
 unfolding messageZone
 form-of v f fs = simp append-assoc
 
+-- a feature and those after it, standing one after another
+feature-stands :
+    (v : Version) (f : Feature) (fs : List Feature) (at mid end : ℕ) (s : List ℕ) →
+    Stands (f .tag ∷ (lengthOf v (length (f .value)) ++ f .value)) at mid s →
+    Stands (messageZone v fs) mid end s →
+    Stands (messageZone v (f ∷ fs)) at end s
+feature-stands v f fs at mid end s one more =
+    subst (λ u. Stands u at end s) (form-of v f fs) (stands-append _ _ at mid end s one more)
+
 pub features-read :
     (more : ℕ) (v : Version) (rows : List Row) (at : ℕ) (s : List ℕ) (out : List Row) (end : ℕ) (tags : List ℕ) →
     Bytes s →
@@ -211,11 +275,10 @@ features-read (suc more) v rows at s out end tags bytes covers e =
     let ih = features-read more v (rows ++ (j .value ∷ [])) (j .at) s out end (x ∷ tags) bytes covers′ (j .goes-on) in
     let one : Feature = record { tag = x; value = r .value } in
     let front = stands-append (x ∷ []) (lengthOf v (length (r .value)) ++ r .value) at (i .at) (j .at) s (t .there) (r .there) in
-    let whole-form = stands-append _ _ at (j .at) end s front (ih .there) in
     record {
       features = one ∷ ih .features;
       legal = (omega (arith, t .small, eqb-false x 0xFF f), covers x (t .fresh), r .size, r .bytes, ih .legal);
-      there = subst (λ u. Stands u at end s) (form-of v one (ih .features)) whole-form;
+      there = feature-stands v one (ih .features) at (j .at) end s front (ih .there);
       mark = ih .mark;
     })
 
