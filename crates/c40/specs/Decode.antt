@@ -12,8 +12,8 @@ use Rattle.pairs.specs.declared.decode.Fault.{Fault}
 use Rattle.pairs.specs.declared.decode.Fault.the-variants.{WronglyCoded}
 use Rattle.pairs.specs.declared.decode.Pair.{Pair}
 use Rattle.pairs.specs.declared.decode.Pair.the-variants.{Three, Two, One, Wrong}
-use Rattle.c40.specs.declared.decode.Judged.{Judged}
-use Rattle.c40.specs.declared.decode.Judged.the-variants as judged
+use Rattle.c40.specs.declared.Judged.{Judged}
+use Rattle.c40.specs.declared.Judged.the-variants as judged
 
 pub data Decoded : Type 0 where
   text : List ℕ → Decoded

@@ -1,3 +1,3 @@
--- Computed examples of the calls. What their contracts cite stands with the calls beneath and, of the structs, in the crate `face`.
+-- Computed examples of the calls. What their contracts cite stands with the calls beneath and, of the structs, in `face` and `face_seals`.
 -- Assumes nothing.
 pub mod Pins

@@ -20,7 +20,7 @@ use Rattle.ecdsa.specs.Signature.{isSize}
 use Rattle.ecdsa.specs.Strict.{rawOf}
 use Rattle.ecdsa.specs.Calls.{toDer, toRaw, hashFor}
 use Rattle.write_given.specs.Given.{given}
-use Rattle.writer.specs.Calls.{writing}
+use Rattle.write_judge.specs.Calls.{writing}
 use Rattle.face.specs.Face.{filledWith, filledOf, datedOf, numberedOf, integerOf, hashedOf}
 
 -- the writer: version 5

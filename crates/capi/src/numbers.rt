@@ -17,7 +17,7 @@ use face::FrNumbered;
 pub extern "C" fn fr_date_from_number(number: usize) -> FrDated
     ensures { λ r. ⌜ r ≡ datedOf (fromNumber number) ⌝ }
 {
-    answers::date_taken(Date::from_number(number))
+    answers_numbers::date_taken(Date::from_number(number))
 }
 
 // The date's number MMDDYYYY: `Date::number`.
@@ -25,22 +25,22 @@ pub extern "C" fn fr_date_from_number(number: usize) -> FrDated
 pub extern "C" fn fr_date_to_number(date: FrDate) -> FrNumbered
     ensures { λ r. ⌜ r ≡ numberedOf (toNumber (innerDate date)) ⌝ }
 {
-    answers::date_numbered(date.inner().number())
+    answers_numbers::date_numbered(date.inner().number())
 }
 
-// Reads one whole INTEGER, 1 to 8 bytes of content: `integers::read`.
+// Reads one whole INTEGER, 1 to 8 bytes of content: `integers_read::read`.
 #[no_mangle]
 pub extern "C" fn fr_integer_read(bytes: &[u8]) -> FrInteger
     ensures { λ r. ⌜ r ≡ integerOf (reading (now (bytes .entry))) ⌝ }
 {
-    answers::integer_read(integers::read(bytes))
+    answers_numbers::integer_read(integers_read::read(bytes))
 }
 
-// Writes a number as an INTEGER from the start of `out`: `integers::write`.
+// Writes a number as an INTEGER from the start of `out`: `integers_write::write`.
 #[no_mangle]
 pub extern "C" fn fr_integer_write(value: i64, out: &mut [u8]) -> FrFilled
     ensures answer { λ r. ⌜ r ≡ filledOf (told (writing value (length (now (out .entry))))) ⌝ }
     ensures buffer { λ r. ⌜ now (out .exit) ≡ filled (writing value (length (now (out .entry)))) (now (out .entry)) ⌝ }
 {
-    answers::integer_written(integers::write(value, out))
+    answers_numbers::integer_written(integers_write::write(value, out))
 }

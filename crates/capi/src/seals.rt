@@ -2,14 +2,15 @@
 ghost use mathlib.Core.Path.{_≡_};
 ghost use lib.ListN.{length};
 ghost use Rattle.format.specs.Answers.{told, filled};
-ghost use Rattle.reader.specs.Calls.{answerOf, reading, rowsIn, textIn, then};
+ghost use Rattle.reading.specs.Calls.{answerOf, reading, rowsIn, textIn, then};
 ghost use Rattle.verdict.specs.Judge.{judge};
 ghost use Rattle.write_given.specs.Given.{given};
-ghost use Rattle.writer.specs.Calls.{writing};
-ghost use Rattle.face.specs.Face.{readingOf, filledOf, innerHeader};
+ghost use Rattle.write_judge.specs.Calls.{writing};
+ghost use Rattle.face.specs.Face.{filledOf};
+ghost use Rattle.face_seals.specs.Face.{readingOf, innerHeader};
 use face::FrFilled;
-use face::FrHeader;
-use face::FrReading;
+use face_seals::FrHeader;
+use face_seals::FrReading;
 
 // Reads a seal: `reader::read`. On 0 a row for each feature stands in `table`, and signer and reference in `text`; on any
 // other number both stay, and every field but number and place is 0.
@@ -43,5 +44,5 @@ pub extern "C" fn fr_write(
     ensures answer { λ r. ⌜ r ≡ filledOf (told (writing (given (innerHeader header) (now (text .entry)) (now (rows .entry)) (now (values .entry)) (now (signature .entry))) (length (now (out .entry))))) ⌝ }
     ensures buffer { λ r. ⌜ now (out .exit) ≡ filled (writing (given (innerHeader header) (now (text .entry)) (now (rows .entry)) (now (values .entry)) (now (signature .entry))) (length (now (out .entry)))) (now (out .entry)) ⌝ }
 {
-    answers::written(writer::write(header.inner(), text, rows, values, signature, out))
+    answers_seals::written(writer::write(header.inner(), text, rows, values, signature, out))
 }

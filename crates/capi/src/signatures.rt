@@ -7,22 +7,22 @@ ghost use Rattle.face.specs.Face.{filledOf, hashedOf};
 use face::FrFilled;
 use face::FrHashed;
 
-// Writes the DER form of a raw signature from the start of `out`: `ecdsa::to_der`.
+// Writes the DER form of a raw signature from the start of `out`: `ecdsa_to_der::to_der`.
 #[no_mangle]
 pub extern "C" fn fr_signature_to_der(n: usize, raw: &[u8], out: &mut [u8]) -> FrFilled
     ensures answer { λ r. ⌜ r ≡ filledOf (told (toDer n (now (raw .entry)) (length (now (out .entry))))) ⌝ }
     ensures buffer { λ r. ⌜ now (out .exit) ≡ filled (toDer n (now (raw .entry)) (length (now (out .entry)))) (now (out .entry)) ⌝ }
 {
-    answers::der_written(ecdsa::to_der(n, raw, out))
+    answers_signatures::der_written(ecdsa_to_der::to_der(n, raw, out))
 }
 
-// Writes the raw form of a DER signature from the start of `out`, r then s, n bytes each: `ecdsa::to_raw`.
+// Writes the raw form of a DER signature from the start of `out`, r then s, n bytes each: `ecdsa_to_raw::to_raw`.
 #[no_mangle]
 pub extern "C" fn fr_signature_to_raw(n: usize, der: &[u8], out: &mut [u8]) -> FrFilled
     ensures answer { λ r. ⌜ r ≡ filledOf (told (toRaw n (now (der .entry)) (length (now (out .entry))))) ⌝ }
     ensures buffer { λ r. ⌜ now (out .exit) ≡ filled (toRaw n (now (der .entry)) (length (now (out .entry)))) (now (out .entry)) ⌝ }
 {
-    answers::raw_written(ecdsa::to_raw(n, der, out))
+    answers_signatures::raw_written(ecdsa_to_raw::to_raw(n, der, out))
 }
 
 // The hash by n: `ecdsa::hash_for`.
@@ -30,5 +30,5 @@ pub extern "C" fn fr_signature_to_raw(n: usize, der: &[u8], out: &mut [u8]) -> F
 pub extern "C" fn fr_hash(n: usize) -> FrHashed
     ensures { λ r. ⌜ r ≡ hashedOf (hashFor n) ⌝ }
 {
-    answers::hash_named(ecdsa::hash_for(n))
+    answers_signatures::hash_named(ecdsa::hash_for(n))
 }

@@ -12,5 +12,5 @@ pub extern "C" fn fr_words(number: usize, out: &mut [u8]) -> FrFilled
     ensures answer { λ r. ⌜ r ≡ filledOf (told (saying number (length (now (out .entry))))) ⌝ }
     ensures buffer { λ r. ⌜ now (out .exit) ≡ filled (saying number (length (now (out .entry)))) (now (out .entry)) ⌝ }
 {
-    answers::words_told(words::put_words(number, out))
+    answers_text::words_told(words::put_words(number, out))
 }

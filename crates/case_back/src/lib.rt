@@ -52,7 +52,7 @@ fn write(
     requires { ⌜ length (now seal) ≤ length (now buffer) ⌝ }
 {
     let room = seal.len();
-    answers::written(writer::write(header, text, rows, seal, signature, &mut buffer[..room]))
+    answers_seals::written(writer::write(header, text, rows, seal, signature, &mut buffer[..room]))
 }
 
 // Writes a seal again, and puts down what came of it.

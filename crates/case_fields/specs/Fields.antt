@@ -4,7 +4,7 @@ use Prim.Native.Nat.{ℕ, _<_}
 use mathlib.Core.Path.{_≡_}
 use mathlib.Core.List.{List, [], _∷_}
 use lib.ListN.{getD}
-use Rattle.reader.specs.declared.Reading.{Reading}
+use Rattle.reading.specs.declared.Reading.{Reading}
 
 -- in their order, the country as three numbers
 abbrev pub fieldsOf : Reading → List ℕ

@@ -8,8 +8,8 @@ use case_file::put_number;
 use case_file::put_part;
 use case_file::put_text;
 use octets::wide;
-use reader::Header;
-use reader::Reading;
+use reading::Header;
+use reading::Reading;
 
 // Every field but number and place, in their order.
 fn fields_of(reading: Reading) -> [usize; 19]

@@ -120,7 +120,7 @@ fn run_date(line: &[u8], out: &mut [u8], to: usize) -> usize
 {
     let number = case_file::number(line, 2);
     put_taken(
-        answers::date_taken(Date::from_number(number.value)),
+        answers_numbers::date_taken(Date::from_number(number.value)),
         out,
         to,
     )
@@ -138,7 +138,7 @@ fn run_number(line: &[u8], out: &mut [u8], to: usize) -> usize
         day: day.value,
         year: year.value,
     };
-    put_numbered(answers::date_numbered(date.number()), out, to)
+    put_numbered(answers_numbers::date_numbered(date.number()), out, to)
 }
 
 // `l RUNS` reads a length, and `i RUNS` an INTEGER.
@@ -151,7 +151,7 @@ fn run_bytes(kind: u8, line: &[u8], out: &mut [u8], to: usize) -> usize
         return put_length(der::read_length(&input[..size]), out, to);
     }
     put_reading(
-        answers::integer_read(integers::read(&input[..size])),
+        answers_numbers::integer_read(integers_read::read(&input[..size])),
         out,
         to,
     )
@@ -162,7 +162,7 @@ fn run_write(value: i64, room: usize, buffer: &mut [u8], out: &mut [u8], to: usi
     requires { ⌜ room ≤ length (now buffer) ⌝ }
     ensures { λ r. ⌜ Within (now (out .entry)) to r ⌝ }
 {
-    let a = answers::integer_written(integers::write(value, &mut buffer[..room]));
+    let a = answers_numbers::integer_written(integers_write::write(value, &mut buffer[..room]));
     put_call(a.number, a.count, buffer, out, to)
 }
 

@@ -10,9 +10,9 @@ use face::FrFilled;
 // Makes the call that a case asks for: `e` to DER, and anything else to raw.
 fn call(kind: u8, n: usize, input: &[u8], room: &mut [u8]) -> FrFilled {
     if kind == b'e' {
-        return answers::der_written(ecdsa::to_der(n, input, room));
+        return answers_signatures::der_written(ecdsa_to_der::to_der(n, input, room));
     }
-    answers::raw_written(ecdsa::to_raw(n, input, room))
+    answers_signatures::raw_written(ecdsa_to_raw::to_raw(n, input, room))
 }
 
 // Runs one case with the first `room` bytes of the buffer lent to the call.
@@ -53,7 +53,7 @@ fn run_hash(line: &[u8], out: &mut [u8], to: usize) -> usize
     ensures { λ r. ⌜ Within (now (out .entry)) to r ⌝ }
 {
     let n = case_file::number(line, 2);
-    let hash = answers::hash_named(ecdsa::hash_for(n.value));
+    let hash = answers_signatures::hash_named(ecdsa::hash_for(n.value));
     put_answer(out, to, hash.number, &[hash.bits])
 }
 

@@ -98,7 +98,14 @@ fn write(
 ) -> FrFilled
     requires { ⌜ room ≤ length (now buffer) ⌝ }
 {
-    answers::written(writer::write(header, text, rows, values, signature, &mut buffer[..room]))
+    answers_seals::written(writer::write(
+        header,
+        text,
+        rows,
+        values,
+        signature,
+        &mut buffer[..room],
+    ))
 }
 
 // Runs one case.

@@ -1,10 +1,8 @@
-// DER: lengths and elements at the head of a byte string (document 01; X.690).
+// DER (document 01; X.690): lengths read and formed, and the content of an INTEGER. `elements` reads elements.
 ghost use mathlib.Core.Path.{_≡_};
-ghost use Prim.Native.Nat.{_^_, _<_, _≤_};
-ghost use lib.ListN.{length};
-ghost use Rattle.octets.specs.Copy.{copied, reached};
-ghost use Rattle.der.specs.Length.{readLength, lengthForm, written, least as leastOf};
-ghost use Rattle.der.specs.Element.{bodyIn, elementIn};
+ghost use Prim.Native.Nat.{_<_};
+ghost use lib.ListN.{length, drop};
+ghost use Rattle.der.specs.Length.{readLength, longForm, lengthForm, written, least as leastOf};
 ghost use Rattle.der.specs.Content.{redundant, strict};
 use octets::wide;
 
@@ -60,12 +58,27 @@ fn least(k: usize) -> usize
     }
 }
 
+// The DER length in `k` bytes after the first of `s`.
+fn long_form(s: &[u8], k: usize) -> Length
+    requires { ⌜ (0 < length (now s)) × ((0 < k) × (k < 5)) ⌝ }
+    ensures { λ r. ⌜ r ≡ longForm k (drop 1 (now (s .entry))) ⌝ }
+{
+    if s.len() - 1 < k {
+        return Length::Not(Fault::Cut);
+    }
+    let end = k + 1;
+    let value = octets::number(&s[1..end]);
+    if value < least(k) {
+        return Length::Not(Fault::NotShortest);
+    }
+    Length::Is(value, end)
+}
+
 // The DER length at the head of `s`: the first byte is judged before its rest is looked for.
 pub fn read_length(s: &[u8]) -> Length
     ensures { λ r. ⌜ r ≡ readLength (now (s .entry)) ⌝ }
 {
-    let n = s.len();
-    if n == 0 {
+    if s.len() == 0 {
         return Length::Not(Fault::NoByte);
     }
     let x = wide(s[0]);
@@ -78,16 +91,7 @@ pub fn read_length(s: &[u8]) -> Length
     if 0x85 <= x {
         return Length::Not(Fault::FirstByte);
     }
-    let k = x - 0x80;
-    if n - 1 < k {
-        return Length::Not(Fault::Cut);
-    }
-    let end = k + 1;
-    let value = octets::number(&s[1..end]);
-    if value < least(k) {
-        return Length::Not(Fault::NotShortest);
-    }
-    Length::Is(value, end)
+    long_form(s, x - 0x80)
 }
 
 // The DER length of this size, byte by byte.
@@ -120,67 +124,6 @@ pub fn length_width(size: usize) -> usize
         return 3;
     }
     0
-}
-
-// Puts it down from a place on and answers the place reached; where it does not fit, or is longer, nothing is written and the place stays.
-pub fn put_length(size: usize, out: &mut [u8], at: usize) -> usize
-    ensures place { λ r. ⌜ r ≡ reached (written size) (length (now (out .entry))) at ⌝ }
-    ensures buffer { λ r. ⌜ now (out .exit) ≡ copied (written size) (now (out .entry)) at ⌝ }
-{
-    let room = out.len();
-    if room < at {
-        return at;
-    }
-    if room - at < length_width(size) {
-        return at;
-    }
-    match length_form(size) {
-        Form::One(a) => {
-            out[at] = a;
-            at + 1
-        }
-        Form::Two(a, b) => {
-            out[at] = a;
-            out[at + 1] = b;
-            at + 2
-        }
-        Form::Three(a, b, c) => {
-            out[at] = a;
-            out[at + 1] = b;
-            out[at + 2] = c;
-            at + 3
-        }
-        Form::Longer => at,
-    }
-}
-
-// Where a body starts and ends whose length was read, if so many bytes after the tag hold it whole.
-fn body_in(room: usize, size: usize, width: usize) -> Element
-    requires { ⌜ (width ≤ room) × (room < 2 ^ 63) ⌝ }
-    ensures { λ r. ⌜ r ≡ bodyIn room (Length.Is size width) ⌝ }
-{
-    if room - width < size {
-        return Element::Nothing;
-    }
-    Element::Body(width + 1, width + 1 + size)
-}
-
-// The element with this tag at the head of `s`.
-pub fn element_of(tag: u8, s: &[u8]) -> Element
-    ensures { λ r. ⌜ r ≡ elementIn tag (now (s .entry)) ⌝ }
-{
-    let n = s.len();
-    if n == 0 {
-        return Element::Nothing;
-    }
-    if s[0] != tag {
-        return Element::Nothing;
-    }
-    let read = read_length(&s[1..]);
-    match read {
-        Length::Is(size, width) => body_in(n - 1, size, width),
-        Length::Not(_) => Element::Nothing,
-    }
 }
 
 // Whether a first byte says no more than the second's top bit does.

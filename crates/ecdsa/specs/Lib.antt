@@ -1,5 +1,4 @@
 pub mod Signature
-pub mod Places
 pub mod FormSize
 pub mod Strict
 pub mod Calls

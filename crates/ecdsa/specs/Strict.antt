@@ -15,8 +15,8 @@ use Rattle.der.specs.Element.{elementIn}
 use Rattle.der.specs.Content.{strict}
 use Rattle.der.specs.declared.Element.{Element}
 use Rattle.der.specs.declared.Element.the-variants as found
-use Rattle.ecdsa.specs.declared.raw_form.Number.{Number}
-use Rattle.ecdsa.specs.declared.raw_form.Number.the-variants.{Digits, Nothing}
+use Rattle.ecdsa.specs.declared.Number.{Number}
+use Rattle.ecdsa.specs.declared.Number.the-variants.{Digits, Nothing}
 
 -- the bytes from one place to another
 abbrev pub part : ℕ → ℕ → List ℕ → List ℕ

@@ -5,15 +5,7 @@ use Prim.Native.Nat.{ℕ}
 use lib.IntN.{ℤ}
 use Rattle.format.specs.Answers.{Answer, Result}
 use Rattle.dates.specs.declared.Date.{Date}
-use Rattle.fields.specs.declared.Header.{Header}
-use Rattle.reader.specs.declared.Ends.{Ends}
-use Rattle.reader.specs.declared.Part.{Part}
-use Rattle.reader.specs.declared.Reading.{Reading}
 use Rattle.face.specs.declared.FrDate.{FrDate}
-use Rattle.face.specs.declared.FrHeader.{FrHeader}
-use Rattle.face.specs.declared.FrEnds.{FrEnds}
-use Rattle.face.specs.declared.FrPart.{FrPart}
-use Rattle.face.specs.declared.FrReading.{FrReading}
 use Rattle.face.specs.declared.FrFilled.{FrFilled}
 use Rattle.face.specs.declared.FrDated.{FrDated}
 use Rattle.face.specs.declared.FrNumbered.{FrNumbered}
@@ -23,35 +15,6 @@ use Rattle.face.specs.declared.FrHashed.{FrHashed}
 -- outwards: what a call beneath answers, as the face gives it
 abbrev pub dateOf : Date → FrDate
 dateOf d = record { month = d .month; day = d .day; year = d .year }
-
-abbrev pub headerOf : Header → FrHeader
-headerOf h =
-    record {
-      version = h .version;
-      country = h .country;
-      length = h .length;
-      «issued_on» = dateOf (h .issued);
-      «signed_on» = dateOf (h .signed);
-      definition = h .definition;
-      category = h .category;
-    }
-
-abbrev pub endsOf : Ends → FrEnds
-endsOf e = record { header = e .header; message = e .message; seal = e .seal }
-
-abbrev pub partOf : Part → FrPart
-partOf p = record { place = p .place; length = p .length }
-
-abbrev pub readingOf : Reading → FrReading
-readingOf r =
-    record {
-      number = r .number;
-      place = r .place;
-      header = headerOf (r .header);
-      ends = endsOf (r .ends);
-      signature = partOf (r .signature);
-      count = r .count;
-    }
 
 -- number, place and the count written
 abbrev pub filledWith : ℕ → ℕ → ℕ → FrFilled
@@ -76,15 +39,3 @@ hashedOf g = record { number = g .number; place = g .place; bits = g .value }
 -- inwards: what the face is given, as the call beneath takes it
 abbrev pub innerDate : FrDate → Date
 innerDate d = record { month = d .month; day = d .day; year = d .year }
-
-abbrev pub innerHeader : FrHeader → Header
-innerHeader h =
-    record {
-      version = h .version;
-      country = h .country;
-      length = h .length;
-      issued = innerDate (h .«issued_on»);
-      signed = innerDate (h .«signed_on»);
-      definition = h .definition;
-      category = h .category;
-    }

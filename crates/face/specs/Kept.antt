@@ -5,45 +5,20 @@ use Prim.Native.Nat.{ℕ}
 use lib.IntN.{ℤ}
 use Rattle.format.specs.Answers.{Answer, Result}
 use Rattle.dates.specs.declared.Date.{Date}
-use Rattle.fields.specs.declared.Header.{Header}
-use Rattle.reader.specs.declared.Reading.{Reading}
 use Rattle.face.specs.declared.FrDate.{FrDate}
-use Rattle.face.specs.declared.FrHeader.{FrHeader}
-use Rattle.face.specs.declared.FrReading.{FrReading}
 use Rattle.face.specs.declared.FrFilled.{FrFilled}
 use Rattle.face.specs.declared.FrDated.{FrDated}
 use Rattle.face.specs.declared.FrNumbered.{FrNumbered}
 use Rattle.face.specs.declared.FrInteger.{FrInteger}
 use Rattle.face.specs.declared.FrHashed.{FrHashed}
-use Rattle.face.specs.Face.{dateOf, headerOf, readingOf, filledOf, datedOf, numberedOf, integerOf, hashedOf, innerDate, innerHeader}
+use Rattle.face.specs.Face.{dateOf, filledOf, datedOf, numberedOf, integerOf, hashedOf, innerDate}
 
--- a date and a header, out and in, and in and out
+-- a date, out and in, and in and out
 pub date-kept : (d : Date) → innerDate (dateOf d) ≡ d
 date-kept d = refl
 
 pub date-back : (d : FrDate) → dateOf (innerDate d) ≡ d
 date-back d = refl
-
-pub header-kept : (h : Header) → innerHeader (headerOf h) ≡ h
-header-kept h = refl
-
-pub header-back : (h : FrHeader) → headerOf (innerHeader h) ≡ h
-header-back h = refl
-
--- a reading
-abbrev pub readingIn : FrReading → Reading
-readingIn f =
-    record {
-      number = f .number;
-      place = f .place;
-      header = innerHeader (f .header);
-      ends = record { header = f .ends .header; message = f .ends .message; seal = f .ends .seal };
-      signature = record { place = f .signature .place; length = f .signature .length };
-      count = f .count;
-    }
-
-pub reading-kept : (r : Reading) → readingIn (readingOf r) ≡ r
-reading-kept r = refl
 
 -- an answer by number, place and count, and one by number, place and value
 abbrev pub answerIn : FrFilled → Answer

@@ -9,7 +9,7 @@ use Rattle.format.specs.Choice.{pick}
 use Rattle.lines.specs.Line.{_then_}
 use Rattle.list_lines.specs.ListLine.{line, nameLines, dateLines, refusal}
 use Rattle.rows.specs.Rows.{rowsOf}
-use Rattle.reader.specs.declared.Reading.{Reading}
+use Rattle.reading.specs.declared.Reading.{Reading}
 use Rattle.listing.specs.Listed.{part, featureLines}
 
 -- a line for each of so many rows, as far as the table has them

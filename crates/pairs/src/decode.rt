@@ -1,11 +1,4 @@
-// What a pair of bytes carries.
-ghost use mathlib.Core.Path.{_≡_};
-ghost use Prim.Native.Nat.{_+_, _*_, _<_};
-ghost use lib.ListN.{length};
-ghost use Rattle.pairs.specs.Pairs.{pairOf, charsOf, first, second, third};
-use crate::chart::value_of;
-use octets::wide;
-
+// What a pair of bytes may carry; `unpack` tells which.
 // What is wrong with a pair of bytes: one kind, which 41 tells.
 pub enum Fault {
     WronglyCoded,
@@ -27,80 +20,4 @@ pub struct Values {
     pub a: usize,
     pub b: usize,
     pub c: usize,
-}
-
-// The three values of the number that is one more than `n` (Doc 9303-13, 2.6.2).
-pub fn split(n: usize) -> Values
-    ensures { λ r. ⌜ (r .a ≡ first (n + 1)) × ((r .b ≡ second (n + 1)) × (r .c ≡ third (n + 1))) ⌝ }
-{
-    Values {
-        a: n / 1600,
-        b: n / 40 % 40,
-        c: n % 40,
-    }
-}
-
-// What a pair carries that begins with FE: one character, its code plus 1, and only as the last pair.
-fn single(chart: &[u8; 40], x: u8, y: u8, last: bool) -> Pair
-    requires { ⌜ 64000 < x * 256 + y ⌝ }
-    ensures { λ r. ⌜ r ≡ pairOf (now (chart .entry)) last x y ⌝ }
-{
-    if x != 0xFE {
-        return Pair::Wrong(Fault::WronglyCoded);
-    }
-    if !last {
-        return Pair::Wrong(Fault::WronglyCoded);
-    }
-    if y == 0 {
-        return Pair::Wrong(Fault::WronglyCoded);
-    }
-    let c = y - 1;
-    if chart[value_of(c)] != c {
-        return Pair::Wrong(Fault::WronglyCoded);
-    }
-    Pair::One(c)
-}
-
-// What the pair `x`, `y` carries by the chart that is lent.
-pub fn pair_of(chart: &[u8; 40], x: u8, y: u8, last: bool) -> Pair
-    ensures { λ r. ⌜ r ≡ pairOf (now (chart .entry)) last x y ⌝ }
-{
-    let number = wide(x) * 256 + wide(y);
-    if number == 0 {
-        return Pair::Wrong(Fault::WronglyCoded);
-    }
-    if 64000 < number {
-        return single(chart, x, y, last);
-    }
-    let v = split(number - 1);
-    let a = v.a;
-    let b = v.b;
-    let c = v.c;
-    if a < 3 {
-        return Pair::Wrong(Fault::WronglyCoded);
-    }
-    if b < 3 {
-        return Pair::Wrong(Fault::WronglyCoded);
-    }
-    if 3 <= c {
-        return Pair::Three(chart[a], chart[b], chart[c]);
-    }
-    if c == 0 {
-        if last {
-            return Pair::Two(chart[a], chart[b]);
-        }
-    }
-    Pair::Wrong(Fault::WronglyCoded)
-}
-
-// How many characters a pair carries; none where it is wrongly coded.
-pub fn carried(pair: Pair) -> usize
-    ensures { λ r. ⌜ r ≡ length (charsOf pair) ⌝ }
-{
-    match pair {
-        Pair::Three(_, _, _) => 3,
-        Pair::Two(_, _) => 2,
-        Pair::One(_) => 1,
-        Pair::Wrong(_) => 0,
-    }
 }

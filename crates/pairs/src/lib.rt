@@ -1,4 +1,4 @@
-// One pair of C40 bytes (document 01, C40; Doc 9303-13, 2.6): the chart, what a pair carries, and the number of characters as a pair.
+// One pair of C40 bytes (document 01, C40; Doc 9303-13, 2.6): the chart, what a pair may carry, and the number of characters as a pair.
 mod chart;
 mod decode;
 mod encode;
@@ -8,9 +8,6 @@ pub use chart::value_of;
 pub use decode::Fault;
 pub use decode::Pair;
 pub use decode::Values;
-pub use decode::carried;
-pub use decode::pair_of;
-pub use decode::split;
 pub use encode::number_of;
 pub use encode::number_of_one;
 pub use encode::number_of_two;

@@ -1,7 +1,7 @@
 // The items of a seal, each read at a place: a cursor goes in, and the item comes out with the next cursor (document 01, "Reader").
 ghost use mathlib.Core.Path.{_≡_};
 ghost use Rattle.verdict.specs.Items as read;
-ghost use Rattle.read_items.specs.Meaning.{byteOf, wholeOf, stepOf, numberOf, editionOf, dayOf, because, refused, past};
+ghost use Rattle.read_items.specs.Meaning.{byteOf, wholeOf, stepOf, numberOf, editionOf, dayOf, because, past};
 use causes::Item;
 use causes::Rule;
 use causes::Why;
@@ -74,54 +74,6 @@ impl Refusal {
         Refusal {
             why: Why { item, rule },
             place,
-        }
-    }
-}
-
-impl Step {
-    // Why this item was not read, under the item's name.
-    pub fn refusal(self, item: Item) -> Refusal
-        ensures { λ r. ⌜ r ≡ refused {A = Unit} item (stepOf tt self) ⌝ }
-    {
-        match self {
-            Step::Past(_) => Refusal::of(Item::Seal, Rule::There, 0),
-            Step::Not(rule, place) => Refusal::of(item, rule, place),
-        }
-    }
-}
-
-impl Number {
-    // Why this item was not read, under the item's name.
-    pub fn refusal(self, item: Item) -> Refusal
-        ensures { λ r. ⌜ r ≡ refused item (numberOf self) ⌝ }
-    {
-        match self {
-            Number::Is(_, _) => Refusal::of(Item::Seal, Rule::There, 0),
-            Number::Not(rule, place) => Refusal::of(item, rule, place),
-        }
-    }
-}
-
-impl Edition {
-    // Why the version was not read, under the item's name.
-    pub fn refusal(self, item: Item) -> Refusal
-        ensures { λ r. ⌜ r ≡ refused item (editionOf self) ⌝ }
-    {
-        match self {
-            Edition::Is(_, _) => Refusal::of(Item::Seal, Rule::There, 0),
-            Edition::Not(rule, place) => Refusal::of(item, rule, place),
-        }
-    }
-}
-
-impl Day {
-    // Why this date was not read, under the item's name.
-    pub fn refusal(self, item: Item) -> Refusal
-        ensures { λ r. ⌜ r ≡ refused item (dayOf self) ⌝ }
-    {
-        match self {
-            Day::Is(_, _) => Refusal::of(Item::Seal, Rule::There, 0),
-            Day::Not(rule, place) => Refusal::of(item, rule, place),
         }
     }
 }

@@ -1,16 +1,14 @@
 // The items that are C40 text: country, signer and reference, each put into a lent buffer of its size (document 01, Layout).
 ghost use mathlib.Core.Path.{_≡_};
 ghost use lib.ListN.{length};
-ghost use mathlib.Core.List.{[]};
 ghost use Rattle.verdict.specs.Items as read;
-ghost use Rattle.read_items.specs.Meaning.{stepOf, whyOf, through, valueOr};
+ghost use Rattle.read_items.specs.Meaning.{stepOf, through, valueOr};
 ghost use Rattle.read_names.specs.Meaning.{namesOf, measured, textOver};
 
 mod rules;
 mod text;
 
 use causes::Item;
-use causes::Rule;
 use read_items::Cursor;
 use read_items::Refusal;
 use read_items::Step;
@@ -22,18 +20,6 @@ pub enum Names {
     // the reference's length, L
     Are(usize, Cursor),
     Not(Refusal),
-}
-
-impl Names {
-    // Why they were not read.
-    pub fn why(self) -> Refusal
-        ensures { λ r. ⌜ r ≡ whyOf (namesOf [] self) ⌝ }
-    {
-        match self {
-            Names::Are(_, _) => Refusal::of(Item::Seal, Rule::There, 0),
-            Names::Not(why) => why,
-        }
-    }
 }
 
 // The country, with fillers as `<`; on a refusal `code` stays.
@@ -60,19 +46,19 @@ fn names_in(at: Cursor, seal: &[u8], version: Version, text: &mut [u8]) -> Names
     if let Version::Three = version {
         let nine = text::field(at, seal, Kind::Nine, &mut text[..9]);
         let Step::Past(next) = nine else {
-            return Names::Not(nine.refusal(Item::Names));
+            return Names::Not(refusals::of_step(nine, Item::Names));
         };
         return Names::Are(5, next);
     }
     let six = text::field(at, seal, Kind::Six, &mut text[..6]);
     let Step::Past(after) = six else {
-        return Names::Not(six.refusal(Item::SignerAndLength));
+        return Names::Not(refusals::of_step(six, Item::SignerAndLength));
     };
     let size = octets::hex_value(text[4]) * 16 + octets::hex_value(text[5]);
     let end = 4 + size;
     let reference = text::field(after, seal, Kind::Reference, &mut text[4..end]);
     let Step::Past(next) = reference else {
-        return Names::Not(reference.refusal(Item::Reference));
+        return Names::Not(refusals::of_step(reference, Item::Reference));
     };
     Names::Are(size, next)
 }

@@ -28,7 +28,7 @@ fn fill(bytes: &[u8], text: &mut [u8]) -> Filled
     ensures { λ r. ⌜ exactOf (now (text .exit)) r ≡ read.exactly (length (now (text .entry))) (decode 0 (now (bytes .entry))) ⌝ }
 {
     let last = bytes.len() - 2;
-    let read = c40::read(bytes, text);
+    let read = c40_read::read(bytes, text);
     match read {
         Reading::Done(count) => {
             if count == text.len() {

@@ -1,7 +1,1 @@
-pub mod FeatureRows
-pub mod Judged
-pub mod Calls
-pub mod Answer
-pub mod Pins
-pub mod Witnesses
-pub mod Theorems
+pub mod Given

@@ -9,8 +9,8 @@ use lib.ListN.{take}
 use Rattle.rows.specs.Rows.{width, table}
 use Rattle.verdict.specs.Judge.{Report, accepted}
 use Rattle.verdict.specs.Report.{part}
-use Rattle.reader.specs.Calls.{answerOf, text}
-use Rattle.reader.specs.declared.Reading.{Reading}
+use Rattle.reading.specs.Calls.{answerOf, text}
+use Rattle.reading.specs.declared.Reading.{Reading}
 use Rattle.write_given.specs.Given.{Given, given}
 
 -- from the seal, the answer, and the lent table and text after the reading

@@ -1,8 +1,9 @@
 -- The tender's conditions of acceptance for reader and writer, as theorems: each after its sentence. What is cited stands in
 --   Legal, publish, signedBytes, Content     crates/grammar/specs (a grammar that knows nothing of reader and writer: crates.txt)
---   reading, answerOf, rowsIn, textIn, then  crates/reader/specs/Calls.antt (the contract of `read`); contentIn: Answer.antt there
+--   reading, answerOf, rowsIn, textIn, then  crates/reading/specs/Calls.antt (the contract of `read`); contentIn: Answer.antt there
 --   judge                                    crates/verdict/specs/Judge.antt (the contract of `judge`)
---   writing, Lent, Sound                     crates/writer/specs/Calls.antt (the contract of `write`), Legal.antt there
+--   writing                                  crates/write_judge/specs/Calls.antt (the contract of `write`)
+--   Lent, Sound                              crates/writer/specs/Legal.antt
 --   contentOf                                crates/write_given/specs/Given.antt
 --   told, filled                             crates/format/specs/Answers.antt
 --   againFrom                                crates/seal/specs/Again.antt
@@ -30,13 +31,13 @@ use Rattle.verdict.specs.Judge.{accepted, refused, judge}
 use Rattle.verdict.specs.Judge.Listed.{from-list}
 use Rattle.verdict.specs.Judge.Complete.{published-accepted as legal-accepted}
 use Rattle.verdict.specs.Judge.Seals.{accepted-only}
-use Rattle.reader.specs.Calls.{answerOf, reading, rowsIn, textIn, then}
-use Rattle.reader.specs.Calls.Rooms.{given-accepted}
-use Rattle.reader.specs.Answer.{contentIn}
-use Rattle.reader.specs.Theorems as reader
-use Rattle.reader.specs.declared.Reading.{Reading}
+use Rattle.reading.specs.Calls.{answerOf, reading, rowsIn, textIn, then}
+use Rattle.reading.specs.Calls.Rooms.{given-accepted}
+use Rattle.reading.specs.Answer.{contentIn}
+use Rattle.reading.specs.Theorems as reader
+use Rattle.reading.specs.declared.Reading.{Reading}
 use Rattle.write_given.specs.Given.{Given, featuresOf, contentOf}
-use Rattle.writer.specs.Calls.{writing}
+use Rattle.write_judge.specs.Calls.{writing}
 use Rattle.writer.specs.Legal.{Lent, Sound, written-legal, legal-written}
 use Rattle.writer.specs.Theorems as writer
 use Rattle.seal.specs.Again.{againFrom}
@@ -269,7 +270,7 @@ signed-front s bytes p rows names z =
     ∙ ap signedBytes (sym (r .only (p .content) (p .legal) (p .form-is)))
 
 -- The zone ends that the answer gives, and the signature's part, are those of the only content (`ZonesOf`:
--- crates/reader/specs/Theorems.antt):
+-- crates/reading/specs/Theorems.antt):
 -- header end the header zone's length, message end that and the message zone's, seal end the seal's length, and the part the raw signature.
 pub zone-ends : (s : List ℕ) → Bytes s → (p : Published s) (rows names : List ℕ) → answer s rows names .number ≡ 0 →
     reader.ZonesOf s (p .content) (answer s rows names)

@@ -72,61 +72,52 @@ fn run_file(calls: Calls, path: &[u8]) {
     io::write_all(STDOUT_FILENO, &out[..n]);
 }
 
-// The reader's cases, a file for each chapter.
-fn run_seals() {
-    run_file(Calls::Seals, b"seals/listed");
-    run_file(Calls::Seals, b"seals/header");
-    run_file(Calls::Seals, b"seals/names");
-    run_file(Calls::Seals, b"seals/features");
-    run_file(Calls::Seals, b"seals/lengths");
-    run_file(Calls::Seals, b"seals/signature");
-    run_file(Calls::Seals, b"seals/sizes");
-    run_file(Calls::Seals, b"seals/rooms");
-    run_file(Calls::Seals, b"seals/cut");
-    run_file(Calls::Seals, b"seals/changed3");
-    run_file(Calls::Seals, b"seals/changed4");
-    run_file(Calls::Seals, b"seals/mixed");
+// Which calls a letter stands for in the list of files.
+fn calls_of(letter: u8) -> Calls {
+    match letter {
+        b'c' => Calls::C40,
+        b'n' => Calls::Numbers,
+        b's' => Calls::Signatures,
+        b'r' => Calls::Seals,
+        b'w' => Calls::Writing,
+        b'b' => Calls::Back,
+        _ => Calls::Listing,
+    }
 }
 
-// The writer's cases, a file for each chapter.
-fn run_writing() {
-    run_file(Calls::Writing, b"writing/listed");
-    run_file(Calls::Writing, b"writing/header");
-    run_file(Calls::Writing, b"writing/reference");
-    run_file(Calls::Writing, b"writing/names");
-    run_file(Calls::Writing, b"writing/rows");
-    run_file(Calls::Writing, b"writing/tags");
-    run_file(Calls::Writing, b"writing/values");
-    run_file(Calls::Writing, b"writing/signature");
-    run_file(Calls::Writing, b"writing/sizes");
-    run_file(Calls::Writing, b"writing/rooms");
-    run_file(Calls::Writing, b"writing/several3");
-    run_file(Calls::Writing, b"writing/toolong3");
-    run_file(Calls::Writing, b"writing/several4");
-    run_file(Calls::Writing, b"writing/mixed");
-    run_file(Calls::Back, b"writing/back1");
-    run_file(Calls::Back, b"writing/back2");
+// A line of the list of files: `= NAME` puts the name down, for the answers under it, and `LETTER PATH` runs a file.
+fn run_listed(line: &[u8]) {
+    if line.len() < 3 {
+        return;
+    }
+    let letter = line[0];
+    if letter == b'=' {
+        io::write_all(STDOUT_FILENO, &line[2..]);
+        io::write_all(STDOUT_FILENO, b"\n");
+        return;
+    }
+    run_file(calls_of(letter), &line[2..]);
 }
 
-// The listing's cases, a file for each chapter.
-fn run_listing() {
-    run_file(Calls::Listing, b"listing/accepted");
-    run_file(Calls::Listing, b"listing/refused");
-    run_file(Calls::Listing, b"listing/sizes");
+// Runs every file of the list, in its order.
+fn run_list(list: &[u8]) {
+    let mut from: usize = 0;
+    while from < list.len() {
+        let end = case_file::line_end(list, from);
+        run_listed(&list[from..end]);
+        from = end + 1;
+    }
 }
 
-// The answers to the cases of each name stand under a line with that name.
+// The files of cases are those that `files` lists.
 fn main() {
-    io::write_all(STDOUT_FILENO, b"c40\n");
-    run_file(Calls::C40, b"c40");
-    io::write_all(STDOUT_FILENO, b"numbers\n");
-    run_file(Calls::Numbers, b"numbers");
-    io::write_all(STDOUT_FILENO, b"signatures\n");
-    run_file(Calls::Signatures, b"signatures");
-    io::write_all(STDOUT_FILENO, b"seals\n");
-    run_seals();
-    io::write_all(STDOUT_FILENO, b"writing\n");
-    run_writing();
-    io::write_all(STDOUT_FILENO, b"listing\n");
-    run_listing();
+    let file = os::open_read(b"files");
+    if file < 0 {
+        os::fail(b"files");
+        return;
+    }
+    let mut list = io::large_buffer();
+    let size = io::read_full(file, &mut list);
+    libc::close(file);
+    run_list(&list[..size]);
 }

@@ -1,4 +1,3 @@
 pub mod Given
 pub mod Tests
-pub mod Table
 pub mod Pins

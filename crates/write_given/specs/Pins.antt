@@ -11,7 +11,7 @@ use Rattle.grammar.specs.Examples.{uto, utab, ref-00001, d-fillers, spring}
 use Rattle.fields.specs.declared.Header.{Header}
 use Rattle.rows.specs.Rows.{numbers, valued, rowAt, table, firstRows, rowsOf}
 use Rattle.write_given.specs.Given.{contentAs, contentOf, given}
-use Rattle.write_given.specs.Tests.{isTextSize, areNames, areRows, isTable, areShort, areValues}
+use Rattle.write_given.specs.Tests.{isTextSize, areNames}
 
 abbrev header : ℕ → List ℕ → ℕ → Header
 header version country l =
@@ -60,19 +60,3 @@ named :
     × (areNames four (header 4 uto 6) (utab ++ ref-00001) ≡ false)
     × (areNames three (header 3 (68 ∷ 32 ∷ 32 ∷ []) 5) (utab ++ ref-00001) ≡ false)
 named = (refl, refl, refl, refl, refl)
-
--- over four bytes of values: whole, empty at the end, empty past it, one past it; a number over; tag 254 and not 255; a tag used twice
-tables :
-    (isTable 4 (table (valued 10 0 4 ∷ [])) ≡ true) × (isTable 4 (table (valued 10 4 0 ∷ [])) ≡ true)
-    × (isTable 4 (table (valued 10 5 0 ∷ [])) ≡ false) × (isTable 4 (table (valued 10 1 4 ∷ [])) ≡ false)
-    × (isTable 4 (table (valued 10 0 4 ∷ []) ++ (11 ∷ [])) ≡ false)
-    × (isTable 4 (table (valued 254 0 4 ∷ [])) ≡ true) × (isTable 4 (table (valued 255 0 4 ∷ [])) ≡ false)
-    × (isTable 4 (table (valued 10 0 1 ∷ valued 11 0 1 ∷ valued 10 2 1 ∷ [])) ≡ false) × (isTable 4 [] ≡ true)
-unfolding areRows numbers rowAt table firstRows rowsOf
-tables = (refl, refl, refl, refl, refl, refl, refl, refl, refl)
-
-values :
-    (areValues three (table (valued 10 0 255 ∷ [])) ≡ true) × (areValues three (table (valued 10 0 256 ∷ [])) ≡ false)
-    × (areValues four (table (valued 10 0 256 ∷ [])) ≡ true)
-unfolding areShort numbers rowAt table firstRows rowsOf
-values = (refl, refl, refl)

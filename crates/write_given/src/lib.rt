@@ -1,13 +1,9 @@
-// What the writer is given, judged (document 01, numbers 21 to 25): header and text here, rows in table.rt. 20 is `Version::from_number`,
-// 26 `fields::is_signature`.
+// What the writer is given, judged (document 01, numbers 21 to 23): header and text. 20 is `Version::from_number`, 24 and 25 are in
+// `write_rows`, 26 is `fields::is_signature`.
 ghost use mathlib.Core.Path.{_≡_};
 ghost use Rattle.write_given.specs.Tests as test;
-
-mod table;
-
+ghost use Rattle.write_given.specs.Tests.Laws.{isText};
 use fields::Header;
-pub use table::are_rows;
-pub use table::are_values;
 use versions::Version;
 
 // Whether text of so many bytes has the size that signer and reference have.
@@ -23,6 +19,22 @@ pub fn is_text_size(version: Version, size: usize) -> bool
     size <= 259
 }
 
+// Signer and reference in one text; `length` is the reference's.
+fn are_signer_and_reference(version: Version, length: usize, text: &[u8]) -> bool
+    ensures { λ r. ⌜ r ≡ isText version length (now (text .entry)) ⌝ }
+{
+    if !is_text_size(version, text.len()) {
+        return false;
+    }
+    if length != text.len() - 4 {
+        return false;
+    }
+    if !fields::is_signer(text[0], text[1], text[2], text[3]) {
+        return false;
+    }
+    fields::all_reference(&text[4..])
+}
+
 // Country, signer and reference; the header's L is the reference's length.
 pub fn are_names(version: Version, header: Header, text: &[u8]) -> bool
     ensures { λ r. ⌜ r ≡ test.areNames version header (now (text .entry)) ⌝ }
@@ -31,17 +43,7 @@ pub fn are_names(version: Version, header: Header, text: &[u8]) -> bool
     if !fields::is_country(country[0], country[1], country[2], b'<') {
         return false;
     }
-    let size = text.len();
-    if !is_text_size(version, size) {
-        return false;
-    }
-    if header.length != size - 4 {
-        return false;
-    }
-    if !fields::is_signer(text[0], text[1], text[2], text[3]) {
-        return false;
-    }
-    fields::all_reference(&text[4..])
+    are_signer_and_reference(version, header.length, text)
 }
 
 // Both dates are days.

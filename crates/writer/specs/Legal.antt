@@ -20,10 +20,10 @@ use Rattle.grammar.specs.Legal.{Legal}
 use Rattle.format.specs.Choice.Laws.{both-true, both-are, within-true, within-both}
 use Rattle.rows.specs.Rows.{rowsOf, Whole, isWhole}
 use Rattle.rows.specs.Rows.Laws.{whole-true, whole-is}
-use Rattle.write_given.specs.Tests.{areRows}
+use Rattle.write_rows.specs.Tests.{areRows}
 use Rattle.write_given.specs.Given.{Given, contentAs, contentOf}
 use Rattle.write_given.specs.Given.Laws.{says, said}
-use Rattle.writer.specs.Calls.{writing}
+use Rattle.write_judge.specs.Calls.{writing}
 use Rattle.writer.specs.Legal.Order.{done-passes, passes-done}
 use Rattle.writer.specs.Legal.Names.{names-legal, names-pass}
 use Rattle.verdict.specs.Judge.Complete.{size-passes}

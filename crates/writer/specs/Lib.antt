@@ -1,9 +1,6 @@
-pub mod Calls
-pub mod Needs
 pub mod Put
 pub mod Together
 pub mod Pins
 pub mod Legal
 pub mod Theorems
 pub mod Witnesses
-pub mod OneToOne

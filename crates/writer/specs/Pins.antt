@@ -14,10 +14,10 @@ use Rattle.der.specs.Length.{form}
 use Rattle.grammar.specs.Publish.{headerZone, messageZone, signatureZone, signedBytes, publish}
 use Rattle.grammar.specs.Examples.{uto, utab, ref-00001, spring, seal-a}
 use Rattle.fields.specs.declared.Header.{Header}
-use Rattle.write_given.specs.Tests.{areRows, areShort}
+use Rattle.write_rows.specs.Tests.{areRows, areShort}
 use Rattle.rows.specs.Rows.{numbers, valued, rowAt, table, firstRows, rowsOf}
 use Rattle.write_given.specs.Given.{Given, given, contentAs}
-use Rattle.writer.specs.Calls.{writingAs, writing}
+use Rattle.write_judge.specs.Calls.{writingAs, writing}
 
 abbrev header-a : Header
 header-a = record { version = 3; country = uto; length = 5; issued = spring; signed = spring; definition = 1; category = 2 }

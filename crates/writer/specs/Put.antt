@@ -28,9 +28,10 @@ use Rattle.rows.specs.Rows.Laws.{rows-here, rows-end}
 use Rattle.octets.specs.Copy.{copied, reached}
 use Rattle.write_text.specs.Coded.{coded, firstSix}
 use Rattle.write_text.specs.Coded.Laws.{text-put, six-all}
-use Rattle.writer.specs.Needs.{Room, Named, Measured, Fits, Fitting, spelled, sixOf}
+use Rattle.write_judge.specs.Needs.{Room, Named, Measured, Fits, Fitting, spelled, sixOf}
 use Rattle.write_given.specs.Tests.Laws.{size-four}
-use Rattle.writer.specs.Needs.Laws.{spelled-six, six-text, reference-text}
+use Rattle.write_judge.specs.Size.{names-four, zone-none, zone-cons}
+use Rattle.write_judge.specs.Needs.Laws.{spelled-six, six-text, reference-text}
 
 -- three bytes of a date
 pub put-date :
@@ -111,25 +112,6 @@ module _ (v : Version) (tag : ℕ) (value out : List ℕ) (at : ℕ) (room : Roo
               ∙ over-over out at (tag ∷ form) value (omega arith),
         )
 
--- the characters of version 4's names
-pub spelled-long : (text : List ℕ) → 4 ≤ length text → length (spelled text) ≡ length text + 2
-spelled-long text h =
-    let first : length (take 4 text) ≡ 4 = length-take-le 4 text h in
-    let n = length (drop 4 text) in
-    omega (
-      arith,
-      length-append (take 4 text ++ (hexDigit (n / 16) ∷ hexDigit (n % 16) ∷ [])) (drop 4 text),
-      length-append (take 4 text) (hexDigit (n / 16) ∷ hexDigit (n % 16) ∷ []),
-      length-drop 4 text,
-    )
-
--- signer and reference, by version
-pub names-three : (v : Version) (t : List ℕ) → v ≡ three → names v (take 4 t) (drop 4 t) ≡ c40 t
-names-three v t e = ap (λ w. names w (take 4 t) (drop 4 t)) e ∙ ap c40 (take-append-drop 4 t)
-
-pub names-four : (v : Version) (t : List ℕ) → v ≡ four → names v (take 4 t) (drop 4 t) ≡ c40 (spelled t)
-names-four v t e = ap (λ w. names w (take 4 t) (drop 4 t)) e
-
 -- the first six characters fill two pairs
 pub names-six : (v : Version) (t : List ℕ) → v ≡ four → 4 ≤ length t → names v (take 4 t) (drop 4 t) ≡ c40 (sixOf t) ++ c40 (drop 4 t)
 names-six v t e h =
@@ -202,17 +184,6 @@ module _ (v : Version) (t out : List ℕ) (at : ℕ) (n : Named v t) (other : v 
             ∙ over-over out at (c40 codes) l (omega (arith, both-long, room))
             ∙ ap (over out at) (sym both-parts),
       )
-
--- the features of rows
-pub zone-none : (v : Version) (values : List ℕ) → messageZone v (map (featureOf values) []) ≡ []
-unfolding messageZone
-zone-none v values = refl
-
-pub zone-cons :
-    (v : Version) (values : List ℕ) (r : Row) (rows : List Row) →
-    messageZone v (map (featureOf values) (r ∷ rows)) ≡ feature v (featureOf values r) ++ messageZone v (map (featureOf values) rows)
-unfolding messageZone
-zone-cons v values r rows = refl
 
 -- how far the features are put down
 pub record Putting (version : Version) (values t out₀ : List ℕ) (start : ℕ) (out : List ℕ) (at row : ℕ) : Type 0 where

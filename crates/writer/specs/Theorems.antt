@@ -16,7 +16,7 @@ use Rattle.versions.specs.declared.Version.{Version}
 use Rattle.versions.specs.Versions.{versionOf}
 use Rattle.grammar.specs.Publish.{publish}
 use Rattle.write_given.specs.Given.{Given, contentAs}
-use Rattle.writer.specs.Calls.{inVersion, testsAs, writingAs, writing}
+use Rattle.write_judge.specs.Calls.{inVersion, testsAs, writingAs, writing}
 
 -- done, or one of 20 to 28 with place 0 and nothing written
 abbrev pub FromList : Outcome → Type 0

@@ -33,59 +33,17 @@ use Rattle.fields.specs.Signature.{isSignature}
 use Rattle.verdict.specs.Judge.Complete.{size-small}
 use Rattle.verdict.specs.Judge.Sound.{size-of}
 use Rattle.fields.specs.declared.Header.{Header}
-use Rattle.write_given.specs.Tests.Laws.{size-three, size-four, sized-head}
-use Rattle.write_given.specs.Tests.{isTextSize, isRow, areRows, isTable, areSized}
+use Rattle.write_given.specs.Tests.Laws.{size-three, size-four}
+use Rattle.write_rows.specs.Tests.Laws.{sized-head}
+use Rattle.write_given.specs.Tests.{isTextSize}
+use Rattle.write_rows.specs.Tests.{isRow, areRows, isTable, areSized}
 use Rattle.write_given.specs.Given.{threeOf, Given, contentAs}
-use Rattle.writer.specs.Needs.{Room, Fitting, Named, Headed, Dated, front, rest, Passed, spelled}
-use Rattle.writer.specs.Needs.Laws.{country-text}
+use Rattle.write_judge.specs.Needs.{Room, Fitting, Named, Headed, Dated, front, rest, Passed, spelled}
+use Rattle.write_judge.specs.Needs.Laws.{country-text}
 use Rattle.write_text.specs.Coded.{coded}
 use Rattle.write_text.specs.Coded.Laws.{text-put}
 use Rattle.write_size.specs.SealSize.{rowsSize, namesSize, sealSize}
-use Rattle.writer.specs.Put.{zone-none, zone-cons, names-three, names-four, spelled-long}
-
--- what the judged names say
-pub headed-country : (v : Version) (h : Header) (t : List ℕ) → Headed v h t → isCountry 60 (h .country) ≡ true
-headed-country v h t d = both-true (isCountry 60 (h .country)) _ d .0
-
-pub headed-named : (v : Version) (h : Header) (t : List ℕ) → Headed v h t → Named v t
-headed-named v h t d =
-    let a = both-true (isCountry 60 (h .country)) _ d in
-    let b = both-true (both (isTextSize v (length t)) (eqb (h .length + 4) (length t))) _ (a .1) in
-    let s = both-true (isTextSize v (length t)) _ (b .0) in
-    let n = both-true (isSigner (take 4 t)) _ (b .1) in
-    record { size = s .0; signer = n .0; reference = n .1 }
-
--- sizes of the header's parts
-code-size : (t : List ℕ) → length (c40 (map carried (threeOf t))) ≡ 2
-code-size t = length-publish (map carried (threeOf t))
-
-names-size : (v : Version) (t : List ℕ) → isTextSize v (length t) ≡ true → length (names v (take 4 t) (drop 4 t)) ≡ namesSize v (length t)
-names-size three t s =
-    let nine = size-three three (length t) refl s in
-    let six : length (c40 t) ≡ 6 = omega (arith, length-publish t) in
-    ap length (names-three three t refl) ∙ six
-names-size four t s =
-    let least = size-four four (length t) refl s in
-    let long : length (c40 (spelled t)) ≡ (length t + 4) / 3 * 2 =
-    omega (arith, length-publish (spelled t), spelled-long t (omega arith)) in
-    ap length (names-four four t refl) ∙ long
-
-pub front-size : (v : Version) (h : Header) (t : List ℕ) → Headed v h t → length (front v h t) ≡ 4 + namesSize v (length t)
-front-size v h t d =
-    let n = names v (take 4 t) (drop 4 t) in
-    omega
-    (arith, length-append (c40 (map carried (threeOf (h .country)))) n, code-size (h .country), names-size v t (headed-named v h t d .size))
-
-pub rest-size : (h : Header) → length (rest h) ≡ 8
-rest-size h =
-    let last : List ℕ = h .definition ∷ h .category ∷ [] in
-    omega (
-      arith,
-      length-append (date (h .issued)) (date (h .signed) ++ last),
-      length-append (date (h .signed)) last,
-      length-date (h .issued),
-      length-date (h .signed),
-    )
+use Rattle.write_judge.specs.Size.{headed-country, headed-named, front-size, rest-size, Inside, inside, seal-parts, seal-size}
 
 -- the front put down
 module _ (v : Version) (h : Header) (t out : List ℕ) (d : Headed v h t) (room : Room out 0 (front v h t)) (b : ℕ)
@@ -172,34 +130,6 @@ pub front-part : (out : List ℕ) (at : ℕ) (p q : List ℕ) → Room out at (p
 front-part out at p q room = omega (arith, length-append p q)
 
 -- the rows that were judged
-abbrev pub Inside : ℕ → Row → Type 0
-Inside n r = (r .tag ≤ 254) × (r .place + r .size ≤ n)
-
-rows-inside : (n : ℕ) (before rows : List Row) → areRows n before rows ≡ true → All (Inside n) rows
-unfolding areRows
-rows-inside n before [] e = tt
-rows-inside n before (r ∷ rows) e =
-    let b = both-true (isRow n before r) (areRows n (r ∷ before) rows) e in
-    let t = both-true (leb (r .tag) 254) _ (b .0) in
-    let u = both-true (pick (used (r .tag) before) false true) _ (t .1) in
-    ((leb-true (r .tag) 254 (t .0), leb-true (r .place + r .size) n (u .1)), rows-inside n (r ∷ before) rows (b .1))
-
-zone-size :
-    (v : Version) (values : List ℕ) (rows : List Row) →
-    All (Inside (length values)) rows →
-    length (messageZone v (map (featureOf values) rows)) ≡ rowsSize v rows
-unfolding rowsSize
-zone-size v values [] a = ap length (zone-none v values)
-zone-size v values (r ∷ rows) a =
-    let ih = zone-size v values rows (a .1) in
-    let value = take (r .size) (drop (r .place) values) in
-    let long : length value ≡ r .size =
-    length-take-le (r .size) (drop (r .place) values) (omega (arith, a .0 .1, length-drop (r .place) values)) in
-    let f = feature v (featureOf values r) in
-    let part : length f ≡ 1 + length (lengthOf v (r .size)) + r .size =
-    omega (arith, length-append (lengthOf v (length value)) value, ap (λ k. length (lengthOf v k)) long) in
-    ap length (zone-cons v values r rows) ∙ length-append f (messageZone v (map (featureOf values) rows)) ∙ omega arith
-
 short-fit :
     (v : Version) (n : ℕ) (rows : List Row) →
     All (Inside n) rows →
@@ -212,41 +142,6 @@ short-fit v n (r ∷ rows) a h s =
     let b = sized-head v r rows s in
     let ih = short-fit v n rows (a .1) (omega arith) (b .1) in
     ((a .0 .0, a .0 .1, (omega arith, b .0)), ih)
-
--- the published form, part by part
-pub seal-parts :
-    (v : Version) (g : Given) →
-    publish (contentAs g v)
-    ≡ front v (g .header) (g .text)
-    ++ (rest (g .header)
-    ++ (messageZone v (map (featureOf (g .values)) (rowsOf (g .table))) ++ feature four (record { tag = 0xFF; value = g .signature })))
-unfolding publish signedBytes headerZone signatureZone contentAs
-seal-parts v g = simp append-assoc
-
-module _ (v : Version) (g : Given) (h : Headed v (g .header) (g .text)) (table : isTable (length (g .values)) (g .table) ≡ true) where
-  inside : All (Inside (length (g .values))) (rowsOf (g .table))
-  inside =
-      let n = length (g .values) in
-      let rows = rowsOf (g .table) in
-      rows-inside n [] rows (both-true (isWhole (g .table)) (areRows n [] rows) table .1)
-
-  pub seal-size : length (publish (contentAs g v)) ≡ sealSize v (length (g .text)) (rowsOf (g .table)) (length (g .signature))
-  seal-size =
-      let a = front v (g .header) (g .text) in
-      let b = rest (g .header) in
-      let z = messageZone v (map (featureOf (g .values)) (rowsOf (g .table))) in
-      let s = feature four (record { tag = 0xFF; value = g .signature }) in
-      ap length (seal-parts v g)
-      ∙ omega (
-        arith,
-        length-append a (b ++ (z ++ s)),
-        length-append b (z ++ s),
-        length-append z s,
-        length-append (form (length (g .signature))) (g .signature),
-        front-size v (g .header) (g .text) h,
-        rest-size (g .header),
-        zone-size v (g .values) (rowsOf (g .table)) inside,
-      )
 
 pub passed-fit : (v : Version) (g : Given) → Passed v g → Fitting v (length (g .values)) (rowsOf (g .table))
 passed-fit v g p =

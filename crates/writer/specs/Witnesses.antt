@@ -18,10 +18,10 @@ use Rattle.der.specs.Length.{form}
 use Rattle.grammar.specs.Publish.{headerZone, messageZone, signatureZone, signedBytes, publish}
 use Rattle.grammar.specs.Examples.{uto, utab, ref-00001, d-fillers, spring, content-a, seal-a, content-b, signed-b}
 use Rattle.fields.specs.declared.Header.{Header}
-use Rattle.write_given.specs.Tests.{areRows, areShort}
+use Rattle.write_rows.specs.Tests.{areRows, areShort}
 use Rattle.rows.specs.Rows.{numbers, valued, rowAt, table, firstRows, rowsOf}
 use Rattle.write_given.specs.Given.{Given, contentAs, contentOf, given}
-use Rattle.writer.specs.Calls.{writingAs, writing}
+use Rattle.write_judge.specs.Calls.{writingAs, writing}
 
 -- Seal A as it is given: header, text, one row over four bytes, signature
 abbrev headed : ℕ → List ℕ → ℕ → Date → ℕ → Header

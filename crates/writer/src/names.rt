@@ -4,7 +4,7 @@ ghost use Prim.Native.Nat.{_+_};
 ghost use lib.ListN.{length, take, drop};
 ghost use Rattle.format.specs.Buffer.{over};
 ghost use Rattle.grammar.specs.Publish.{names as namesIn};
-ghost use Rattle.writer.specs.Needs.{Room, Named};
+ghost use Rattle.write_judge.specs.Needs.{Room, Named};
 use versions::Version;
 use write_text::first_six;
 use write_text::put_text;

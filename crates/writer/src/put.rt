@@ -9,7 +9,7 @@ ghost use Rattle.grammar.specs.Publish.{lengthOf, feature, messageZone, publish
 ghost use Rattle.rows.specs.Rows.{rowsOf};
 ghost use Rattle.verdict.specs.Report.{featureOf};
 ghost use Rattle.write_given.specs.Given.{given, contentAs};
-ghost use Rattle.writer.specs.Needs.{Room, Measured, Fitting, Headed, Dated, front, rest, Passed};
+ghost use Rattle.write_judge.specs.Needs.{Room, Measured, Fitting, Headed, Dated, front, rest, Passed};
 use crate::names::put_names;
 use dates::Date;
 use dates::Numbered;

@@ -16,7 +16,7 @@ use Rattle.pairs.specs.Pairs.Laws.{pair-full, chars-some, by-pair}
 use Rattle.pairs.specs.declared.decode.Fault.{Fault}
 use Rattle.pairs.specs.declared.decode.Pair.{Pair}
 use Rattle.pairs.specs.declared.decode.Pair.the-variants.{Three, Two, One, Wrong}
-use Rattle.c40.specs.declared.decode.Judged.the-variants as judged
+use Rattle.c40.specs.declared.Judged.the-variants as judged
 use Rattle.c40.specs.Decode.{Decoded, text, wrong, ahead, follow, none, decode, textOf, judgedOf}
 
 pub ahead-nothing : (d : Decoded) → ahead [] d ≡ d

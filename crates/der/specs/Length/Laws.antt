@@ -1,11 +1,11 @@
 -- Reading a length by the tests that lead there; and that it is exact for the form.
 -- Assumes nothing.
-use mathlib.Core.Path.{_≡_, refl, ap, sym, subst, _∙_}
+use mathlib.Core.Path.{_≡_, refl, ap, sym, _∙_}
 use Prim.Native.Nat.{ℕ, _+_, _-_, _<_, _≤_}
 use native.Mathlib.Omega.{arith}
 use borrow.Author.Tests.{lt-ltb, le-ltb}
 use mathlib.Core.List.{List, [], _∷_}
-use lib.ListN.{length, getD, drop, length-drop}
+use lib.ListN.{length, getD, drop}
 use lib.Seq.{drop-cons}
 use Rattle.format.specs.Cut.{Cut}
 use Rattle.format.specs.BigEndian.{val}
@@ -64,22 +64,5 @@ module _ (s : List ℕ) (x : ℕ) (e : x ≡ getD s 0 0) (h : 0 < length s) wher
   pub length-high : 0x85 ≤ x → is.Not fault.FirstByte ≡ readLength s
   length-high l = sym (ap readLength first ∙ first-high x (drop 1 s) l)
 
-  -- the long form
-  module _ (low : 0x80 < x) (high : x < 0x85) where
-    pub length-cut : length s - 1 < x - 0x80 → is.Not fault.Cut ≡ readLength s
-    length-cut l =
-        sym (ap readLength first ∙ first-long x (drop 1 s) low high ∙ long-cut (x - 0x80) (drop 1 s) (omega (arith, length-drop 1 s)))
-
-    module _ (value : ℕ) (v : value ≡ val (drop 1 s) (x - 0x80)) (there : x - 0x80 ≤ length s - 1) where
-      pub length-loose : value < least (x - 0x80) → is.Not fault.NotShortest ≡ readLength s
-      length-loose l =
-          sym
-          (ap readLength first ∙ first-long x (drop 1 s) low high
-          ∙ long-loose (x - 0x80) (drop 1 s) (omega (arith, length-drop 1 s)) (subst (λ n. n < least (x - 0x80)) v l))
-
-      pub length-is : least (x - 0x80) ≤ value → is.Is value (x - 0x80 + 1) ≡ readLength s
-      length-is l =
-          ap (λ n. is.Is n (x - 0x80 + 1)) v
-          ∙ sym
-          (ap readLength first ∙ first-long x (drop 1 s) low high
-          ∙ long-is (x - 0x80) (drop 1 s) (omega (arith, length-drop 1 s)) (subst (λ n. least (x - 0x80) ≤ n) v l))
+  pub length-long : 0x80 < x → x < 0x85 → longForm (x - 0x80) (drop 1 s) ≡ readLength s
+  length-long low high = sym (ap readLength first ∙ first-long x (drop 1 s) low high)

@@ -25,8 +25,8 @@ use Rattle.ecdsa.specs.Signature.Laws.{size-bounds}
 use Rattle.ecdsa.specs.Strict.Laws.{length-part, length-padded, digits-is, number-at, lead-small, lead-at-most, number-read}
 use Rattle.ecdsa.specs.Strict.Laws.{number-inside, raw-none, raw-more, raw-no-r, raw-no-s, raw-left, raw-is}
 use Rattle.ecdsa.specs.Strict.Shortest.{Carries, shortest-carries, padded-shortest}
-use Rattle.ecdsa.specs.declared.raw_form.Number.{Number}
-use Rattle.ecdsa.specs.declared.raw_form.Number.the-variants.{Digits, Nothing}
+use Rattle.ecdsa.specs.declared.Number.{Number}
+use Rattle.ecdsa.specs.declared.Number.the-variants.{Digits, Nothing}
 
 -- the places of content that starts somewhere in t
 drop-part : (k m : ℕ) (l : List ℕ) → k ≤ m → m ≤ length l → take (m - k) (drop k l) ≡ drop k (take m l)

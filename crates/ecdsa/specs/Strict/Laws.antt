@@ -22,8 +22,8 @@ use Rattle.der.specs.Content.Laws.{strict-none}
 use Rattle.der.specs.declared.Element.{Element}
 use Rattle.der.specs.declared.Element.the-variants as found
 use Rattle.ecdsa.specs.Strict.{part, lead, digitsIn, numberAt, numberIn, padded, Raw, lastly, pairIn, sequence, rawOf}
-use Rattle.ecdsa.specs.declared.raw_form.Number.{Number}
-use Rattle.ecdsa.specs.declared.raw_form.Number.the-variants.{Digits, Nothing}
+use Rattle.ecdsa.specs.declared.Number.{Number}
+use Rattle.ecdsa.specs.declared.Number.the-variants.{Digits, Nothing}
 
 -- whether the first byte only says that the number is not negative
 module _ (c : List ℕ) where

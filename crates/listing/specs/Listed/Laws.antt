@@ -20,10 +20,10 @@ use Rattle.rows.specs.Rows.Laws.{rows-taken}
 use Rattle.list_lines.specs.ListLine.{nameLines, dateLines, refusal}
 use Rattle.verdict.specs.Judge.{Verdict, accepted, refused, judge}
 use Rattle.verdict.specs.Judge.Listed.{FromList, from-list}
-use Rattle.reader.specs.Judged.{judge-long}
-use Rattle.reader.specs.Calls.{answerOf, given, reading, rowsIn, textIn, then}
-use Rattle.reader.specs.Calls.Reads.{accepted-report, both-fit}
-use Rattle.reader.specs.declared.Reading.{Reading}
+use Rattle.judging.specs.Judged.{judge-long}
+use Rattle.reading.specs.Calls.{answerOf, given, reading, rowsIn, textIn, then}
+use Rattle.reading.specs.Calls.Reads.{accepted-report, both-fit}
+use Rattle.reading.specs.declared.Reading.{Reading}
 use Rattle.listing.specs.Room.{Word, room}
 use Rattle.listing.specs.Listed.{featureLines, listed, Enough}
 use Rattle.listing.specs.Listing.{features, listing}

@@ -24,6 +24,7 @@ use Rattle.versions.specs.Versions.{versionOfByte}
 use Rattle.causes.specs.declared.Item.{Item as Name}
 use Rattle.causes.specs.declared.Rule.{Rule}
 use Rattle.causes.specs.declared.Rule.the-variants as rule
+use Rattle.causes.specs.declared.Why.{Why}
 use Rattle.read_items.specs.declared.cursor.Refusal.{Refusal}
 use Rattle.verdict.specs.Items.{Item, Way, why, next, is, not, whole, byte, mark, version, last, lastIn, date, dateIn, plainIn, derOf}
 use Rattle.verdict.specs.Items.{derLength, markIn, versionAt, versionIn}
@@ -196,3 +197,8 @@ taken-none n e =
     by-test (isDay (dateOf n))
     (λ h. let z : _≡_ {A = ℕ} 6 0 = ap (λ g. g .number) (e ∙ ap (λ b. chosen b n) h) in absurd (omega arith))
     (λ h. h)
+
+-- what a refusal says of the items whose refusal it is
+pub says : {B : Type 0} (w : Refusal) (y : Why) (place : ℕ) (i : Way B) → w ≡ because y place → not y place ≡ i
+    → not (w .why) (w .place) ≡ i
+says w y place i e f = ap (λ (z : Refusal). not (z .why) (z .place)) e ∙ f

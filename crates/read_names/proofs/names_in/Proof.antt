@@ -43,9 +43,9 @@ returns c =
     let on = told .before .before .before .before in
     let args = on .before .before .before .before .before .before .args in
     let out = on .field .last .1 .1 .1 .0 in
-    names-three-not (args .at .place) (args .seal .now) _ _ (c .refusal .result)
+    names-three-not (args .at .place) (args .seal .now) _ _ (c .of-step .result)
     (sym (ap (stepOf out) (told .enum-told2 .given .1)) ∙ nine-read on)
-    (c .refusal .ensures ∙ ap (λ r. refused {A = Unit} item.Names (stepOf tt r)) (told .enum-told2 .given .1))
+    (c .of-step .ensures ∙ ap (λ r. refused {A = Unit} item.Names (stepOf tt r)) (told .enum-told2 .given .1))
     ∙ ap (λ v. through measured (names v (args .at .place) (args .seal .now))) (sym (on .before .before .enum-told .given .1))
 
 returns-2 : tie.Need-returns-2
@@ -78,9 +78,9 @@ returns-3 c =
     let on = told .before .before .before .before in
     let args = on .before .before .before .before .before .before .args in
     let out = on .field2 .last .1 .1 .1 .0 in
-    names-six-not (args .at .place) (args .seal .now) _ _ (c .refusal2 .result)
+    names-six-not (args .at .place) (args .seal .now) _ _ (c .of-step2 .result)
     (sym (ap (stepOf out) (told .enum-told4 .given .1)) ∙ six-read-as on)
-    (c .refusal2 .ensures ∙ ap (λ r. refused {A = Unit} item.SignerAndLength (stepOf tt r)) (told .enum-told4 .given .1))
+    (c .of-step2 .ensures ∙ ap (λ r. refused {A = Unit} item.SignerAndLength (stepOf tt r)) (told .enum-told4 .given .1))
     ∙ ap (λ v. through measured (names v (args .at .place) (args .seal .now))) (sym (on .before .before .enum-told3 .given .1))
 
 mul-size : tie.Need-mul-size
@@ -154,9 +154,9 @@ returns-4 c =
     let size = last .before .before .hex-value .result * 16 + last .hex-value2 .result in
     names-four-not (args .at .place) (args .seal .now) (on .field2 .last .1 .1 .1 .0)
     (last .before .before .before .before .before .six .given .0 .0 .place) size (six-read last)
-    (length (take (4 + size - 4) (drop 4 (held last)))) (part-size last) _ _ (c .refusal3 .result)
+    (length (take (4 + size - 4) (drop 4 (held last)))) (part-size last) _ _ (c .of-step3 .result)
     (sym (ap (stepOf out) (told .enum-told5 .given .1)) ∙ reference .ensures)
-    (c .refusal3 .ensures ∙ ap (λ r. refused {A = Unit} item.Reference (stepOf tt r)) (told .enum-told5 .given .1))
+    (c .of-step3 .ensures ∙ ap (λ r. refused {A = Unit} item.Reference (stepOf tt r)) (told .enum-told5 .given .1))
     ∙ ap (λ v. through measured (names v (args .at .place) (args .seal .now))) (sym (on .before .before .enum-told3 .given .1))
 
 returns-5 : tie.Need-returns-5
@@ -189,8 +189,8 @@ enum-known-nine c = search needs
 enum-told-2 : tie.Need-enum-told-2
 enum-told-2 c = search needs
 
-refusal-requires : tie.Need-refusal-requires
-refusal-requires c κs = search needs
+of-step-requires : tie.Need-of-step-requires
+of-step-requires c κs = search needs
 
 same-length : tie.Need-same-length
 same-length c = search needs
@@ -210,8 +210,8 @@ enum-known-six c = search needs
 enum-told-4 : tie.Need-enum-told-4
 enum-told-4 c = search needs
 
-refusal-requires-2 : tie.Need-refusal-requires-2
-refusal-requires-2 c κs = search needs
+of-step-requires-2 : tie.Need-of-step-requires-2
+of-step-requires-2 c κs = search needs
 
 same-length-3 : tie.Need-same-length-3
 same-length-3 c = search needs
@@ -240,8 +240,8 @@ enum-known-reference c = search needs
 enum-told-5 : tie.Need-enum-told-5
 enum-told-5 c = search needs
 
-refusal-requires-3 : tie.Need-refusal-requires-3
-refusal-requires-3 c κs = search needs
+of-step-requires-3 : tie.Need-of-step-requires-3
+of-step-requires-3 c κs = search needs
 
 same-length-4 : tie.Need-same-length-4
 same-length-4 c = search needs
@@ -259,7 +259,7 @@ names-in-spec =
     field-requires
     enum-known-nine
     enum-told-2
-    refusal-requires
+    of-step-requires
     same-length
     returns
     same-length-2
@@ -270,7 +270,7 @@ names-in-spec =
     field-requires-2
     enum-known-six
     enum-told-4
-    refusal-requires-2
+    of-step-requires-2
     same-length-3
     returns-3
     slice-read-hex-value
@@ -286,7 +286,7 @@ names-in-spec =
     field-requires-3
     enum-known-reference
     enum-told-5
-    refusal-requires-3
+    of-step-requires-3
     same-length-4
     returns-4
     same-length-5

@@ -19,7 +19,7 @@ use Rattle.verdict.specs.Judge.{Report, accepted}
 use Rattle.verdict.specs.Judge.Complete.{reportOf}
 use Rattle.verdict.specs.Judge.Features.{rowsOf as rowsFrom, feature-parts}
 use Rattle.verdict.specs.Report.{part, featureOf, contentOf as contentRead}
-use Rattle.reader.specs.Calls.{answerOf, text, then}
+use Rattle.reading.specs.Calls.{answerOf, text, then}
 use Rattle.write_given.specs.Given.{contentAs, contentOf}
 use Rattle.write_given.specs.Given.Laws.{said}
 use Rattle.writer.specs.Legal.{Sound}

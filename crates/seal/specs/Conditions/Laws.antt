@@ -25,14 +25,14 @@ use Rattle.verdict.specs.Report.{contentOf as contentRead, featureOf}
 use Rattle.verdict.specs.Report.Laws.{reported}
 use Rattle.rows.specs.Rows.{width, table, rowsOf}
 use Rattle.rows.specs.Rows.Laws.{rows-most}
-use Rattle.reader.specs.Calls.{answerOf, text, given, reading, rowsIn, textIn, then}
-use Rattle.reader.specs.Answer.{contentIn}
-use Rattle.reader.specs.Answer.Laws.{held}
-use Rattle.reader.specs.Theorems.{accepted-when}
+use Rattle.reading.specs.Calls.{answerOf, text, given, reading, rowsIn, textIn, then}
+use Rattle.reading.specs.Answer.{contentIn}
+use Rattle.reading.specs.Answer.Laws.{held}
+use Rattle.reading.specs.Theorems.{accepted-when}
 use Rattle.writer.specs.Legal.Names.{three-of}
 use Rattle.write_given.specs.Given.{Given, featuresOf, contentAs, contentOf}
 use Rattle.write_given.specs.Given.Laws.{Says, says}
-use Rattle.writer.specs.Calls.{writing}
+use Rattle.write_judge.specs.Calls.{writing}
 use Rattle.writer.specs.Legal.{Sound, Written, legal-written}
 use Rattle.seal.specs.Again.{again}
 use Rattle.seal.specs.Again.Laws.{content-again, sound-again}

@@ -1,66 +1,57 @@
 -- Laws of the tests of header and text: each by the tests that lead there.
 -- Assumes nothing.
-use mathlib.Core.Path.{_≡_, refl, ap, sym, _∙_}
+use mathlib.Core.Path.{_≡_, ap, sym, _∙_}
 use mathlib.Core.Bool.{Bool, true, false}
 use Prim.Native.Nat.{ℕ, _+_, _≤_}
 use native.Mathlib.Omega.{arith}
-use borrow.Author.Tests.{eq-eqb, ne-eqb, eqb-true, leb-true, le-leb}
-use mathlib.Core.List.{List, [], _∷_}
-use lib.Dec.{leb, eqb}
+use borrow.Author.Tests.{eq-eqb, ne-eqb, eqb-true}
+use mathlib.Core.List.{List}
+use lib.Dec.{eqb}
 use lib.ListN.{length, take, drop}
 use Rattle.format.specs.Choice.{both}
-use Rattle.format.specs.Choice.Laws.{both-true, both-are, within-both}
+use Rattle.format.specs.Choice.Laws.{within-both}
 use Rattle.grammar.specs.Content.{Version, three, four}
 use Rattle.fields.specs.Characters.{isReference, all, isCountry, isSigner}
-use Rattle.grammar.specs.Legal.{ValueSize}
-use Rattle.rows.specs.declared.Row.{Row}
 use Rattle.fields.specs.declared.Header.{Header}
-use Rattle.write_given.specs.Tests.{isTextSize, areNames, areShort, areSized}
+use Rattle.write_given.specs.Tests.{isTextSize, areNames}
 
--- country, sizes, signer and reference, test by test
+-- signer and reference in one text, the reference of so many characters: what 21 asks beside the country
+abbrev pub isText : Version → ℕ → List ℕ → Bool
+isText v l text =
+    both (both (isTextSize v (length text)) (eqb (l + 4) (length text))) (both (isSigner (take 4 text)) (all isReference (drop 4 text)))
+
+-- the country, and the text
 module _ (v : Version) (h : Header) (text : List ℕ) where
-  abbrev rest : Bool
-  rest =
-      both (both (isTextSize v (length text)) (eqb (h .length + 4) (length text)))
-      (both (isSigner (take 4 text)) (all isReference (drop 4 text)))
-
   pub names-country : isCountry 60 (h .country) ≡ false → false ≡ areNames v h text
-  names-country e = sym (ap (λ b. both b rest) e)
+  names-country e = sym (ap (λ b. both b (isText v (h .length) text)) e)
 
-  module _ (country : isCountry 60 (h .country) ≡ true) where
-    past-country : areNames v h text ≡ rest
-    past-country = ap (λ b. both b rest) country
+  pub names-text : isCountry 60 (h .country) ≡ true → isText v (h .length) text ≡ areNames v h text
+  names-text e = sym (ap (λ b. both b (isText v (h .length) text)) e)
 
-    pub names-size : isTextSize v (length text) ≡ false → false ≡ areNames v h text
-    names-size e =
-        sym
-        (past-country
-        ∙ ap (λ b. both (both b (eqb (h .length + 4) (length text))) (both (isSigner (take 4 text)) (all isReference (drop 4 text)))) e)
+-- sizes, signer and reference, test by test
+module _ (v : Version) (l : ℕ) (text : List ℕ) where
+  abbrev characters : Bool
+  characters = both (isSigner (take 4 text)) (all isReference (drop 4 text))
 
-    module _ (size : isTextSize v (length text) ≡ true) where
-      past-size :
-          areNames v h text ≡ both (eqb (h .length + 4) (length text)) (both (isSigner (take 4 text)) (all isReference (drop 4 text)))
-      past-size =
-          past-country
-          ∙ ap (λ b. both (both b (eqb (h .length + 4) (length text))) (both (isSigner (take 4 text)) (all isReference (drop 4 text)))) size
+  pub text-size : isTextSize v (length text) ≡ false → false ≡ isText v l text
+  text-size e = sym (ap (λ b. both (both b (eqb (l + 4) (length text))) characters) e)
 
-      pub names-length : (h .length + 4 ≡ length text → ⊥) → false ≡ areNames v h text
-      names-length e =
-          sym
-          (past-size
-          ∙ ap (λ b. both b (both (isSigner (take 4 text)) (all isReference (drop 4 text)))) (ne-eqb (h .length + 4) (length text) e))
+  module _ (size : isTextSize v (length text) ≡ true) where
+    past-size : isText v l text ≡ both (eqb (l + 4) (length text)) characters
+    past-size = ap (λ b. both (both b (eqb (l + 4) (length text))) characters) size
 
-      module _ (long : h .length + 4 ≡ length text) where
-        past-length : areNames v h text ≡ both (isSigner (take 4 text)) (all isReference (drop 4 text))
-        past-length =
-            past-size
-            ∙ ap (λ b. both b (both (isSigner (take 4 text)) (all isReference (drop 4 text)))) (eq-eqb (h .length + 4) (length text) long)
+    pub text-length : (l + 4 ≡ length text → ⊥) → false ≡ isText v l text
+    text-length e = sym (past-size ∙ ap (λ b. both b characters) (ne-eqb (l + 4) (length text) e))
 
-        pub names-signer : isSigner (take 4 text) ≡ false → false ≡ areNames v h text
-        names-signer e = sym (past-length ∙ ap (λ b. both b (all isReference (drop 4 text))) e)
+    module _ (long : l + 4 ≡ length text) where
+      past-length : isText v l text ≡ characters
+      past-length = past-size ∙ ap (λ b. both b characters) (eq-eqb (l + 4) (length text) long)
 
-        pub names-reference : isSigner (take 4 text) ≡ true → all isReference (drop 4 text) ≡ areNames v h text
-        names-reference e = sym (past-length ∙ ap (λ b. both b (all isReference (drop 4 text))) e)
+      pub text-signer : isSigner (take 4 text) ≡ false → false ≡ isText v l text
+      text-signer e = sym (past-length ∙ ap (λ b. both b (all isReference (drop 4 text))) e)
+
+      pub text-reference : isSigner (take 4 text) ≡ true → all isReference (drop 4 text) ≡ isText v l text
+      text-reference e = sym (past-length ∙ ap (λ b. both b (all isReference (drop 4 text))) e)
 
 -- the size of a text
 pub size-three : (v : Version) (n : ℕ) → v ≡ three → isTextSize v n ≡ true → n ≡ 9
@@ -72,19 +63,3 @@ size-four v n e s = within-both 5 259 n (sym (ap (λ w. isTextSize w n) e) ∙ s
 pub size-any : (v : Version) (n : ℕ) → isTextSize v n ≡ true → (5 ≤ n) × (n ≤ 259)
 size-any three n s = let nine = eqb-true n 9 s in (omega arith, omega arith)
 size-any four n s = within-both 5 259 n s
-
--- the values of rows, one by one
-pub sized-head : (v : Version) (r : Row) (rows : List Row) → areSized v (r ∷ rows) ≡ true → ValueSize v (r .size) × (areSized v rows ≡ true)
-unfolding areShort
-sized-head three r rows e = let b = both-true (leb (r .size) 255) (areShort rows) e in (leb-true (r .size) 255 (b .0), b .1)
-sized-head four r rows e = (tt, refl)
-
-pub sized-cons : (v : Version) (r : Row) (rows : List Row) → ValueSize v (r .size) → areSized v rows ≡ true → areSized v (r ∷ rows) ≡ true
-unfolding areShort
-sized-cons three r rows h e = both-are (leb (r .size) 255) (areShort rows) (le-leb (r .size) 255 h) e
-sized-cons four r rows h e = refl
-
-pub sized-none : (v : Version) → areSized v [] ≡ true
-unfolding areShort
-sized-none three = refl
-sized-none four = refl

@@ -17,8 +17,8 @@ use Rattle.verdict.specs.Report.{featureOf}
 use Rattle.rows.specs.declared.Row.{Row}
 use Rattle.verdict.specs.Judge.{used}
 use Rattle.verdict.specs.Items.Sound.{taken-size}
-use Rattle.write_given.specs.Tests.{isRow, areRows, areSized}
-use Rattle.write_given.specs.Tests.Laws.{sized-head, sized-cons, sized-none}
+use Rattle.write_rows.specs.Tests.{isRow, areRows, areSized}
+use Rattle.write_rows.specs.Tests.Laws.{sized-head, sized-cons, sized-none}
 
 -- a value inside the values buffer, of so many bytes
 abbrev pub Inside : ℕ → Row → Type 0

@@ -1,6 +1,6 @@
 -- The order 20 to 28: a call is answered 0 exactly when it passes each test, and then the seal is the published form.
 -- Assumes nothing.
-use mathlib.Core.Path.{_≡_, refl, ap, _∙_}
+use mathlib.Core.Path.{_≡_, refl, ap, sym, subst, _∙_}
 use mathlib.Core.Bool.{true}
 use Prim.Native.Nat.{ℕ, suc, _<_, _≤_}
 use native.Mathlib.Omega.{arith}
@@ -14,9 +14,11 @@ use Rattle.versions.specs.declared.Version.{Version}
 use Rattle.versions.specs.Versions.{versionOf}
 use Rattle.grammar.specs.Publish.{publish}
 use Rattle.fields.specs.Signature.{isSignature}
-use Rattle.write_given.specs.Tests.{areNames, areDays, areLast, isTable, areValues}
+use Rattle.write_given.specs.Tests.{areNames, areDays, areLast}
+use Rattle.write_rows.specs.Tests.{isTable, areValues}
 use Rattle.write_given.specs.Given.{Given, contentAs}
-use Rattle.writer.specs.Calls.{inVersion, testsAs, writingAs, writing}
+use Rattle.write_judge.specs.Calls.{inVersion, testsAs, writingAs, writing}
+use Rattle.writer.specs.Theorems.{zero-done}
 
 -- the tests of 20 to 28, in a version
 pub record Passes (v : Version) (g : Given) (room : ℕ) : Type 0 where
@@ -88,3 +90,12 @@ passes-done v g room p =
         (p .last, (p .table, (p .sizes, (p .signature, (le-leb (length seal) 4096 (p .size), (le-leb (length seal) room (p .fits), tt)))))),
       ),
     )
+
+-- a call that is answered 0 passes each test in the version that it states
+pub passes-in :
+    (g : Given) (room : ℕ) (v : Version) → versionOf (g .header .version) ≡ some v → writing g room .number ≡ 0 → Passes v g room
+passes-in g room v stated z =
+    let d = done-passes g room (writing g room .written) (zero-done g room z) in
+    let both : some (d .version) ≡ some v = sym (d .passes .version) ∙ stated in
+    let same : d .version ≡ v = cc in
+    subst (λ w. Passes w g room) same (d .passes)

@@ -31,7 +31,7 @@ fn header_text() -> String {
 
 /// All Rattle sources of the face, one after another: the structs, then the calls.
 fn rattle_text() -> String {
-    let folders = ["crates/face/src", "crates/capi/src"].map(in_repository);
+    let folders = ["crates/face/src", "crates/face_seals/src", "crates/capi/src"].map(in_repository);
     folders.iter().map(|folder| sources_of(folder)).collect()
 }
 

@@ -2,7 +2,7 @@
 -- Assumes nothing.
 use borrow.Author.Needs.{needs}
 use mathlib.Core.Path.{ap, _∙_}
-use Rattle.face.specs.Face.{readingOf}
+use Rattle.face_seals.specs.Face.{readingOf}
 use Rattle.capi.proofs.seals.fr_read.Statement.{statement}
 use Rattle.capi.proofs.seals.fr_read.Tie as tie
 

@@ -7,7 +7,7 @@ use lib.ListN.{length}
 use Rattle.format.specs.Answers.{Outcome, told, filled}
 use Rattle.fields.specs.declared.Header.{Header}
 use Rattle.write_given.specs.Given.{given}
-use Rattle.writer.specs.Calls.{writing}
+use Rattle.write_judge.specs.Calls.{writing}
 use Rattle.face.specs.Face.{filledOf}
 use Rattle.capi.proofs.seals.fr_write.Statement.{statement}
 use Rattle.capi.proofs.seals.fr_write.Tie as tie

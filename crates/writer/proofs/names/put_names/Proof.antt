@@ -13,9 +13,10 @@ use Rattle.octets.specs.Copy.{copied, reached}
 use Rattle.write_given.specs.Tests.Laws.{size-four}
 use Rattle.write_text.specs.Coded.{coded}
 use Rattle.write_text.specs.Coded.Laws.{text-put}
-use Rattle.writer.specs.Needs.{Room}
-use Rattle.writer.specs.Needs.Laws.{named-text}
-use Rattle.writer.specs.Put.{names-three, names-put}
+use Rattle.write_judge.specs.Needs.{Room}
+use Rattle.write_judge.specs.Needs.Laws.{named-text}
+use Rattle.writer.specs.Put.{names-put}
+use Rattle.write_judge.specs.Size.{names-three}
 use Rattle.writer.proofs.names.put_names.Statement.{statement}
 use Rattle.writer.proofs.names.put_names.Tie as tie
 

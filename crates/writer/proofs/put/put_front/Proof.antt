@@ -12,8 +12,9 @@ use Rattle.format.specs.Buffer.Laws.{length-over}
 use Rattle.versions.specs.Versions.{versionByte}
 use Rattle.grammar.specs.Publish.{carried}
 use Rattle.write_given.specs.Given.{threeOf}
-use Rattle.writer.specs.Needs.{front}
-use Rattle.writer.specs.Together.{headed-named, names-room, put-front}
+use Rattle.write_judge.specs.Needs.{front}
+use Rattle.writer.specs.Together.{names-room, put-front}
+use Rattle.write_judge.specs.Size.{headed-named}
 use Rattle.writer.proofs.put.put_front.Statement.{statement}
 use Rattle.writer.proofs.put.put_front.Tie as tie
 

@@ -8,7 +8,7 @@ use denote.Ref.{now}
 use lib.ListN.{length, set, length-set}
 use Rattle.format.specs.Buffer.Laws.{length-over}
 use Rattle.dates.specs.Days.{publish as date}
-use Rattle.writer.specs.Needs.{rest}
+use Rattle.write_judge.specs.Needs.{rest}
 use Rattle.writer.specs.Together.{dated-days, dated-last, front-part, rest-second, rest-last, put-rest}
 use Rattle.writer.proofs.put.put_rest.Statement.{statement}
 use Rattle.writer.proofs.put.put_rest.Tie as tie

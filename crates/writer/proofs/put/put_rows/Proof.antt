@@ -9,7 +9,7 @@ use mathlib.Core.List.{List}
 use lib.ListN.{length, take, drop}
 use Rattle.rows.specs.Rows.{width, rowAt}
 use Rattle.rows.specs.Rows.Laws.{found-none, found-row}
-use Rattle.writer.specs.Needs.{Fits}
+use Rattle.write_judge.specs.Needs.{Fits}
 use Rattle.writer.specs.Put.{Putting, putting-start, putting-length, putting-end, putting-fits, putting-asks, putting-more}
 use Rattle.writer.proofs.put.put_rows.Statement.{statement}
 use Rattle.writer.proofs.put.put_rows.Tie as tie

@@ -19,8 +19,8 @@ use Rattle.rows.specs.declared.Row.{Row}
 use Rattle.rows.specs.Rows.{width, numbers, rowPut, table}
 use Rattle.rows.specs.Rows.Laws.{length-numbers, table-end, put-row}
 use Rattle.verdict.specs.Judge.{valueIn, row}
-use Rattle.reader.specs.Calls.{then}
-use Rattle.reader.specs.FeatureRows.{rowsAt, rowsRead, AreRead}
+use Rattle.reading.specs.Calls.{then}
+use Rattle.reading.specs.FeatureRows.{rowsAt, rowsRead, AreRead}
 
 -- rows that are read, with the place after them
 record Ended (i : Way (List Row)) : Type 0 where

@@ -1,3 +1,0 @@
--- Proofs of the answers; Told is the one step that they share.
--- Assumes nothing.
-mod Told

@@ -1,0 +1,86 @@
+// From C40 bytes to text: all pairs judged, the text put down.
+ghost use mathlib.Core.Path.{_≡_};
+ghost use mathlib.Core.Bool.{false};
+ghost use Prim.Native.Nat.{_+_, _≤_};
+ghost use lib.ListN.{length};
+ghost use Rattle.format.specs.Buffer.{over};
+ghost use Rattle.pairs.specs.Chart.{theChart};
+ghost use Rattle.pairs.specs.Pairs.{pairOf, charsOf};
+ghost use Rattle.c40.specs.Decode.{decode, judgedOf, textOf, Even, Good};
+use c40::Judged;
+use octets::wide;
+use pairs::Pair;
+use unpack::carried;
+use unpack::pair_of;
+use unpack::split;
+
+// Judges all pairs of an even number of bytes, from the left.
+pub(crate) fn judge(chart: &[u8; 40], bytes: &[u8]) -> Judged
+    requires { ⌜ Even (now chart) (now bytes) ⌝ }
+    ensures { λ r. ⌜ r ≡ judgedOf (decode 0 (now (bytes .entry))) ⌝ }
+{
+    let n = bytes.len();
+    let mut i: usize = 0;
+    let mut count: usize = 0;
+    while i < n {
+        let pair = pair_of(chart, bytes[i], bytes[i + 1], i + 2 == n);
+        if let Pair::Wrong(fault) = pair {
+            return Judged::Wrong(fault, i);
+        }
+        count += carried(pair);
+        i += 2;
+    }
+    Judged::Text(count)
+}
+
+// Puts down the characters of a pair from a place on.
+pub(crate) fn put_pair(pair: Pair, out: &mut [u8], at: usize)
+    requires { ⌜ at + length (charsOf pair) ≤ length (now out) ⌝ }
+    ensures { λ r. ⌜ now (out .exit) ≡ over (now (out .entry)) at (charsOf pair) ⌝ }
+{
+    match pair {
+        Pair::Three(a, b, c) => {
+            out[at] = a;
+            out[at + 1] = b;
+            out[at + 2] = c;
+        }
+        Pair::Two(a, b) => {
+            out[at] = a;
+            out[at + 1] = b;
+        }
+        Pair::One(a) => {
+            out[at] = a;
+        }
+        Pair::Wrong(_) => {}
+    }
+}
+
+// What a pair carries that was judged good and is not the last: three characters, with no test left to make.
+pub(crate) fn full(chart: &[u8; 40], x: u8, y: u8) -> Pair
+    requires { ⌜ (now chart ≡ theChart) × (length (charsOf (pairOf theChart false x y)) ≡ 3) ⌝ }
+    ensures { λ r. ⌜ r ≡ pairOf theChart false x y ⌝ }
+{
+    let v = split(wide(x) * 256 + wide(y) - 1);
+    let a = v.a;
+    let b = v.b;
+    let c = v.c;
+    Pair::Three(chart[a], chart[b], chart[c])
+}
+
+// Puts down the text of bytes that were judged good from the start of `out`, which has room for it.
+pub(crate) fn put(chart: &[u8; 40], bytes: &[u8], out: &mut [u8])
+    requires { ⌜ Good (now chart) (now bytes) (now out) ⌝ }
+    ensures { λ r. ⌜ now (out .exit) ≡ over (now (out .entry)) 0 (textOf (decode 0 (now (bytes .entry)))) ⌝ }
+{
+    let n = bytes.len();
+    let mut i: usize = 0;
+    let mut at: usize = 0;
+    while i + 2 < n {
+        put_pair(full(chart, bytes[i], bytes[i + 1]), out, at);
+        i += 2;
+        at += 3;
+    }
+    if i < n {
+        put_pair(pair_of(chart, bytes[i], bytes[i + 1], true), out, at);
+    }
+}

@@ -1,0 +1,227 @@
+-- `encode::put` meets its contract. The loop's invariant: these bytes stand in `out`, and what is left of the text
+-- is still to be published.
+-- Assumes nothing.
+use borrow.Author.Needs.{needs}
+use native.Mathlib.Omega.{arith}
+use mathlib.Core.Path.{_≡_, _∙_, refl, ap, sym}
+use Prim.Native.Nat.{ℕ, _+_, _*_, _-_, _/_, _%_, _<_, _≤_}
+use mathlib.Core.List.{List, [], _∷_, _++_, append-assoc, append-nil}
+use denote.Ref.{now}
+use lib.ListN.{length, getD, drop}
+use Rattle.format.specs.BigEndian.{be}
+use Rattle.format.specs.BigEndian.Laws.{length-be}
+use Rattle.format.specs.Bytes.Laws.{all-at}
+use Rattle.format.specs.Buffer.{over}
+use Rattle.format.specs.Buffer.Laws.{Held, held-start, held-more, held-length}
+use Rattle.pairs.specs.Chart.{InChart}
+use Rattle.pairs.specs.Chart.Laws.{char-below}
+use Rattle.c40.specs.Text.{publish, width}
+use Rattle.c40.specs.Text.Laws.{left-three, left-two, left-one, left-none}
+use Rattle.c40_write.proofs.encode.put.Statement.{statement}
+use Rattle.c40_write.proofs.encode.put.Tie as tie
+
+abbrev Inv-loop : tie.InvT-loop
+Inv-loop text out₀ n i₀ at₀ out i at =
+    (i ≤ length text)
+    × (i % 3 ≡ 0)
+    × (at ≡ 2 * (i / 3))
+    × (before : List ℕ)
+    × (publish text ≡ before ++ publish (drop i text))
+    × Held out₀ out at before
+
+abbrev μ-loop : tie.MeasureT-loop
+μ-loop text out₀ n i₀ at₀ out i at = length text - i
+
+-- where a character is left there is room for two bytes
+room :
+    (c : tie.At-loop Inv-loop μ-loop) →
+    c .loop .i < length (now (c .before .before .before .args .text)) →
+    (c .loop .at + 2 ≤ length (now (c .before .before .before .args .out)))
+    × (length (c .loop .out) ≡ length (now (c .before .before .before .args .out)))
+room c h =
+    let fits : c .loop .at + 2 ≤ length (now (c .before .before .before .args .out)) = omega (arith, c .before .before .before .pre .1) in
+    (fits, held-length _ _ _ _ (c .loop .inv .5) (omega arith))
+
+-- two bytes more, which are the form of what stands at the place
+module _ (c : tie.At-loop Inv-loop μ-loop) (h : c .loop .i < length (now (c .before .before .before .args .text))) (number : ℕ)
+    (after : List ℕ) (put : after ≡ over (c .loop .out) (c .loop .at) (be 2 number)) where
+  more : Held (now (c .before .before .before .args .out)) after (c .loop .at + 2) (c .loop .inv .3 ++ be 2 number)
+  more = held-more _ _ _ _ (c .loop .inv .5) (be 2 number) after _ put (ap (λ k. c .loop .at + k) (length-be 2 number)) (room c h .0)
+
+  ends :
+      publish (drop (c .loop .i) (now (c .before .before .before .args .text))) ≡ be 2 number →
+      after ≡ over (now (c .before .before .before .args .out)) 0 (publish (now (c .before .before .before .args .text)))
+  ends e =
+      more .is ∙ ap (over (now (c .before .before .before .args .out)) 0) (ap (λ p. c .loop .inv .3 ++ p) (sym e) ∙ sym (c .loop .inv .4))
+
+-- a character that is left is at most 90
+low :
+    (c : tie.At-loop Inv-loop μ-loop) →
+    c .loop .i < length (now (c .before .before .before .args .text)) →
+    getD (now (c .before .before .before .args .text)) (c .loop .i) 0 < 91
+low c h = char-below _ (all-at InChart 0 (now (c .before .before .before .args .text)) (c .before .before .before .pre .0) (c .loop .i) h)
+
+loop-holds : tie.Need-loop-holds Inv-loop μ-loop
+loop-holds c = (omega arith, omega arith, omega arith, [], refl, held-start _)
+
+add-loop : tie.Need-add-loop Inv-loop μ-loop
+add-loop c = omega arith
+
+shared-slice-read-number-of : tie.Need-shared-slice-read-number-of Inv-loop μ-loop
+shared-slice-read-number-of c = omega arith
+
+add-number-of : tie.Need-add-number-of Inv-loop μ-loop
+add-number-of c = omega arith
+
+shared-slice-read-number-of-2 : tie.Need-shared-slice-read-number-of-2 Inv-loop μ-loop
+shared-slice-read-number-of-2 c = omega arith
+
+add-number-of-2 : tie.Need-add-number-of-2 Inv-loop μ-loop
+add-number-of-2 c = omega arith
+
+shared-slice-read-number-of-3 : tie.Need-shared-slice-read-number-of-3 Inv-loop μ-loop
+shared-slice-read-number-of-3 c = omega arith
+
+number-of-requires : tie.Need-number-of-requires Inv-loop μ-loop
+number-of-requires c κs = search needs
+
+put-number-requires : tie.Need-put-number-requires Inv-loop μ-loop
+put-number-requires c κs =
+    let on = c .before .before .before .before .before .before in
+    let r = room on (omega arith) in
+    (omega arith, omega arith)
+
+add-i : tie.Need-add-i Inv-loop μ-loop
+add-i c = omega arith
+
+add-at : tie.Need-add-at Inv-loop μ-loop
+add-at c = omega arith
+
+loop-less : tie.Need-loop-less Inv-loop μ-loop
+loop-less c = omega arith
+
+loop-again : tie.Need-loop-again Inv-loop μ-loop
+loop-again c =
+    let packed = c .before .before .before .before .number-of in
+    let on = c .before .before .before .before .before .before .before .before .before in
+    let text = now (on .before .before .before .args .text) in
+    let whole = left-three text (on .loop .i) (omega arith) in
+    let rest = publish (drop (on .loop .i + 3) text) in (
+      omega arith,
+      omega arith,
+      omega arith,
+      on .loop .inv .3 ++ be 2 (packed .result),
+      on .loop .inv .4
+          ∙ ap (λ p. on .loop .inv .3 ++ p) (whole ∙ ap (λ p. be 2 p ++ rest) (sym (packed .ensures .0)))
+          ∙ sym (append-assoc (on .loop .inv .3) (be 2 (packed .result)) rest),
+      more on (omega arith) (packed .result) _ (c .before .before .put-number .ensures),
+    )
+
+add-if1 : tie.Need-add-if1 Inv-loop μ-loop
+add-if1 c = omega arith
+
+shared-slice-read-number-of-two : tie.Need-shared-slice-read-number-of-two Inv-loop μ-loop
+shared-slice-read-number-of-two c = omega arith
+
+add-number-of-two : tie.Need-add-number-of-two Inv-loop μ-loop
+add-number-of-two c = omega arith
+
+shared-slice-read-number-of-two-2 : tie.Need-shared-slice-read-number-of-two-2 Inv-loop μ-loop
+shared-slice-read-number-of-two-2 c = omega arith
+
+number-of-two-requires : tie.Need-number-of-two-requires Inv-loop μ-loop
+number-of-two-requires c κs = search needs
+
+put-number-requires-2 : tie.Need-put-number-requires-2 Inv-loop μ-loop
+put-number-requires-2 c κs =
+    let on = c .before .before .before .before .before .before in
+    let r = room on (omega arith) in
+    (omega arith, omega arith)
+
+shared-slice-read-number-of-one : tie.Need-shared-slice-read-number-of-one Inv-loop μ-loop
+shared-slice-read-number-of-one c = omega arith
+
+number-of-one-requires : tie.Need-number-of-one-requires Inv-loop μ-loop
+number-of-one-requires c κs = search needs
+
+put-number-requires-3 : tie.Need-put-number-requires-3 Inv-loop μ-loop
+put-number-requires-3 c κs =
+    let on = c .before .before .before .before .before .before in
+    let r = room on (omega arith) in
+    let code = low on (omega arith) in
+    (omega arith, omega arith)
+
+same-length : tie.Need-same-length Inv-loop μ-loop
+same-length c =
+    let on = c .before .before .before .before .before .before .before .before .before in
+    c .before .before .put-number2 .kept .1 .0 ∙ room on (omega arith) .1
+
+returns : tie.Need-returns Inv-loop μ-loop
+returns c =
+    let on = c .before .before .before .before .before .before .before .before .before in
+    let text = now (on .before .before .before .args .text) in
+    let packed = c .before .before .before .before .number-of-two in
+    ends on (omega arith) (packed .result) _ (c .before .before .put-number2 .ensures)
+    (left-two text (on .loop .i) (omega arith) ∙ ap (be 2) (sym (packed .ensures .0)))
+
+same-length-2 : tie.Need-same-length-2 Inv-loop μ-loop
+same-length-2 c =
+    let on = c .before .before .before .before .before .before .before .before .before in
+    c .before .before .put-number3 .kept .1 .0 ∙ room on (omega arith) .1
+
+returns-2 : tie.Need-returns-2 Inv-loop μ-loop
+returns-2 c =
+    let on = c .before .before .before .before .before .before .before .before .before in
+    let text = now (on .before .before .before .args .text) in
+    let code = low on (omega arith) in
+    let packed = c .before .before .before .before .number-of-one in
+    ends on (omega arith) (packed .result) _ (c .before .before .put-number3 .ensures)
+    (left-one text (on .loop .i) (omega arith) (omega arith) ∙ ap (be 2) (sym (packed .ensures)))
+
+same-length-3 : tie.Need-same-length-3 Inv-loop μ-loop
+same-length-3 c =
+    let on = c .before .before .before in
+    held-length _ _ _ _ (on .loop .inv .5) (omega (arith, on .before .before .before .pre .1))
+
+returns-3 : tie.Need-returns-3 Inv-loop μ-loop
+returns-3 c =
+    let on = c .before .before .before in
+    let text = now (on .before .before .before .args .text) in
+    on .loop .inv .5 .is
+    ∙ ap (over (now (on .before .before .before .args .out)) 0)
+    (sym (on .loop .inv .4 ∙ ap (λ p. on .loop .inv .3 ++ p) (left-none text (on .loop .i) (omega arith)) ∙ append-nil (on .loop .inv .3)))
+
+pub put-spec : {M : Type 1} → statement M
+put-spec =
+    tie.close
+    (tie.spec
+    Inv-loop
+    μ-loop
+    loop-holds
+    add-loop
+    shared-slice-read-number-of
+    add-number-of
+    shared-slice-read-number-of-2
+    add-number-of-2
+    shared-slice-read-number-of-3
+    number-of-requires
+    put-number-requires
+    add-i
+    add-at
+    loop-less
+    loop-again
+    add-if1
+    shared-slice-read-number-of-two
+    add-number-of-two
+    shared-slice-read-number-of-two-2
+    number-of-two-requires
+    put-number-requires-2
+    shared-slice-read-number-of-one
+    number-of-one-requires
+    put-number-requires-3
+    same-length
+    returns
+    same-length-2
+    returns-2
+    same-length-3
+    returns-3)

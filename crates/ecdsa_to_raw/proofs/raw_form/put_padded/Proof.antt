@@ -1,0 +1,101 @@
+-- `raw_form::put_padded` meets its contract. The loop's invariant: so many zeros stand in `out`; the digits are copied after them.
+-- Assumes nothing.
+use native.Mathlib.Omega.{arith}
+use mathlib.Core.Path.{_≡_, _∙_, ap, sym}
+use Prim.Native.Nat.{ℕ, _+_, _-_, _≤_}
+use denote.Ref.{now}
+use lib.ListN.{length, set, replicate, length-replicate}
+use Rattle.format.specs.Buffer.{over}
+use Rattle.format.specs.Buffer.Laws.{over-none, length-over}
+use Rattle.octets.specs.Copy.Laws.{copied-all}
+use Rattle.ecdsa.specs.Strict.{padded}
+use Rattle.ecdsa.specs.Strict.Laws.{zero-more, length-padded, padded-put}
+use Rattle.ecdsa_to_raw.proofs.raw_form.put_padded.Statement.{statement}
+use Rattle.ecdsa_to_raw.proofs.raw_form.put_padded.Tie as tie
+
+abbrev Inv-loop : tie.InvT-loop
+Inv-loop digits n out₀ at zeros i₀ out i = (i ≤ n - length digits) × (out ≡ over out₀ at (replicate i 0))
+
+abbrev μ-loop : tie.MeasureT-loop
+μ-loop digits n out₀ at zeros i₀ out i = n - length digits - i
+
+-- the buffer keeps its length
+kept : (c : tie.At-loop Inv-loop μ-loop) → length (c .loop .out) ≡ length (now (c .before .before .before .args .out))
+kept c =
+    let a = c .before .before .before .args in
+    let many : length (replicate {A = ℕ} (c .loop .i) 0) ≡ c .loop .i = length-replicate (c .loop .i) 0 in
+    ap length (c .loop .inv .1) ∙ length-over (now (a .out)) (a .at) (replicate (c .loop .i) 0) (omega arith)
+
+sub-zeros : tie.Need-sub-zeros Inv-loop μ-loop
+sub-zeros c = omega arith
+
+loop-holds : tie.Need-loop-holds Inv-loop μ-loop
+loop-holds c = (omega arith, sym (over-none _ _))
+
+add-out : tie.Need-add-out Inv-loop μ-loop
+add-out c = omega arith
+
+slice-write-out : tie.Need-slice-write-out Inv-loop μ-loop
+slice-write-out c = omega (arith, kept (c .before))
+
+add-i : tie.Need-add-i Inv-loop μ-loop
+add-i c = omega arith
+
+loop-less : tie.Need-loop-less Inv-loop μ-loop
+loop-less c = omega arith
+
+loop-again : tie.Need-loop-again Inv-loop μ-loop
+loop-again c =
+    let on = c .before in
+    let a = on .before .before .before .args in (
+      omega arith,
+      ap (λ o. set o (a .at + on .loop .i) 0) (on .loop .inv .1) ∙ zero-more (now (a .out)) (a .at) (on .loop .i) (omega arith),
+    )
+
+add-copy : tie.Need-add-copy Inv-loop μ-loop
+add-copy c = omega arith
+
+copy-requires : tie.Need-copy-requires Inv-loop μ-loop
+copy-requires c κs = tt
+
+-- the digits stand after the zeros
+put :
+    (c : tie.After-copy Inv-loop μ-loop) →
+    let a =
+    c .before .before .before .before .before .before .args in c .copy .last .1 .0
+    ≡ over (now (a .out)) (a .at) (padded (a .n) (now (a .digits)))
+put c =
+    let on = c .before .before .before in
+    let a = on .before .before .before .args in
+    c .copy .ensures .1
+    ∙ sym (copied-all (now (a .digits)) (on .loop .out) (a .at + (a .n - length (now (a .digits)))) (omega (arith, kept on)))
+    ∙ padded-put (now (a .out)) (now (a .digits)) (a .n) (a .at) (on .loop .i) (on .loop .out) (omega arith) (omega arith) (omega arith)
+    (on .loop .inv .1)
+
+same-length : tie.Need-same-length Inv-loop μ-loop
+same-length c =
+    let a = c .before .before .before .before .before .before .before .before .args in
+    ap length (put (c .before .before))
+    ∙ length-over (now (a .out)) (a .at) (padded (a .n) (now (a .digits)))
+    (omega (arith, length-padded (a .n) (now (a .digits)) (omega arith)))
+
+returns : tie.Need-returns Inv-loop μ-loop
+returns c = put (c .before .before)
+
+pub put-padded-spec : {M : Type 1} → statement M
+put-padded-spec =
+    tie.close
+    (tie.spec
+    Inv-loop
+    μ-loop
+    sub-zeros
+    loop-holds
+    add-out
+    slice-write-out
+    add-i
+    loop-less
+    loop-again
+    add-copy
+    copy-requires
+    same-length
+    returns)

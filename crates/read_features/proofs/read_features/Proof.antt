@@ -1,0 +1,232 @@
+-- `read_features` meets its contract. The outer loop's invariant: the features are those of the rows before and of what
+-- stands from the place on, and
+-- the rows' tags stand at the start of the array. The inner loop's: none of the tags before is this one.
+-- Assumes nothing.
+mod Turn
+use borrow.Author.Needs.{needs}
+use native.Mathlib.Omega.{arith}
+use mathlib.Core.Path.{_≡_, _∙_, refl, ap, sym}
+use Prim.Native.Nat.{ℕ, _-_, _≤_, _<_}
+use mathlib.Core.List.{List}
+use denote.Ref.{now}
+use lib.ListN.{getD}
+use borrow.Author.Count.{below-none, below-more}
+use Rattle.format.specs.Bytes.{Bytes}
+use Rattle.grammar.specs.Content.{Version}
+use Rattle.verdict.specs.Items.{is, byte, plainIn, featureLength}
+use Rattle.causes.specs.declared.Item.the-variants as item
+use Rattle.read_items.specs.Meaning.{byteOf, wholeOf, numberOf, refused}
+use Rattle.read_items.specs.Meaning.Laws.{says}
+use Rattle.read_features.proofs.read_features.Proof.Turn.{Kept, kept-start, kept-cut, kept-end, kept-again, kept-most, New}
+use Rattle.read_features.proofs.read_features.Proof.Turn.{new-unsized, new-small, new-room, new-short, new-more}
+use Rattle.read_features.proofs.read_features.Statement.{statement}
+use Rattle.read_features.proofs.read_features.Tie as tie
+
+abbrev Inv-loop : tie.InvT-loop
+Inv-loop seal version tags count at tag next i₀ i = (i ≤ count) × ((k : ℕ) → k < i → getD tags k 0 ≡ tag → ⊥)
+
+abbrev μ-loop : tie.MeasureT-loop
+μ-loop seal version tags count at tag next i₀ i = count - i
+
+abbrev Inv-rows : tie.InvT-rows
+Inv-rows seal version tags₀ count₀ at₀ tags count at = Kept version seal at₀ tags count at
+
+abbrev μ-rows : tie.MeasureT-rows
+μ-rows seal version tags₀ count₀ at₀ tags count at = 255 - count
+
+-- the seal and the version that were handed over, at the outer loop
+abbrev sealAt : tie.At-rows Inv-loop μ-loop Inv-rows μ-rows → List ℕ
+sealAt c = now (c .before .before .args .seal)
+
+abbrev versionAt : tie.At-rows Inv-loop μ-loop Inv-rows μ-rows → Version
+versionAt c = c .before .before .args .version
+
+-- the tag that was read
+tag-read :
+    (c : tie.After-known-told Inv-loop μ-loop Inv-rows μ-rows) →
+    let on =
+    c .before .before .before .before in is (c .before .tag .given .0 .0) (c .before .tag .given .0 .1 .0 .place)
+    ≡ byte (on .rows .at) (sealAt on) (plainIn (on .rows .at))
+tag-read c = sym (ap (byteOf _) (c .before .tag .given .1)) ∙ c .before .before .before .byte .ensures
+
+-- it is new, once none of the earlier ones is the same
+new :
+    (c : tie.After-loop Inv-loop μ-loop Inv-rows μ-rows) →
+    let told =
+    c .before .before .before in let on = told .before .before .before .before in New (versionAt on) (sealAt on)
+    (on .before .before .args .start .place) (on .rows .tags) (on .rows .count) (on .rows .at) (told .before .tag .given .0 .0)
+    (told .before .tag .given .0 .1 .0 .place)
+new c = record {
+  kept = c .before .before .before .before .before .before .before .rows .inv;
+  read = tag-read (c .before .before .before);
+  other = c .before .before .if1 .left;
+  none = λ k h. c .before .loop .inv .1 k (omega arith);
+}
+
+-- its length
+size-read :
+    (c : tie.After-known-told2 Inv-loop μ-loop Inv-rows μ-rows) →
+    let told =
+    c .before .before .before .before .before .before .before in let on = told .before .before .before .before in is
+    (c .before .length .given .0 .0) (c .before .length .given .0 .1 .0 .place)
+    ≡ featureLength (versionAt on) (told .before .tag .given .0 .1 .0 .place) (sealAt on)
+size-read c = sym (ap numberOf (c .before .length .given .1)) ∙ c .before .before .before .feature-length .ensures
+
+-- the seal's bytes
+bytes :
+    (c : tie.After-known-told3 Inv-loop μ-loop Inv-rows μ-rows) →
+    Bytes
+    (sealAt (c .before .before .before .before .before .before .before .before .before .before .before .before .before .before .before))
+bytes c i =
+    c .before .before .before .before .before .before .before .before .before .before .before .before .before .before
+    .before .before .shared-slice-known .given i .fits
+
+rows-holds : tie.Need-rows-holds Inv-loop μ-loop Inv-rows μ-rows
+rows-holds c = kept-start _ _ _ _ refl
+
+byte-requires : tie.Need-byte-requires Inv-loop μ-loop Inv-rows μ-rows
+byte-requires c κs = search needs
+
+enum-known-tag : tie.Need-enum-known-tag Inv-loop μ-loop Inv-rows μ-rows
+enum-known-tag c = search needs
+
+enum-told : tie.Need-enum-told Inv-loop μ-loop Inv-rows μ-rows
+enum-told c = search needs
+
+returns : tie.Need-returns Inv-loop μ-loop Inv-rows μ-rows
+returns c =
+    let told = c .before in
+    let on = told .before .before .before in
+    says _ _ _ _ (c .of .ensures)
+    (kept-cut _ _ _ _ _ _ (on .rows .inv) (sym (ap (byteOf _) (told .enum-told .given .1)) ∙ told .before .before .byte .ensures))
+
+of-requires : tie.Need-of-requires Inv-loop μ-loop Inv-rows μ-rows
+of-requires c κs = search needs
+
+returns-2 : tie.Need-returns-2 Inv-loop μ-loop Inv-rows μ-rows
+returns-2 c = kept-end _ _ _ _ _ _ (c .before .before .before .before .before .rows .inv) _ _ (tag-read (c .before)) (c .if1 .taken)
+
+loop-holds : tie.Need-loop-holds Inv-loop μ-loop Inv-rows μ-rows
+loop-holds c = (omega arith, below-none _)
+
+array-read-wide : tie.Need-array-read-wide Inv-loop μ-loop Inv-rows μ-rows
+array-read-wide c = omega (arith, kept-most _ _ _ _ _ _ (c .before .before .before .before .before .before .before .rows .inv))
+
+wide-requires : tie.Need-wide-requires Inv-loop μ-loop Inv-rows μ-rows
+wide-requires c κs = search needs
+
+add-i : tie.Need-add-i Inv-loop μ-loop Inv-rows μ-rows
+add-i c = omega arith
+
+loop-less : tie.Need-loop-less Inv-loop μ-loop Inv-rows μ-rows
+loop-less c = omega arith
+
+loop-again : tie.Need-loop-again Inv-loop μ-loop Inv-rows μ-rows
+loop-again c = (omega arith, below-more _ _ (c .before .before .before .loop .inv .1) (λ e. c .if2 .left (c .before .wide .ensures ∙ e)))
+
+feature-length-requires : tie.Need-feature-length-requires Inv-loop μ-loop Inv-rows μ-rows
+feature-length-requires c κs = search needs
+
+enum-known-length : tie.Need-enum-known-length Inv-loop μ-loop Inv-rows μ-rows
+enum-known-length c = search needs
+
+of-number-requires : tie.Need-of-number-requires Inv-loop μ-loop Inv-rows μ-rows
+of-number-requires c κs = search needs
+
+returns-3 : tie.Need-returns-3 Inv-loop μ-loop Inv-rows μ-rows
+returns-3 c =
+    let told = c .before in
+    let on = told .before .before in
+    says _ _ _ _ (c .of-number .ensures ∙ ap (λ r. refused item.Length (numberOf r)) (told .enum-told2 .given .1))
+    (new-unsized _ _ _ _ _ _ _ _ (new (on .before)) _ _ (sym (ap numberOf (told .enum-told2 .given .1)) ∙ on .feature-length .ensures))
+
+skip-requires : tie.Need-skip-requires Inv-loop μ-loop Inv-rows μ-rows
+skip-requires c κs = search needs
+
+enum-known-end : tie.Need-enum-known-end Inv-loop μ-loop Inv-rows μ-rows
+enum-known-end c = search needs
+
+enum-told-2 : tie.Need-enum-told-2 Inv-loop μ-loop Inv-rows μ-rows
+enum-told-2 c = search needs
+
+enum-told-3 : tie.Need-enum-told-3 Inv-loop μ-loop Inv-rows μ-rows
+enum-told-3 c = search needs
+
+of-requires-2 : tie.Need-of-requires-2 Inv-loop μ-loop Inv-rows μ-rows
+of-requires-2 c κs = search needs
+
+returns-4 : tie.Need-returns-4 Inv-loop μ-loop Inv-rows μ-rows
+returns-4 c =
+    let told = c .before in
+    let on = told .before .before .before in
+    says _ _ _ _ (c .of2 .ensures)
+    (new-short _ _ _ _ _ _ _ _ (new (on .before .before .before .before)) _ _ (size-read on)
+    (sym (ap (wholeOf _) (told .enum-told3 .given .1)) ∙ told .before .before .skip .ensures))
+
+cast-tags : tie.Need-cast-tags Inv-loop μ-loop Inv-rows μ-rows
+cast-tags c = omega (arith, new-small _ _ _ _ _ _ _ _ (new (c .before .before .before .before .before .before .before .before)) (bytes c))
+
+array-write-tags : tie.Need-array-write-tags Inv-loop μ-loop Inv-rows μ-rows
+array-write-tags c = new-room _ _ _ _ _ _ _ _ (new (c .before .before .before .before .before .before .before .before)) (bytes c)
+
+add-count : tie.Need-add-count Inv-loop μ-loop Inv-rows μ-rows
+add-count c = omega (arith, array-write-tags c)
+
+rows-less : tie.Need-rows-less Inv-loop μ-loop Inv-rows μ-rows
+rows-less c = omega (arith, array-write-tags c)
+
+rows-again : tie.Need-rows-again Inv-loop μ-loop Inv-rows μ-rows
+rows-again c =
+    new-more _ _ _ _ _ _ _ _ (new (c .before .before .before .before .before .before .before .before)) _ _
+    (size-read (c .before .before .before .before)) _ (bytes c)
+    (sym (ap (wholeOf _) (c .before .end .given .1)) ∙ c .before .before .before .skip .ensures)
+
+returns-5 : tie.Need-returns-5 Inv-loop μ-loop Inv-rows μ-rows
+returns-5 c =
+    let test = c .before in
+    let on = test .before .before .before in
+    says _ _ _ _ (c .of3 .ensures)
+    (kept-again _ _ _ _ _ _ (on .before .before .before .before .before .before .rows .inv) _ _ _ (tag-read (on .before .before))
+    (test .before .before .loop-test .taken) (sym (test .before .wide .ensures) ∙ test .if2 .taken))
+
+of-requires-3 : tie.Need-of-requires-3 Inv-loop μ-loop Inv-rows μ-rows
+of-requires-3 c κs = search needs
+
+pub read-features-spec : {M : Type 1} → statement M
+read-features-spec =
+    tie.close
+    (tie.spec
+    Inv-loop
+    μ-loop
+    Inv-rows
+    μ-rows
+    rows-holds
+    byte-requires
+    enum-known-tag
+    enum-told
+    of-requires
+    returns
+    returns-2
+    loop-holds
+    array-read-wide
+    wide-requires
+    add-i
+    loop-less
+    loop-again
+    feature-length-requires
+    enum-known-length
+    enum-told-2
+    of-number-requires
+    returns-3
+    skip-requires
+    enum-known-end
+    enum-told-3
+    of-requires-2
+    returns-4
+    cast-tags
+    array-write-tags
+    add-count
+    rows-less
+    rows-again
+    of-requires-3
+    returns-5)

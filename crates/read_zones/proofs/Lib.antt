@@ -1,3 +1,0 @@
--- What several proofs of this crate share.
--- Assumes nothing.
-pub mod Says

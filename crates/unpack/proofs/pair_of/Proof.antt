@@ -1,0 +1,71 @@
+-- `unpack::pair_of` meets its contract: each `return` is one case of the definition. FE is looked for only where the number is over 64,000.
+-- Assumes nothing.
+use borrow.Author.Needs.{needs}
+use native.Mathlib.Omega.{arith}
+use mathlib.Core.Path.{_≡_, _∙_}
+use Prim.Native.Nat.{_+_, _*_, _-_}
+use Rattle.pairs.specs.Pairs.{number, values, pairOf}
+use Rattle.pairs.specs.Pairs.Laws.{pair-zero, pair-values}
+use Rattle.unpack.proofs.pair_of.Statement.{statement}
+use Rattle.unpack.proofs.pair_of.Tie as tie
+
+wide-requires : tie.Need-wide-requires
+wide-requires c κs = search needs
+
+mul-number : tie.Need-mul-number
+mul-number c = search needs
+
+wide-requires-2 : tie.Need-wide-requires-2
+wide-requires-2 c κs = search needs
+
+add-number : tie.Need-add-number
+add-number c = search needs
+
+returns : tie.Need-returns
+returns c = pair-zero _ _ _ _ (omega arith)
+
+single-requires : tie.Need-single-requires
+single-requires c κs = search needs
+
+returns-2 : tie.Need-returns-2
+returns-2 c = search needs
+
+sub-split : tie.Need-sub-split
+sub-split c = search needs
+
+split-requires : tie.Need-split-requires
+split-requires c κs = search needs
+
+by-values-requires : tie.Need-by-values-requires
+by-values-requires c κs = search needs
+
+-- what the three values carry is what the pair carries
+whole : (c : tie.After-split)
+    → let a = c .before .before .before .before .before .args in
+    values (a .chart .now) (a .last) (c .split .result .a) (c .split .result .b) (c .split .result .c)
+    ≡ pairOf (a .chart .now) (a .last) (a .x) (a .y)
+whole c =
+    let a = c .before .before .before .before .before .args in
+    let s = c .split .ensures in
+    let less = c .before .before .before .before .wide .result * 256 + c .before .before .before .wide2 .result - 1 in
+    let e : less + 1 ≡ number (a .x) (a .y) = omega arith in
+    cc (pair-values (a .chart .now) (a .last) (a .x) (a .y) (omega arith) (omega arith))
+
+returns-3 : tie.Need-returns-3
+returns-3 c = c .by-values .ensures ∙ whole (c .before)
+
+pub pair-of-spec : {M : Type 1} → statement M
+pair-of-spec =
+    tie.close
+    (tie.spec
+    wide-requires
+    mul-number
+    wide-requires-2
+    add-number
+    returns
+    single-requires
+    returns-2
+    sub-split
+    split-requires
+    by-values-requires
+    returns-3)

@@ -1,0 +1,92 @@
+// What a pair of C40 bytes carries (document 01, C40; Doc 9303-13, 2.6.2).
+ghost use mathlib.Core.Path.{_≡_};
+ghost use Prim.Native.Nat.{_+_, _*_, _<_};
+ghost use lib.ListN.{length};
+ghost use Rattle.pairs.specs.Pairs.{pairOf, values, charsOf, first, second, third};
+use octets::wide;
+use pairs::Fault;
+use pairs::Pair;
+use pairs::Values;
+use pairs::value_of;
+
+// The three values of the number that is one more than `n` (Doc 9303-13, 2.6.2).
+pub fn split(n: usize) -> Values
+    ensures { λ r. ⌜ (r .a ≡ first (n + 1)) × ((r .b ≡ second (n + 1)) × (r .c ≡ third (n + 1))) ⌝ }
+{
+    Values {
+        a: n / 1600,
+        b: n / 40 % 40,
+        c: n % 40,
+    }
+}
+
+// What a pair carries that begins with FE: one character, its code plus 1, and only as the last pair.
+fn single(chart: &[u8; 40], x: u8, y: u8, last: bool) -> Pair
+    requires { ⌜ 64000 < x * 256 + y ⌝ }
+    ensures { λ r. ⌜ r ≡ pairOf (now (chart .entry)) last x y ⌝ }
+{
+    if x != 0xFE {
+        return Pair::Wrong(Fault::WronglyCoded);
+    }
+    if !last {
+        return Pair::Wrong(Fault::WronglyCoded);
+    }
+    if y == 0 {
+        return Pair::Wrong(Fault::WronglyCoded);
+    }
+    let c = y - 1;
+    if chart[value_of(c)] != c {
+        return Pair::Wrong(Fault::WronglyCoded);
+    }
+    Pair::One(c)
+}
+
+// What three values carry: 1 and 2 never occur, and 0 only as the third of the last pair.
+fn by_values(chart: &[u8; 40], a: usize, b: usize, c: usize, last: bool) -> Pair
+    requires { ⌜ (a < 40) × (b < 40) × (c < 40) ⌝ }
+    ensures { λ r. ⌜ r ≡ values (now (chart .entry)) last a b c ⌝ }
+{
+    if a < 3 {
+        return Pair::Wrong(Fault::WronglyCoded);
+    }
+    if b < 3 {
+        return Pair::Wrong(Fault::WronglyCoded);
+    }
+    if 3 <= c {
+        return Pair::Three(chart[a], chart[b], chart[c]);
+    }
+    if c != 0 {
+        return Pair::Wrong(Fault::WronglyCoded);
+    }
+    if last {
+        return Pair::Two(chart[a], chart[b]);
+    }
+    Pair::Wrong(Fault::WronglyCoded)
+}
+
+// What the pair `x`, `y` carries by the chart that is lent.
+pub fn pair_of(chart: &[u8; 40], x: u8, y: u8, last: bool) -> Pair
+    ensures { λ r. ⌜ r ≡ pairOf (now (chart .entry)) last x y ⌝ }
+{
+    let number = wide(x) * 256 + wide(y);
+    if number == 0 {
+        return Pair::Wrong(Fault::WronglyCoded);
+    }
+    if 64000 < number {
+        return single(chart, x, y, last);
+    }
+    let v = split(number - 1);
+    by_values(chart, v.a, v.b, v.c, last)
+}
+
+// How many characters a pair carries; none where it is wrongly coded.
+pub fn carried(pair: Pair) -> usize
+    ensures { λ r. ⌜ r ≡ length (charsOf pair) ⌝ }
+{
+    match pair {
+        Pair::Three(_, _, _) => 3,
+        Pair::Two(_, _) => 2,
+        Pair::One(_) => 1,
+        Pair::Wrong(_) => 0,
+    }
+}
