@@ -21,7 +21,7 @@ pub struct Header {
 }
 
 // A letter, in upper case.
-pub fn is_letter(c: u8) -> bool
+fn is_letter(c: u8) -> bool
     ensures { λ r. ⌜ r ≡ character.isLetter c ⌝ }
 {
     if c < b'A' {
@@ -31,7 +31,7 @@ pub fn is_letter(c: u8) -> bool
 }
 
 // A digit.
-pub fn is_digit(c: u8) -> bool
+fn is_digit(c: u8) -> bool
     ensures { λ r. ⌜ r ≡ character.isDigit c ⌝ }
 {
     if c < b'0' {
@@ -41,7 +41,7 @@ pub fn is_digit(c: u8) -> bool
 }
 
 // A letter or a digit.
-pub fn is_letter_or_digit(c: u8) -> bool
+fn is_letter_or_digit(c: u8) -> bool
     ensures { λ r. ⌜ r ≡ character.isLetterOrDigit c ⌝ }
 {
     if is_letter(c) {
@@ -51,7 +51,7 @@ pub fn is_letter_or_digit(c: u8) -> bool
 }
 
 // Which characters a reference may have: the one test of them.
-pub fn is_reference(c: u8) -> bool
+fn is_reference(c: u8) -> bool
     ensures { λ r. ⌜ r ≡ character.isReference c ⌝ }
 {
     is_letter_or_digit(c)

@@ -7,7 +7,7 @@ use fields::Header;
 use versions::Version;
 
 // Whether text of so many bytes has the size that signer and reference have.
-pub fn is_text_size(version: Version, size: usize) -> bool
+fn is_text_size(version: Version, size: usize) -> bool
     ensures { λ r. ⌜ r ≡ test.isTextSize version size ⌝ }
 {
     if let Version::Three = version {
