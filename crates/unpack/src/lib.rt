@@ -2,7 +2,7 @@
 ghost use mathlib.Core.Path.{_≡_};
 ghost use Prim.Native.Nat.{_+_, _*_, _<_};
 ghost use lib.ListN.{length};
-ghost use Rattle.pairs.specs.Pairs.{pairOf, values, charsOf, first, second, third};
+ghost use Rattle.pairs.specs.Pairs.{pairOf, charsOf, first, second, third};
 use octets::wide;
 use pairs::Fault;
 use pairs::Pair;
@@ -41,29 +41,6 @@ fn single(chart: &[u8; 40], x: u8, y: u8, last: bool) -> Pair
     Pair::One(c)
 }
 
-// What three values carry: 1 and 2 never occur, and 0 only as the third of the last pair.
-fn by_values(chart: &[u8; 40], a: usize, b: usize, c: usize, last: bool) -> Pair
-    requires { ⌜ (a < 40) × (b < 40) × (c < 40) ⌝ }
-    ensures { λ r. ⌜ r ≡ values (now (chart .entry)) last a b c ⌝ }
-{
-    if a < 3 {
-        return Pair::Wrong(Fault::WronglyCoded);
-    }
-    if b < 3 {
-        return Pair::Wrong(Fault::WronglyCoded);
-    }
-    if 3 <= c {
-        return Pair::Three(chart[a], chart[b], chart[c]);
-    }
-    if c != 0 {
-        return Pair::Wrong(Fault::WronglyCoded);
-    }
-    if last {
-        return Pair::Two(chart[a], chart[b]);
-    }
-    Pair::Wrong(Fault::WronglyCoded)
-}
-
 // What the pair `x`, `y` carries by the chart that is lent.
 pub fn pair_of(chart: &[u8; 40], x: u8, y: u8, last: bool) -> Pair
     ensures { λ r. ⌜ r ≡ pairOf (now (chart .entry)) last x y ⌝ }
@@ -76,7 +53,24 @@ pub fn pair_of(chart: &[u8; 40], x: u8, y: u8, last: bool) -> Pair
         return single(chart, x, y, last);
     }
     let v = split(number - 1);
-    by_values(chart, v.a, v.b, v.c, last)
+    let a = v.a;
+    let b = v.b;
+    let c = v.c;
+    if a < 3 {
+        return Pair::Wrong(Fault::WronglyCoded);
+    }
+    if b < 3 {
+        return Pair::Wrong(Fault::WronglyCoded);
+    }
+    if 3 <= c {
+        return Pair::Three(chart[a], chart[b], chart[c]);
+    }
+    if c == 0 {
+        if last {
+            return Pair::Two(chart[a], chart[b]);
+        }
+    }
+    Pair::Wrong(Fault::WronglyCoded)
 }
 
 // How many characters a pair carries; none where it is wrongly coded.

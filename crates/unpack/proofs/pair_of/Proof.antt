@@ -6,6 +6,7 @@ use mathlib.Core.Path.{_≡_, _∙_}
 use Prim.Native.Nat.{_+_, _*_, _-_}
 use Rattle.pairs.specs.Pairs.{number, values, pairOf}
 use Rattle.pairs.specs.Pairs.Laws.{pair-zero, pair-values}
+use Rattle.pairs.specs.Pairs.Laws.{values-first, values-second, values-three, values-two, values-inner, values-third}
 use Rattle.unpack.proofs.pair_of.Statement.{statement}
 use Rattle.unpack.proofs.pair_of.Tie as tie
 
@@ -36,9 +37,6 @@ sub-split c = search needs
 split-requires : tie.Need-split-requires
 split-requires c κs = search needs
 
-by-values-requires : tie.Need-by-values-requires
-by-values-requires c κs = search needs
-
 -- what the three values carry is what the pair carries
 whole : (c : tie.After-split)
     → let a = c .before .before .before .before .before .args in
@@ -52,7 +50,41 @@ whole c =
     cc (pair-values (a .chart .now) (a .last) (a .x) (a .y) (omega arith) (omega arith))
 
 returns-3 : tie.Need-returns-3
-returns-3 c = c .by-values .ensures ∙ whole (c .before)
+returns-3 c = values-first _ _ _ _ _ (omega arith) ∙ whole (c .before)
+
+returns-4 : tie.Need-returns-4
+returns-4 c = values-second _ _ _ _ _ (omega arith) (omega arith) ∙ whole (c .before .before)
+
+element-copy-out-t19 : tie.Need-element-copy-out-t19
+element-copy-out-t19 c = search needs
+
+element-copy-out-t22 : tie.Need-element-copy-out-t22
+element-copy-out-t22 c = search needs
+
+element-copy-out-t25 : tie.Need-element-copy-out-t25
+element-copy-out-t25 c = search needs
+
+returns-5 : tie.Need-returns-5
+returns-5 c =
+    values-three _ _ _ _ _ (omega arith) (omega arith) (omega arith) ∙ whole (c .before .before .before .before .before .before)
+
+element-copy-out-t29 : tie.Need-element-copy-out-t29
+element-copy-out-t29 c = search needs
+
+element-copy-out-t32 : tie.Need-element-copy-out-t32
+element-copy-out-t32 c = search needs
+
+returns-6 : tie.Need-returns-6
+returns-6 c =
+    values-two _ _ _ _ _ (c .before .before .if7 .taken) (omega arith) (omega arith) (omega arith)
+    ∙ whole (c .before .before .before .before .before .before .before)
+
+returns-7 : tie.Need-returns-7
+returns-7 c =
+    values-inner _ _ _ _ _ (c .if7 .left) (omega arith) (omega arith) (omega arith) ∙ whole (c .before .before .before .before .before)
+
+returns-8 : tie.Need-returns-8
+returns-8 c = values-third _ _ _ _ _ (omega arith) (omega arith) (omega arith) (c .if6 .left) ∙ whole (c .before .before .before .before)
 
 pub pair-of-spec : {M : Type 1} → statement M
 pair-of-spec =
@@ -67,5 +99,14 @@ pair-of-spec =
     returns-2
     sub-split
     split-requires
-    by-values-requires
-    returns-3)
+    returns-3
+    returns-4
+    element-copy-out-t19
+    element-copy-out-t22
+    element-copy-out-t25
+    returns-5
+    element-copy-out-t29
+    element-copy-out-t32
+    returns-6
+    returns-7
+    returns-8)
