@@ -4,7 +4,7 @@
 pub mod Laws
 pub mod Exact
 pub mod Written
-use Prim.Native.Nat.{ℕ, _+_, _-_, _/_, _%_, _^_, _<_}
+use Prim.Native.Nat.{ℕ, _+_, _-_, _^_, _<_}
 use mathlib.Core.List.{List, [], _∷_}
 use lib.Dec.{ltb, eqb}
 use lib.ListN.{length}
@@ -29,19 +29,24 @@ form n =
     (pick (ltb n 0x1000000) (0x83 ∷ be 3 n)
     (0x84 ∷ be 4 n))))
 
+-- one, two or three bytes, one by one; what is longer is not written
+abbrev pub byBytes : List ℕ → Form
+byBytes [] = Longer
+byBytes (a ∷ []) = One a
+byBytes (a ∷ b ∷ []) = Two a b
+byBytes (a ∷ b ∷ c ∷ []) = Three a b c
+byBytes (a ∷ b ∷ c ∷ d ∷ t) = Longer
+
+-- a length as it is written: its form, up to 65,535
+abbrev pub lengthForm : ℕ → Form
+lengthForm n = byBytes (form n)
+
 -- the bytes of a length as it is written, and nothing for a longer one
 abbrev pub bytesOf : Form → List ℕ
 bytesOf (One a) = a ∷ []
 bytesOf (Two a b) = a ∷ b ∷ []
 bytesOf (Three a b c) = a ∷ b ∷ c ∷ []
 bytesOf Longer = []
-
--- a length below 65,536 as it is written: these bytes are its form (`written-form` in Length/Written.antt)
-unfoldable pub lengthForm : ℕ → Form
-lengthForm n =
-    pick (ltb n 0x80) (One n)
-    (pick (ltb n 0x100) (Two 0x81 n)
-    (pick (ltb n 0x10000) (Three 0x82 (n / 256) (n % 256)) Longer))
 
 abbrev pub written : ℕ → List ℕ
 written n = bytesOf (lengthForm n)

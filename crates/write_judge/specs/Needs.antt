@@ -5,7 +5,7 @@ use mathlib.Core.Path.{_≡_}
 use mathlib.Core.Bool.{true}
 use Prim.Native.Nat.{ℕ, _+_, _≤_}
 use mathlib.Core.List.{List, [], _∷_, _++_, map}
-use lib.ListN.{length, getD, take, drop}
+use lib.ListN.{length, take, drop}
 use Rattle.format.specs.Bytes.{All}
 use Rattle.c40.specs.Text.{publish as c40}
 use Rattle.dates.specs.Days.{publish as date}
@@ -69,7 +69,3 @@ pub record Passed (v : Version) (g : Given) : Type 0 where
 -- the characters of version 4's names: signer, the reference's length, the reference
 abbrev pub spelled : List ℕ → List ℕ
 spelled text = take 4 text ++ hexDigits (length (drop 4 text)) ++ drop 4 text
-
--- its first six, which fill two pairs: the signer and the reference's length
-abbrev pub sixOf : List ℕ → List ℕ
-sixOf text = getD text 0 0 ∷ getD text 1 0 ∷ getD text 2 0 ∷ getD text 3 0 ∷ hexDigits (length (drop 4 text))

@@ -2,15 +2,15 @@
 -- first characters of version 4's names.
 -- Assumes nothing.
 pub mod Laws
-use Prim.Native.Nat.{ℕ, _+_, _-_, _/_, _%_}
+use Prim.Native.Nat.{ℕ, _+_, _-_, _%_}
 use mathlib.Core.List.{List, [], _∷_, _++_}
 use lib.Dec.{ltb}
-use lib.ListN.{length, getD, replicate}
+use lib.ListN.{length, take, replicate}
 use Rattle.format.specs.Choice.{pick}
-use Rattle.format.specs.Hex.{hexDigit}
 use Rattle.format.specs.BigEndian.{be}
 use Rattle.pairs.specs.Chart.{valueOf}
 use Rattle.pairs.specs.Pairs.{triple, number}
+use Rattle.grammar.specs.Publish.{hexDigits}
 
 -- full triples; two left over are completed with 0; one left over is FE and its code plus 1, as a number in two bytes
 unfoldable pub coded : List ℕ → List ℕ
@@ -21,6 +21,4 @@ coded (a ∷ b ∷ c ∷ t) = triple (valueOf a) (valueOf b) (valueOf c) ++ code
 
 -- the signer, and the reference's length in two hexadecimal digits, which are its last two where it has more
 unfoldable pub firstSix : List ℕ → List ℕ
-firstSix t =
-    pick (ltb (length t) 4) (replicate 6 0)
-    (getD t 0 0 ∷ getD t 1 0 ∷ getD t 2 0 ∷ getD t 3 0 ∷ hexDigit ((length t - 4) / 16 % 16) ∷ hexDigit ((length t - 4) % 16) ∷ [])
+firstSix t = pick (ltb (length t) 4) (replicate 6 0) (take 4 t ++ hexDigits ((length t - 4) % 256))

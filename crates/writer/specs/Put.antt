@@ -4,34 +4,31 @@ use mathlib.Core.Path.{_≡_, refl, ap, sym, subst, _∙_}
 use Prim.Native.Nat.{ℕ, _+_, _-_, _/_, _%_, _<_, _≤_}
 use native.Mathlib.Omega.{arith}
 use mathlib.Core.List.{List, [], _∷_, _++_, map, append-assoc, append-nil}
-use lib.ListN.{length, getD, take, drop, set, length-append, length-drop, length-set, take-append-drop}
+use lib.ListN.{length, take, drop, set, length-append, length-drop, length-set}
 use lib.Seq.{length-take-le}
 use Rattle.format.specs.Bytes.{All}
 use Rattle.format.specs.BigEndian.{be}
 use Rattle.format.specs.Buffer.{over}
 use Rattle.format.specs.Buffer.Laws.{over-none, length-over, over-over, set-over, over-two, over-three}
-use Rattle.format.specs.Hex.{hexDigit}
-use Rattle.pairs.specs.Chart.{valueOf}
 use Rattle.c40.specs.Text.{Text, publish as c40}
-use Rattle.pairs.specs.Pairs.{triple}
-use Rattle.c40.specs.Text.Laws.{publish-three, publish-none}
 use Rattle.dates.specs.Days.{Day, numberOf, publish as date}
 use Rattle.dates.specs.Days.Laws.{number-below}
 use Rattle.dates.specs.declared.Date.{Date}
 use Rattle.grammar.specs.Content.{Version, three, four}
 use Rattle.grammar.specs.Legal.{ValueSize}
-use Rattle.grammar.specs.Publish.{names, lengthOf, feature, messageZone}
+use Rattle.grammar.specs.Publish.{hexDigits, names, lengthOf, feature, messageZone}
+use Rattle.grammar.specs.Parts.{six-ahead}
 use Rattle.verdict.specs.Report.{featureOf}
 use Rattle.rows.specs.declared.Row.{Row}
 use Rattle.rows.specs.Rows.{width, rowAt, rowsOf}
 use Rattle.rows.specs.Rows.Laws.{rows-here, rows-end}
 use Rattle.octets.specs.Copy.{copied, reached}
 use Rattle.write_text.specs.Coded.{coded, firstSix}
-use Rattle.write_text.specs.Coded.Laws.{text-put, six-all}
-use Rattle.write_judge.specs.Needs.{Room, Named, Measured, Fits, Fitting, spelled, sixOf}
+use Rattle.write_text.specs.Coded.Laws.{text-put, six-spelled}
+use Rattle.write_judge.specs.Needs.{Room, Named, Measured, Fits, Fitting}
 use Rattle.write_given.specs.Tests.Laws.{size-four}
 use Rattle.write_judge.specs.Size.{names-four, zone-none, zone-cons}
-use Rattle.write_judge.specs.Needs.Laws.{spelled-six, six-text, reference-text}
+use Rattle.write_judge.specs.Needs.Laws.{six-text, reference-text}
 
 -- three bytes of a date
 pub put-date :
@@ -112,20 +109,6 @@ module _ (v : Version) (tag : ℕ) (value out : List ℕ) (at : ℕ) (room : Roo
               ∙ over-over out at (tag ∷ form) value (omega arith),
         )
 
--- the first six characters fill two pairs
-pub names-six : (v : Version) (t : List ℕ) → v ≡ four → 4 ≤ length t → names v (take 4 t) (drop 4 t) ≡ c40 (sixOf t) ++ c40 (drop 4 t)
-names-six v t e h =
-    let u = drop 4 t in
-    let x = getD t 0 0 in
-    let a = hexDigit (length u / 16) in
-    let b = hexDigit (length u % 16) in
-    let one = triple (valueOf x) (valueOf (getD t 1 0)) (valueOf (getD t 2 0)) in
-    let two = triple (valueOf (getD t 3 0)) (valueOf a) (valueOf b) in
-    let pairs : (l : List ℕ) → c40 (x ∷ getD t 1 0 ∷ getD t 2 0 ∷ getD t 3 0 ∷ a ∷ b ∷ l) ≡ one ++ (two ++ c40 l) =
-    λ l. publish-three x (getD t 1 0) (getD t 2 0) (getD t 3 0 ∷ a ∷ b ∷ l) ∙ ap (λ r. one ++ r) (publish-three (getD t 3 0) a b l) in
-    let front : c40 (sixOf t) ≡ one ++ two = pairs [] ∙ ap (λ r. one ++ (two ++ r)) publish-none ∙ ap (λ r. one ++ r) (append-nil two) in
-    names-four v t e ∙ ap c40 (spelled-six t h) ∙ pairs u ∙ sym (append-assoc one two (c40 u)) ∙ ap (λ r. r ++ c40 u) (sym front)
-
 -- version 4's names put down: the six characters, then the reference
 module _ (v : Version) (t out : List ℕ) (at : ℕ) (n : Named v t) (other : v ≡ four)
     (room : Room out at (names v (take 4 t) (drop 4 t))) where
@@ -135,16 +118,19 @@ module _ (v : Version) (t out : List ℕ) (at : ℕ) (n : Named v t) (other : v 
   abbrev codes : List ℕ
   codes = firstSix t
 
-  six-is : codes ≡ sixOf t
-  six-is =
-      let left = length-drop 4 t in
-      let high : (length t - 4) / 16 % 16 ≡ length (drop 4 t) / 16 = omega (arith, four-size .1) in
-      let low : (length t - 4) % 16 ≡ length (drop 4 t) % 16 = omega arith in
-      sym (six-all t (omega (arith, four-size .0)))
-      ∙ (λ i. getD t 0 0 ∷ getD t 1 0 ∷ getD t 2 0 ∷ getD t 3 0 ∷ hexDigit (high i) ∷ hexDigit (low i) ∷ [])
+  six-is : codes ≡ take 4 t ++ hexDigits (length (drop 4 t))
+  six-is = six-spelled t (omega (arith, four-size .0)) (four-size .1)
 
+  six-long : length (take 4 t ++ hexDigits (length (drop 4 t))) ≡ 6
+  six-long =
+      let k = length (drop 4 t) in
+      omega (arith, length-append (take 4 t) (hexDigits k), length-take-le 4 t (omega (arith, four-size .0)))
+
+  -- the six characters fill two pairs
   both-parts : names v (take 4 t) (drop 4 t) ≡ c40 codes ++ c40 (drop 4 t)
-  both-parts = names-six v t other (omega (arith, four-size .0)) ∙ ap (λ l. c40 l ++ c40 (drop 4 t)) (sym six-is)
+  both-parts =
+      let u = drop 4 t in
+      names-four v t other ∙ six-ahead (take 4 t ++ hexDigits (length u)) u six-long ∙ ap (λ l. c40 l ++ c40 u) (sym six-is)
 
   both-long : length (names v (take 4 t) (drop 4 t)) ≡ length (c40 codes) + length (c40 (drop 4 t))
   both-long = ap length both-parts ∙ length-append (c40 codes) (c40 (drop 4 t))
@@ -155,7 +141,7 @@ module _ (v : Version) (t out : List ℕ) (at : ℕ) (n : Named v t) (other : v 
       (next ≡ at + length (c40 codes)) × (out1 ≡ over out at (c40 codes))
   six-text-put next out1 =
       text-put codes out at next out1
-      (subst Text (sym six-is) (six-text v t n (omega (arith, four-size .0)) (omega (arith, four-size .1, length-drop 4 t))))
+      (subst Text (sym six-is) (six-text v t n (omega (arith, four-size .1, length-drop 4 t))))
       (omega (arith, both-long, room))
 
   pub names-put :

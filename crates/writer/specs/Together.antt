@@ -38,7 +38,7 @@ use Rattle.write_rows.specs.Tests.Laws.{sized-head}
 use Rattle.write_given.specs.Tests.{isTextSize}
 use Rattle.write_rows.specs.Tests.{isRow, areRows, isTable, areSized}
 use Rattle.write_given.specs.Given.{threeOf, Given, contentAs}
-use Rattle.write_judge.specs.Needs.{Room, Fitting, Named, Headed, Dated, front, rest, Passed, spelled}
+use Rattle.write_judge.specs.Needs.{Room, Fitting, Named, Headed, Dated, front, rest, Passed}
 use Rattle.write_judge.specs.Needs.Laws.{country-text}
 use Rattle.write_text.specs.Coded.{coded}
 use Rattle.write_text.specs.Coded.Laws.{text-put}

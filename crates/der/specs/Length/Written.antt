@@ -1,6 +1,6 @@
 -- What is written for a length: its form, byte by byte, and a buffer in which those bytes stand or do not fit.
 -- Assumes nothing.
-use mathlib.Core.Path.{_≡_, ap, sym, _∙_}
+use mathlib.Core.Path.{_≡_, refl, ap, sym, _∙_}
 use Prim.Native.Nat.{ℕ, _+_, _/_, _%_, _<_, _≤_}
 use native.Mathlib.Omega.{arith}
 use borrow.Author.Tests.{lt-ltb, le-ltb, ltb-true, ltb-false}
@@ -13,45 +13,45 @@ use Rattle.format.specs.BigEndian.{be}
 use Rattle.format.specs.BigEndian.Laws.{be-two}
 use Rattle.octets.specs.Copy.{copied, reached}
 use Rattle.octets.specs.Copy.Laws.{copied-not, copied-all, reached-not, reached-all}
-use Rattle.der.specs.Length.{form, bytesOf, lengthForm, written}
+use Rattle.der.specs.Length.{form, byBytes, bytesOf, lengthForm, written}
 use Rattle.der.specs.Length.Exact.{form-short, form-long}
 use Rattle.der.specs.declared.Form.the-variants as is
 
 -- the length as it is written, by the tests
 module _ (n : ℕ) where
   pub form-one : n < 0x80 → is.One n ≡ lengthForm n
-  unfolding lengthForm
-  form-one h = simp (lt-ltb n 0x80 h)
+  form-one h = ap byBytes (sym (form-short n h))
 
   pub form-two : 0x80 ≤ n → n < 0x100 → is.Two 0x81 n ≡ lengthForm n
-  unfolding lengthForm
-  form-two h l = simp (le-ltb n 0x80 h, lt-ltb n 0x100 l)
+  unfolding be
+  form-two h l =
+      let low : n ≡ n % 256 = omega arith in
+      ap (is.Two 0x81) low ∙ ap byBytes (sym (form-long 1 (omega arith) (omega arith) n h l))
 
   pub form-three : 0x100 ≤ n → n < 0x10000 → is.Three 0x82 (n / 256) (n % 256) ≡ lengthForm n
-  unfolding lengthForm
-  form-three h l = simp (le-ltb n 0x80 (omega arith), le-ltb n 0x100 h, lt-ltb n 0x10000 l)
+  form-three h l =
+      ap (λ b. byBytes (0x82 ∷ b)) (sym (be-two n l)) ∙ ap byBytes (sym (form-long 2 (omega arith) (omega arith) n h l))
 
   pub form-longer : 0x10000 ≤ n → is.Longer ≡ lengthForm n
-  unfolding lengthForm
-  form-longer h = simp (le-ltb n 0x80 (omega arith), le-ltb n 0x100 (omega arith), le-ltb n 0x10000 h)
+  unfolding form be
+  form-longer h =
+      let one = le-ltb n 0x80 (omega arith) in
+      let two = le-ltb n 0x100 (omega arith) in
+      let three = le-ltb n 0x10000 h in
+      by-test (ltb n 0x1000000) (λ e. simp (one, two, three, e)) (λ e. simp (one, two, three, e))
 
   -- what is written is the form
   pub written-form : n < 0x10000 → written n ≡ form n
   unfolding be
   written-form small =
+      let again : (f : List ℕ) → form n ≡ f → bytesOf (byBytes f) ≡ f → written n ≡ form n =
+      λ f e same. ap (λ g. bytesOf (byBytes g)) e ∙ same ∙ sym e in
       by-test (ltb n 0x80)
-      (λ a. let h = ltb-true n 0x80 a in ap bytesOf (sym (form-one h)) ∙ sym (form-short n h))
+      (λ a. again _ (form-short n (ltb-true n 0x80 a)) refl)
       (λ a.
       by-test (ltb n 0x100)
-      (λ b.
-      let h = ltb-false n 0x80 a in
-      let l = ltb-true n 0x100 b in
-      let low : n ≡ n % 256 = omega arith in
-      ap bytesOf (sym (form-two h l)) ∙ ap (λ x. 0x81 ∷ x ∷ []) low ∙ sym (form-long 1 (omega arith) (omega arith) n h l))
-      (λ b.
-      let h = ltb-false n 0x100 b in
-      ap bytesOf (sym (form-three h small))
-      ∙ ap (λ s. 0x82 ∷ s) (sym (be-two n small)) ∙ sym (form-long 2 (omega arith) (omega arith) n h small)))
+      (λ b. again _ (form-long 1 (omega arith) (omega arith) n (ltb-false n 0x80 a) (ltb-true n 0x100 b)) refl)
+      (λ b. again _ (form-long 2 (omega arith) (omega arith) n (ltb-false n 0x100 b) small) refl))
 
   -- in one byte to three
   pub written-some : n < 0x10000 → (1 ≤ length (written n)) × (length (written n) ≤ 3)

@@ -20,7 +20,7 @@ use Rattle.grammar.specs.Legal.{ReferenceCharacter}
 use Rattle.grammar.specs.Parts.{hex-text, reference-text as text-of}
 use Rattle.fields.specs.Characters.{isLetter, isDigit, isLetterOrDigit, isReference, isSigner, all, isCountry}
 use Rattle.fields.specs.Characters.Grammar.{reference-of, all-of}
-use Rattle.write_judge.specs.Needs.{Named, spelled, sixOf}
+use Rattle.write_judge.specs.Needs.{Named}
 
 pub either-is : {C : Type 0} (a b : Bool) → either a b ≡ true → (a ≡ true → C) → (b ≡ true → C) → C
 either-is true b e f g = f refl
@@ -76,22 +76,12 @@ pub named-text : (v : Version) (t : List ℕ) → Named v t → Text t
 named-text v t n =
     subst Text (take-append-drop 4 t) (all-append InChart (take 4 t) (drop 4 t) (signer-text (take 4 t) (n .signer)) (reference-text v t n))
 
--- the first six characters of version 4's names, and the reference
-pub spelled-six : (t : List ℕ) → 4 ≤ length t → spelled t ≡ sixOf t ++ drop 4 t
-spelled-six [] h = absurd (omega arith)
-spelled-six (a ∷ []) h = absurd (omega arith)
-spelled-six (a ∷ b ∷ []) h = absurd (omega arith)
-spelled-six (a ∷ b ∷ c ∷ []) h = absurd (omega arith)
-spelled-six (a ∷ b ∷ c ∷ d ∷ t) h = refl
-
-six-is : (t : List ℕ) → 4 ≤ length t → take 4 t ++ hexDigits (length (drop 4 t)) ≡ sixOf t
-six-is [] h = absurd (omega arith)
-six-is (a ∷ []) h = absurd (omega arith)
-six-is (a ∷ b ∷ []) h = absurd (omega arith)
-six-is (a ∷ b ∷ c ∷ []) h = absurd (omega arith)
-six-is (a ∷ b ∷ c ∷ d ∷ t) h = refl
-
-pub six-text : (v : Version) (t : List ℕ) → Named v t → 4 ≤ length t → length (drop 4 t) ≤ 255 → Text (sixOf t)
-six-text v t n low h =
+-- the first six characters of version 4's names are text
+pub six-text :
+    (v : Version) (t : List ℕ) →
+    Named v t →
+    length (drop 4 t) ≤ 255 →
+    Text (take 4 t ++ hexDigits (length (drop 4 t)))
+six-text v t n h =
     let k = length (drop 4 t) in
-    subst Text (six-is t low) (all-append InChart (take 4 t) (hexDigits k) (signer-text (take 4 t) (n .signer)) (hex-text k h))
+    all-append InChart (take 4 t) (hexDigits k) (signer-text (take 4 t) (n .signer)) (hex-text k h)

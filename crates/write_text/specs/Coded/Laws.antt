@@ -5,7 +5,7 @@ use Prim.Native.Nat.{ℕ, _+_, _-_, _/_, _%_, _<_, _≤_}
 use native.Mathlib.Omega.{arith}
 use mathlib.Core.List.{List, [], _∷_, _++_, append-assoc, append-nil}
 use borrow.Author.Tests.{lt-ltb, le-ltb}
-use lib.ListN.{length, getD, drop, replicate, length-append, length-drop}
+use lib.ListN.{length, getD, take, drop, replicate, length-append, length-drop}
 use Rattle.format.specs.BigEndian.{be}
 use Rattle.format.specs.BigEndian.Laws.{length-be, be-two}
 use Rattle.format.specs.Buffer.{over}
@@ -19,6 +19,7 @@ use Rattle.pairs.specs.Pairs.{packedOf, triple, number}
 use Rattle.c40.specs.Text.{Text, publish, width}
 use Rattle.c40.specs.Text.Laws.{publish-none, publish-one, publish-two, publish-three}
 use Rattle.format.specs.Hex.{hexDigit}
+use Rattle.grammar.specs.Publish.{hexDigits}
 use Rattle.write_text.specs.Coded.{coded, firstSix}
 
 one-form : (a : ℕ) → a < 255 → be 2 (number 0xFE (a + 1)) ≡ 0xFE ∷ (a + 1) ∷ []
@@ -181,7 +182,18 @@ text-put t out at to after is-text room e o =
     )
 
 -- the first six characters, by the text's size
+four-first : (t : List ℕ) → 4 ≤ length t → getD t 0 0 ∷ getD t 1 0 ∷ getD t 2 0 ∷ getD t 3 0 ∷ [] ≡ take 4 t
+four-first [] h = absurd (omega arith)
+four-first (a ∷ []) h = absurd (omega arith)
+four-first (a ∷ b ∷ []) h = absurd (omega arith)
+four-first (a ∷ b ∷ c ∷ []) h = absurd (omega arith)
+four-first (a ∷ b ∷ c ∷ d ∷ t) h = refl
+
 module _ (t : List ℕ) where
+  six-of : 4 ≤ length t → firstSix t ≡ take 4 t ++ hexDigits ((length t - 4) % 256)
+  unfolding firstSix
+  six-of h = rw (le-ltb (length t) 4 h) refl
+
   pub six-not : length t < 4 → replicate 6 0 ≡ firstSix t
   unfolding firstSix
   six-not h = rw (lt-ltb (length t) 4 h) refl
@@ -190,5 +202,15 @@ module _ (t : List ℕ) where
       4 ≤ length t →
       getD t 0 0 ∷ getD t 1 0 ∷ getD t 2 0 ∷ getD t 3 0 ∷ hexDigit ((length t - 4) / 16 % 16) ∷ hexDigit ((length t - 4) % 16) ∷ []
       ≡ firstSix t
-  unfolding firstSix
-  six-all h = rw (le-ltb (length t) 4 h) refl
+  six-all h =
+      let high : (length t - 4) / 16 % 16 ≡ (length t - 4) % 256 / 16 = omega arith in
+      let low : (length t - 4) % 16 ≡ (length t - 4) % 256 % 16 = omega arith in
+      ap (λ f. f ++ (hexDigit ((length t - 4) / 16 % 16) ∷ hexDigit ((length t - 4) % 16) ∷ [])) (four-first t h)
+      ∙ (λ i. take 4 t ++ (hexDigit (high i) ∷ hexDigit (low i) ∷ []))
+      ∙ sym (six-of h)
+
+  -- of a text that a header can have, they are the signer and the reference's length
+  pub six-spelled : 4 ≤ length t → length t ≤ 259 → firstSix t ≡ take 4 t ++ hexDigits (length (drop 4 t))
+  six-spelled h l =
+      let small : (length t - 4) % 256 ≡ length (drop 4 t) = omega (arith, length-drop 4 t) in
+      six-of h ∙ ap (λ n. take 4 t ++ hexDigits n) small
