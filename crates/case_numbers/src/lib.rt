@@ -1,33 +1,14 @@
-// A case of dates, DER lengths or INTEGERs, and the line of its answer: what was answered, and on `j` what was written.
+// A case of DER lengths, INTEGERs or dates, and the line of its answer: what was answered, and on `j` what was written.
 ghost use Prim.Native.Nat.{_≤_};
 ghost use lib.ListN.{length};
 ghost use Rattle.case_file.specs.Line.{Within};
 use case_file::put;
-use case_file::put_answer;
 use case_file::put_call;
 use case_file::put_number;
 use case_file::put_text;
-use dates::Date;
 use der::Fault;
 use der::Length;
-use face::FrDated;
 use face::FrInteger;
-use face::FrNumbered;
-
-// Puts down the date of a number: month, day and year.
-fn put_taken(taken: FrDated, out: &mut [u8], to: usize) -> usize
-    ensures { λ r. ⌜ Within (now (out .entry)) to r ⌝ }
-{
-    let date = taken.date;
-    put_answer(out, to, taken.number, &[date.month, date.day, date.year])
-}
-
-// Puts down the number of a date.
-fn put_numbered(numbered: FrNumbered, out: &mut [u8], to: usize) -> usize
-    ensures { λ r. ⌜ Within (now (out .entry)) to r ⌝ }
-{
-    put_answer(out, to, numbered.number, &[numbered.value])
-}
 
 // Puts down a length that was read, and the width of its form.
 fn put_length(length: Length, out: &mut [u8], to: usize) -> usize
@@ -114,33 +95,6 @@ fn signed(line: &[u8], from: usize) -> i64 {
     at_most(case_file::number(line, from).value) as i64
 }
 
-// `d NUMBER`: the date of a number.
-fn run_date(line: &[u8], out: &mut [u8], to: usize) -> usize
-    ensures { λ r. ⌜ Within (now (out .entry)) to r ⌝ }
-{
-    let number = case_file::number(line, 2);
-    put_taken(
-        answers_numbers::date_taken(Date::from_number(number.value)),
-        out,
-        to,
-    )
-}
-
-// `n MONTH DAY YEAR`: the number of a date.
-fn run_number(line: &[u8], out: &mut [u8], to: usize) -> usize
-    ensures { λ r. ⌜ Within (now (out .entry)) to r ⌝ }
-{
-    let month = case_file::number(line, 2);
-    let day = case_file::number(line, month.next + 1);
-    let year = case_file::number(line, day.next + 1);
-    let date = Date {
-        month: month.value,
-        day: day.value,
-        year: year.value,
-    };
-    put_numbered(answers_numbers::date_numbered(date.number()), out, to)
-}
-
 // `l RUNS` reads a length, and `i RUNS` an INTEGER.
 fn run_bytes(kind: u8, line: &[u8], out: &mut [u8], to: usize) -> usize
     ensures { λ r. ⌜ Within (now (out .entry)) to r ⌝ }
@@ -180,17 +134,15 @@ fn run_value(line: &[u8], out: &mut [u8], to: usize) -> usize
     run_write(value, room, &mut buffer, out, to)
 }
 
-// Runs the case of a line, by its letter; any other line is a comment and gives nothing.
+// Runs the case of a line, by its letter; any other is a case of dates, or a comment.
 pub fn run_line(line: &[u8], out: &mut [u8], to: usize) -> usize
     ensures { λ r. ⌜ Within (now (out .entry)) to r ⌝ }
 {
     let kind = case_file::at(line, 0);
     match kind {
-        b'd' => run_date(line, out, to),
-        b'n' => run_number(line, out, to),
         b'l' => run_bytes(kind, line, out, to),
         b'i' => run_bytes(kind, line, out, to),
         b'j' => run_value(line, out, to),
-        _ => to,
+        _ => case_dates::run_line(line, out, to),
     }
 }
