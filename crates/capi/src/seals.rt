@@ -16,9 +16,12 @@ use face_seals::FrReading;
 // other number both stay, and every field but number and place is 0.
 #[no_mangle]
 pub extern "C" fn fr_read(seal: &[u8], table: &mut [usize], text: &mut [u8]) -> FrReading
-    ensures answer { λ r. ⌜ r ≡ readingOf (answerOf (reading (now (seal .entry)) (length (now (table .entry))) (length (now (text .entry))))) ⌝ }
-    ensures rows { λ r. ⌜ now (table .exit) ≡ then (rowsIn (reading (now (seal .entry)) (length (now (table .entry))) (length (now (text .entry))))) (now (table .entry)) ⌝ }
-    ensures names { λ r. ⌜ now (text .exit) ≡ then (textIn (reading (now (seal .entry)) (length (now (table .entry))) (length (now (text .entry))))) (now (text .entry)) ⌝ }
+    ensures answer { λ r. ⌜ r
+        ≡ readingOf (answerOf (reading (now (seal .entry)) (length (now (table .entry))) (length (now (text .entry))))) ⌝ }
+    ensures rows { λ r. ⌜ now (table .exit)
+        ≡ then (rowsIn (reading (now (seal .entry)) (length (now (table .entry))) (length (now (text .entry))))) (now (table .entry)) ⌝ }
+    ensures names { λ r. ⌜ now (text .exit)
+        ≡ then (textIn (reading (now (seal .entry)) (length (now (table .entry))) (length (now (text .entry))))) (now (text .entry)) ⌝ }
 {
     FrReading::of(reader::read(seal, table, text))
 }
@@ -41,8 +44,12 @@ pub extern "C" fn fr_write(
     signature: &[u8],
     out: &mut [u8],
 ) -> FrFilled
-    ensures answer { λ r. ⌜ r ≡ filledOf (told (writing (given (innerHeader header) (now (text .entry)) (now (rows .entry)) (now (values .entry)) (now (signature .entry))) (length (now (out .entry))))) ⌝ }
-    ensures buffer { λ r. ⌜ now (out .exit) ≡ filled (writing (given (innerHeader header) (now (text .entry)) (now (rows .entry)) (now (values .entry)) (now (signature .entry))) (length (now (out .entry)))) (now (out .entry)) ⌝ }
+    ensures answer { λ r. ⌜ r ≡ filledOf (told (writing
+        (given (innerHeader header) (now (text .entry)) (now (rows .entry)) (now (values .entry)) (now (signature .entry)))
+        (length (now (out .entry))))) ⌝ }
+    ensures buffer { λ r. ⌜ now (out .exit) ≡ filled (writing
+        (given (innerHeader header) (now (text .entry)) (now (rows .entry)) (now (values .entry)) (now (signature .entry)))
+        (length (now (out .entry)))) (now (out .entry)) ⌝ }
 {
     answers_seals::written(writer::write(header.inner(), text, rows, values, signature, out))
 }

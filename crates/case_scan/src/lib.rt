@@ -42,7 +42,8 @@ pub fn line_end(s: &[u8], from: usize) -> usize
 
 // The decimal number at a place: as many digits as there are, but no more once another could take it past 2 to the 63 and 1.
 pub fn number(s: &[u8], from: usize) -> Decimal
-    ensures { λ r. ⌜ Numeral (now (s .entry)) from (r .value) (r .next) × ((r .value ≡ numberAt (now (s .entry)) from) × (r .next ≡ numberEnd (now (s .entry)) from)) ⌝ }
+    ensures { λ r. ⌜ Numeral (now (s .entry)) from (r .value) (r .next)
+        × ((r .value ≡ numberAt (now (s .entry)) from) × (r .next ≡ numberEnd (now (s .entry)) from)) ⌝ }
 {
     let mut i = from;
     let mut value: usize = 0;
@@ -65,7 +66,8 @@ pub fn number(s: &[u8], from: usize) -> Decimal
 
 // The bytes of the pairs of hex digits that stand at `from`, into `out` from `to` on.
 fn take_pairs(s: &[u8], from: usize, out: &mut [u8], to: usize) -> Taken
-    ensures { λ r. ⌜ (r .next ≡ pairsEnd (now (s .entry)) from) × Put (now (out .entry)) to (pairsAt (now (s .entry)) from) (now (out .exit)) (r .to) ⌝ }
+    ensures { λ r. ⌜ (r .next ≡ pairsEnd (now (s .entry)) from)
+        × Put (now (out .entry)) to (pairsAt (now (s .entry)) from) (now (out .exit)) (r .to) ⌝ }
 {
     let mut i = from;
     let mut o = to;
@@ -100,7 +102,8 @@ fn repeat(s: &[u8], from: usize, count: usize, out: &mut [u8], to: usize) -> usi
 
 // One run, pairs of hex digits and perhaps `*COUNT`, into `out` from `to` on.
 fn take_run(s: &[u8], from: usize, out: &mut [u8], to: usize) -> Taken
-    ensures { λ r. ⌜ (r .next ≡ runEnd (now (s .entry)) from) × Put (now (out .entry)) to (runAt (now (s .entry)) from) (now (out .exit)) (r .to) ⌝ }
+    ensures { λ r. ⌜ (r .next ≡ runEnd (now (s .entry)) from)
+        × Put (now (out .entry)) to (runAt (now (s .entry)) from) (now (out .exit)) (r .to) ⌝ }
 {
     let once = take_pairs(s, from, out, to);
     let after = once.next;
@@ -117,7 +120,8 @@ fn take_run(s: &[u8], from: usize, out: &mut [u8], to: usize) -> Taken
     once
 }
 
-// The bytes of all runs that stand at `from`, each after a space, put at the start of `out` as far as it has room, and how many were put there.
+// The bytes of all runs that stand at `from`, each after a space, put at the start of `out` as far as it has room, and
+// how many were put there.
 pub fn runs(s: &[u8], from: usize, out: &mut [u8]) -> usize
     ensures { λ r. ⌜ Counts r (now (out .exit)) × Put (now (out .entry)) 0 (runsAt (now (s .entry)) from) (now (out .exit)) r ⌝ }
 {

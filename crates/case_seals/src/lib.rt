@@ -1,5 +1,5 @@
-// A case of the reader, and the line of its answer: `NUMBER at PLACE`, the fields, what stands in the lent table and text, whether all else was kept, and whether
-// `judge` agrees.
+// A case of the reader, and the line of its answer: `NUMBER at PLACE`, the fields, what stands in the lent table and
+// text, whether all else was kept, and whether `judge` agrees.
 ghost use mathlib.Core.Path.{_≡_};
 ghost use Prim.Native.Nat.{_≤_};
 ghost use lib.ListN.{length, drop};

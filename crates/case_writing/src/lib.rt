@@ -1,4 +1,5 @@
-// A case of the writer, and the line of its answer: the number, the count, whether every byte past the count was kept, and the bytes written.
+// A case of the writer, and the line of its answer: the number, the count, whether every byte past the count was kept,
+// and the bytes written.
 ghost use Prim.Native.Nat.{_≤_};
 ghost use lib.ListN.{length};
 ghost use Rattle.case_file.specs.Line.{Within, Counts};
@@ -129,7 +130,8 @@ fn run_case(
     put_call(a.number, a.count, &buffer, out, to)
 }
 
-// `w ROOM h NUMBERS c RUNS t RUNS r NUMBERS v RUNS g RUNS`: the header's numbers, its country, the text, the rows, the values and the signature.
+// `w ROOM h NUMBERS c RUNS t RUNS r NUMBERS v RUNS g RUNS`: the header's numbers, its country, the text, the rows, the
+// values and the signature.
 fn run_given(line: &[u8], out: &mut [u8], to: usize) -> usize
     ensures { λ r. ⌜ Within (now (out .entry)) to r ⌝ }
 {

@@ -77,7 +77,8 @@ pub(crate) fn put_integer(number: &[u8], start: usize, out: &mut [u8], at: usize
 pub(crate) fn put_pair(r: &[u8], s: &[u8], out: &mut [u8]) -> ToDer
     requires { ⌜ Numbers (now r) (now s) ⌝ }
     ensures answer { λ d. ⌜ toDerOf d ≡ told (formed (now (r .entry)) (now (s .entry)) (length (now (out .entry)))) ⌝ }
-    ensures buffer { λ d. ⌜ now (out .exit) ≡ filled (formed (now (r .entry)) (now (s .entry)) (length (now (out .entry)))) (now (out .entry)) ⌝ }
+    ensures buffer { λ d. ⌜ now (out .exit)
+        ≡ filled (formed (now (r .entry)) (now (s .entry)) (length (now (out .entry)))) (now (out .entry)) ⌝ }
 {
     let r_start = start_of(r);
     let s_start = start_of(s);

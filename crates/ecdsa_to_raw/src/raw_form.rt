@@ -73,8 +73,11 @@ pub(crate) fn put_padded(digits: &[u8], n: usize, out: &mut [u8], at: usize)
 // Puts down r and s from the start of `out`, n bytes each, where there is room for both.
 pub(crate) fn put_both(n: usize, r: &[u8], s: &[u8], out: &mut [u8]) -> ToRaw
     requires { ⌜ (n < 127) × (length (now r) ≤ n) × (length (now s) ≤ n) ⌝ }
-    ensures answer { λ d. ⌜ toRawOf d ≡ told (rawed n (raw (padded n (now (r .entry)) ++ padded n (now (s .entry)))) (length (now (out .entry)))) ⌝ }
-    ensures buffer { λ d. ⌜ now (out .exit) ≡ filled (rawed n (raw (padded n (now (r .entry)) ++ padded n (now (s .entry)))) (length (now (out .entry)))) (now (out .entry)) ⌝ }
+    ensures answer { λ d. ⌜ toRawOf d
+        ≡ told (rawed n (raw (padded n (now (r .entry)) ++ padded n (now (s .entry)))) (length (now (out .entry)))) ⌝ }
+    ensures buffer { λ d. ⌜ now (out .exit)
+        ≡ filled (rawed n (raw (padded n (now (r .entry)) ++ padded n (now (s .entry))))
+        (length (now (out .entry)))) (now (out .entry)) ⌝ }
 {
     let count = 2 * n;
     if out.len() < count {
@@ -88,8 +91,12 @@ pub(crate) fn put_both(n: usize, r: &[u8], s: &[u8], out: &mut [u8]) -> ToRaw
 // Reads s, which is to be all that stands after r, and puts down both.
 pub(crate) fn put_second(n: usize, r: &[u8], rest: &[u8], out: &mut [u8]) -> ToRaw
     requires { ⌜ (n < 127) × (length (now r) ≤ n) ⌝ }
-    ensures answer { λ d. ⌜ toRawOf d ≡ told (rawed n (lastly n (padded n (now (r .entry))) (now (rest .entry)) (numberIn n (now (rest .entry)))) (length (now (out .entry)))) ⌝ }
-    ensures buffer { λ d. ⌜ now (out .exit) ≡ filled (rawed n (lastly n (padded n (now (r .entry))) (now (rest .entry)) (numberIn n (now (rest .entry)))) (length (now (out .entry)))) (now (out .entry)) ⌝ }
+    ensures answer { λ d. ⌜ toRawOf d
+        ≡ told (rawed n (lastly n (padded n (now (r .entry))) (now (rest .entry)) (numberIn n (now (rest .entry))))
+        (length (now (out .entry)))) ⌝ }
+    ensures buffer { λ d. ⌜ now (out .exit)
+        ≡ filled (rawed n (lastly n (padded n (now (r .entry))) (now (rest .entry)) (numberIn n (now (rest .entry))))
+        (length (now (out .entry)))) (now (out .entry)) ⌝ }
 {
     let second = number_in(n, rest);
     let Number::Digits(start, end) = second else {
@@ -104,8 +111,11 @@ pub(crate) fn put_second(n: usize, r: &[u8], rest: &[u8], out: &mut [u8]) -> ToR
 // Reads r at the head of what the sequence holds, then s, and puts down both.
 pub(crate) fn put_pair(n: usize, pair: &[u8], out: &mut [u8]) -> ToRaw
     requires { ⌜ n < 127 ⌝ }
-    ensures answer { λ d. ⌜ toRawOf d ≡ told (rawed n (pairIn n (now (pair .entry)) (numberIn n (now (pair .entry)))) (length (now (out .entry)))) ⌝ }
-    ensures buffer { λ d. ⌜ now (out .exit) ≡ filled (rawed n (pairIn n (now (pair .entry)) (numberIn n (now (pair .entry)))) (length (now (out .entry)))) (now (out .entry)) ⌝ }
+    ensures answer { λ d. ⌜ toRawOf d
+        ≡ told (rawed n (pairIn n (now (pair .entry)) (numberIn n (now (pair .entry)))) (length (now (out .entry)))) ⌝ }
+    ensures buffer { λ d. ⌜ now (out .exit)
+        ≡ filled (rawed n (pairIn n (now (pair .entry)) (numberIn n (now (pair .entry))))
+        (length (now (out .entry)))) (now (out .entry)) ⌝ }
 {
     let first = number_in(n, pair);
     let Number::Digits(start, end) = first else {

@@ -41,7 +41,8 @@ pub fn element_of(tag: u8, s: &[u8]) -> Element
     }
 }
 
-// Puts down the length of this size from a place on and answers the place reached; where it does not fit, or is longer, nothing is written and the place stays.
+// Puts down the length of this size from a place on and answers the place reached; where it does not fit, or is longer,
+// nothing is written and the place stays.
 pub fn put_length(size: usize, out: &mut [u8], at: usize) -> usize
     ensures place { λ r. ⌜ r ≡ reached (written size) (length (now (out .entry))) at ⌝ }
     ensures buffer { λ r. ⌜ now (out .exit) ≡ copied (written size) (now (out .entry)) at ⌝ }

@@ -1,4 +1,5 @@
-// What reader and writer share of a seal's fields (document 01, Layout): the header that both carry, the tests of its characters, and the length of a signature.
+// What reader and writer share of a seal's fields (document 01, Layout): the header that both carry, the tests of its
+// characters, and the length of a signature.
 ghost use mathlib.Core.Path.{_≡_};
 ghost use mathlib.Core.List.{[], _∷_};
 ghost use Rattle.fields.specs.Characters as character;

@@ -1,4 +1,5 @@
-// The judging (document 01, "Reader"): the steps of the reading one after another. A step that is not read ends it, with the number of the rule that is broken.
+// The judging (document 01, "Reader"): the steps of the reading one after another. A step that is not read ends it,
+// with the number of the rule that is broken.
 ghost use mathlib.Core.Path.{_≡_};
 ghost use Rattle.causes.specs.Causes.{ruleNumber};
 ghost use Rattle.verdict.specs.Judge.{judge as verdict, refused as refusedBy};

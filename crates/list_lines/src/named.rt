@@ -17,7 +17,8 @@ pub(crate) fn put_named(
     from: usize,
     size: usize,
 ) -> usize
-    ensures { λ r. ⌜ Put (now (out .entry)) at (lineOf (now (name .entry)) (take size (drop from (now (text .entry))))) (now (out .exit)) r ⌝ }
+    ensures { λ r. ⌜ Put (now (out .entry)) at
+        (lineOf (now (name .entry)) (take size (drop from (now (text .entry))))) (now (out .exit)) r ⌝ }
 {
     let mut o = put_text(out, at, name);
     o = put_some(out, o, text, from, size);

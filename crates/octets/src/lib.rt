@@ -1,4 +1,5 @@
-// What the layers' code shares on bytes: a byte as a number to reckon with, a number in bytes, hexadecimal digits, bytes copied into a lent buffer.
+// What the layers' code shares on bytes: a byte as a number to reckon with, a number in bytes, hexadecimal digits,
+// bytes copied into a lent buffer.
 ghost use mathlib.Core.Path.{_≡_};
 ghost use Prim.Native.Nat.{_%_, min};
 ghost use lib.ListN.{length};
@@ -13,7 +14,8 @@ pub fn wide(x: u8) -> usize
     x as usize
 }
 
-// Copies all of `from` into `out` from a place on and answers the place reached; where it does not fit, nothing is copied and the place stays.
+// Copies all of `from` into `out` from a place on and answers the place reached; where it does not fit, nothing is
+// copied and the place stays.
 pub fn copy(from: &[u8], out: &mut [u8], at: usize) -> usize
     ensures place { λ r. ⌜ r ≡ reached (now (from .entry)) (length (now (out .entry))) at ⌝ }
     ensures buffer { λ r. ⌜ now (out .exit) ≡ copied (now (from .entry)) (now (out .entry)) at ⌝ }

@@ -61,7 +61,8 @@ fn coded(at: Cursor, seal: &[u8], text: &mut [u8]) -> Step
 // A field of text, put into `text`, which has room for just as many characters as it has.
 pub(crate) fn field(at: Cursor, seal: &[u8], kind: Kind, text: &mut [u8]) -> Step
     requires { ⌜ Fits kind (now text) ⌝ }
-    ensures { λ r. ⌜ stepOf (now (text .exit)) r ≡ read.field (length (now (text .entry))) (rulesOf kind) (at .place) (now (seal .entry)) ⌝ }
+    ensures { λ r. ⌜ stepOf (now (text .exit)) r
+        ≡ read.field (length (now (text .entry))) (rulesOf kind) (at .place) (now (seal .entry)) ⌝ }
 {
     let read = coded(at, seal, text);
     let Step::Past(next) = read else {

@@ -54,8 +54,10 @@ fn give(
 // Reads a seal: on 0 a row for each feature stands in `table`, and signer and reference in `text`; on any other number both stay.
 pub fn read(seal: &[u8], table: &mut [usize], text: &mut [u8]) -> Reading
     ensures answer { λ r. ⌜ r ≡ answerOf (reading (now (seal .entry)) (length (now (table .entry))) (length (now (text .entry)))) ⌝ }
-    ensures rows { λ r. ⌜ now (table .exit) ≡ then (rowsIn (reading (now (seal .entry)) (length (now (table .entry))) (length (now (text .entry))))) (now (table .entry)) ⌝ }
-    ensures names { λ r. ⌜ now (text .exit) ≡ then (textIn (reading (now (seal .entry)) (length (now (table .entry))) (length (now (text .entry))))) (now (text .entry)) ⌝ }
+    ensures rows { λ r. ⌜ now (table .exit)
+        ≡ then (rowsIn (reading (now (seal .entry)) (length (now (table .entry))) (length (now (text .entry))))) (now (table .entry)) ⌝ }
+    ensures names { λ r. ⌜ now (text .exit)
+        ≡ then (textIn (reading (now (seal .entry)) (length (now (table .entry))) (length (now (text .entry))))) (now (text .entry)) ⌝ }
 {
     let mut names = [0u8; 259];
     let judged = judging::judge_names(seal, &mut names);

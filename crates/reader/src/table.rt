@@ -23,7 +23,8 @@ pub(crate) fn put_rows(
 )
     requires there { ⌜ AreRead (rowsAt count version (start .place) (now seal)) ⌝ }
     requires room { ⌜ width * count ≤ length (now table) ⌝ }
-    ensures { λ r. ⌜ now (table .exit) ≡ then (tableOf (rowsRead (rowsAt count version (start .place) (now (seal .entry))))) (now (table .entry)) ⌝ }
+    ensures { λ r. ⌜ now (table .exit)
+        ≡ then (tableOf (rowsRead (rowsAt count version (start .place) (now (seal .entry))))) (now (table .entry)) ⌝ }
 {
     let end = WIDTH * count;
     let mut at = start.place;

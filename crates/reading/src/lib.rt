@@ -19,8 +19,8 @@ pub struct Part {
     pub length: usize,
 }
 
-// What a reading answers: the number and its place, and on 0 the header, the zone ends, the raw signature's part and the count of features. On any other
-// number every other field is 0.
+// What a reading answers: the number and its place, and on 0 the header, the zone ends, the raw signature's part and
+// the count of features. On any other number every other field is 0.
 pub struct Reading {
     pub number: usize,
     pub place: usize,

@@ -1,5 +1,5 @@
-// The versions of a seal (document 01, Layout): version 3 and version 4, and no other. They are told apart where the version is read, so that
-// no other number goes on from there.
+// The versions of a seal (document 01, Layout): version 3 and version 4, and no other. They are told apart where the
+// version is read, so that no other number goes on from there.
 ghost use mathlib.Core.Path.{_≡_};
 ghost use Rattle.versions.specs.Versions.{versionNumber, versionByte, versionOf, versionOfByte, statedOf};
 

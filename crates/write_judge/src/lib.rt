@@ -40,7 +40,8 @@ pub fn judge(
     signature: &[u8],
     room: usize,
 ) -> Writing
-    ensures { λ r. ⌜ writingOf r ≡ told (writing (given header (now (text .entry)) (now (rows .entry)) (now (values .entry)) (now (signature .entry))) room) ⌝ }
+    ensures { λ r. ⌜ writingOf r ≡ told (writing
+        (given header (now (text .entry)) (now (rows .entry)) (now (values .entry)) (now (signature .entry))) room) ⌝ }
 {
     let Stated::Is(version) = Version::from_number(header.version) else {
         return Writing::Version;

@@ -53,7 +53,8 @@ fn put_pairs(text: &[u8], out: &mut [u8], start: usize) -> usize
     at
 }
 
-// Puts down characters in C40 from a place on and answers the place reached; where they do not fit, nothing is put down and the place stays.
+// Puts down characters in C40 from a place on and answers the place reached; where they do not fit, nothing is put down
+// and the place stays.
 pub fn put_text(text: &[u8], out: &mut [u8], at: usize) -> usize
     ensures place { λ r. ⌜ r ≡ reached (coded (now (text .entry))) (length (now (out .entry))) at ⌝ }
     ensures buffer { λ r. ⌜ now (out .exit) ≡ copied (coded (now (text .entry))) (now (out .entry)) at ⌝ }
@@ -85,8 +86,8 @@ pub fn country(code: [u8; 3]) -> [u8; 3]
     [carried(code[0]), carried(code[1]), carried(code[2])]
 }
 
-// The six characters that fill version 4's first two pairs: the signer, and the reference's length in two hexadecimal digits; all 0 where the
-// text is shorter than a signer.
+// The six characters that fill version 4's first two pairs: the signer, and the reference's length in two hexadecimal
+// digits; all 0 where the text is shorter than a signer.
 pub fn first_six(text: &[u8]) -> [u8; 6]
     ensures { λ r. ⌜ r ≡ firstSix (now (text .entry)) ⌝ }
 {

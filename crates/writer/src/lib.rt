@@ -13,8 +13,8 @@ use versions::Stated;
 use versions::Version;
 pub use write_judge::Writing;
 
-// Writes a seal from the start of `out`. The rows are the reader's: tag, place and length of the value in `values`. All is judged before the first byte is
-// written, so a refusal leaves `out` as it was.
+// Writes a seal from the start of `out`. The rows are the reader's: tag, place and length of the value in `values`. All
+// is judged before the first byte is written, so a refusal leaves `out` as it was.
 pub fn write(
     header: Header,
     text: &[u8],
@@ -23,8 +23,12 @@ pub fn write(
     signature: &[u8],
     out: &mut [u8],
 ) -> Writing
-    ensures answer { λ r. ⌜ writingOf r ≡ told (writing (given header (now (text .entry)) (now (rows .entry)) (now (values .entry)) (now (signature .entry))) (length (now (out .entry)))) ⌝ }
-    ensures buffer { λ r. ⌜ now (out .exit) ≡ filled (writing (given header (now (text .entry)) (now (rows .entry)) (now (values .entry)) (now (signature .entry))) (length (now (out .entry)))) (now (out .entry)) ⌝ }
+    ensures answer { λ r. ⌜ writingOf r ≡ told (writing
+        (given header (now (text .entry)) (now (rows .entry)) (now (values .entry)) (now (signature .entry)))
+        (length (now (out .entry)))) ⌝ }
+    ensures buffer { λ r. ⌜ now (out .exit) ≡ filled (writing
+        (given header (now (text .entry)) (now (rows .entry)) (now (values .entry)) (now (signature .entry)))
+        (length (now (out .entry)))) (now (out .entry)) ⌝ }
 {
     let answer = write_judge::judge(header, text, rows, values, signature, out.len());
     let Writing::Done(_) = answer else {

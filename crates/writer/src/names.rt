@@ -13,7 +13,8 @@ use write_text::put_text;
 pub(crate) fn put_names(version: Version, text: &[u8], out: &mut [u8], at: usize) -> usize
     requires { ⌜ Named version (now text) × Room (now out) at (namesIn version (take 4 (now text)) (drop 4 (now text))) ⌝ }
     ensures place { λ r. ⌜ r ≡ at + length (namesIn version (take 4 (now (text .entry))) (drop 4 (now (text .entry)))) ⌝ }
-    ensures buffer { λ r. ⌜ now (out .exit) ≡ over (now (out .entry)) at (namesIn version (take 4 (now (text .entry))) (drop 4 (now (text .entry)))) ⌝ }
+    ensures buffer { λ r. ⌜ now (out .exit)
+        ≡ over (now (out .entry)) at (namesIn version (take 4 (now (text .entry))) (drop 4 (now (text .entry)))) ⌝ }
 {
     if let Version::Three = version {
         return put_text(text, out, at);

@@ -118,9 +118,11 @@ pub(crate) fn put_feature(
     out: &mut [u8],
     at: usize,
 ) -> usize
-    requires { ⌜ (tag < 256) × Measured version (length (now value)) × Room (now out) at (feature version (record { tag = tag; value = now value })) ⌝ }
+    requires { ⌜ (tag < 256) × Measured version (length (now value))
+        × Room (now out) at (feature version (record { tag = tag; value = now value })) ⌝ }
     ensures place { λ r. ⌜ r ≡ at + length (feature version (record { tag = tag; value = now (value .entry) })) ⌝ }
-    ensures buffer { λ r. ⌜ now (out .exit) ≡ over (now (out .entry)) at (feature version (record { tag = tag; value = now (value .entry) })) ⌝ }
+    ensures buffer { λ r. ⌜ now (out .exit)
+        ≡ over (now (out .entry)) at (feature version (record { tag = tag; value = now (value .entry) })) ⌝ }
 {
     out[at] = tag as u8;
     let next = put_length(version, value.len(), out, at + 1);
@@ -135,9 +137,12 @@ pub(crate) fn put_rows(
     out: &mut [u8],
     start: usize,
 ) -> usize
-    requires { ⌜ Fitting version (length (now values)) (rowsOf (now rows)) × Room (now out) start (messageZone version (map (featureOf (now values)) (rowsOf (now rows)))) ⌝ }
+    requires { ⌜ Fitting version (length (now values)) (rowsOf (now rows))
+        × Room (now out) start (messageZone version (map (featureOf (now values)) (rowsOf (now rows)))) ⌝ }
     ensures place { λ r. ⌜ r ≡ start + length (messageZone version (map (featureOf (now (values .entry))) (rowsOf (now (rows .entry))))) ⌝ }
-    ensures buffer { λ r. ⌜ now (out .exit) ≡ over (now (out .entry)) start (messageZone version (map (featureOf (now (values .entry))) (rowsOf (now (rows .entry))))) ⌝ }
+    ensures buffer { λ r. ⌜ now (out .exit)
+        ≡ over (now (out .entry)) start
+        (messageZone version (map (featureOf (now (values .entry))) (rowsOf (now (rows .entry))))) ⌝ }
 {
     let mut at = start;
     let mut from: usize = 0;
@@ -162,8 +167,12 @@ pub(crate) fn put_seal(
     signature: &[u8],
     out: &mut [u8],
 )
-    requires { ⌜ Passed version (given header (now text) (now rows) (now values) (now signature)) × Room (now out) 0 (publish (contentAs (given header (now text) (now rows) (now values) (now signature)) version)) ⌝ }
-    ensures { λ r. ⌜ now (out .exit) ≡ over (now (out .entry)) 0 (publish (contentAs (given header (now (text .entry)) (now (rows .entry)) (now (values .entry)) (now (signature .entry))) version)) ⌝ }
+    requires { ⌜ Passed version (given header (now text) (now rows) (now values) (now signature))
+        × Room (now out) 0
+        (publish (contentAs (given header (now text) (now rows) (now values) (now signature)) version)) ⌝ }
+    ensures { λ r. ⌜ now (out .exit) ≡ over (now (out .entry)) 0
+        (publish (contentAs
+        (given header (now (text .entry)) (now (rows .entry)) (now (values .entry)) (now (signature .entry))) version)) ⌝ }
 {
     let at = put_front(version, header, text, out);
     let message = put_rest(header, out, at);
