@@ -4,6 +4,7 @@ use borrow.Author.Needs.{needs}
 use native.Mathlib.Omega.{arith}
 use mathlib.Core.Path.{_≡_, _∙_, sym, ap}
 use Prim.Native.Nat.{ℕ, _<_, _≤_}
+use mathlib.Core.List.{List}
 use denote.Ref.{now}
 use lib.ListN.{length}
 use Rattle.format.specs.Answers.{refused}
@@ -12,6 +13,16 @@ use Rattle.c40.specs.Text.Laws.{length-publish}
 use Rattle.c40.specs.Calls.Laws.{known-text, writing-long, writing-stranger, writing-no-room, writing-done}
 use Rattle.c40_write.proofs.write.Statement.{statement}
 use Rattle.c40_write.proofs.write.Tie as tie
+
+-- the places before: from where there is room to where the text was not too long, back to the entry
+abbrev sized : tie.Else3 → tie.Else1
+sized c = c .before .before .before .before .before
+
+abbrev start : tie.Else3 → tie.Start
+start c = sized c .before .before .before
+
+abbrev text : tie.Else3 → List ℕ
+text c = now (start c .args .text)
 
 returns : tie.Need-returns
 returns c = refuses _ 45 0 _ (writing-long _ _ (omega arith))
@@ -37,16 +48,15 @@ returns-3 : tie.Need-returns-3
 returns-3 c = refuses _ 44 0 _ (writing-no-room _ _ (omega arith) (omega arith) (omega arith))
 
 put-requires : tie.Need-put-requires
-put-requires c κs =
-    (known-text (now (c .before .before .before .before .before .before .before .before .before .args .text)) (omega arith), omega arith)
+put-requires c κs = (known-text (text (c .before)) (omega arith), omega arith)
 
 same-length : tie.Need-same-length
 same-length c = search needs
 
 returns-4 : tie.Need-returns-4
 returns-4 c =
-    let text = now (c .before .before .before .before .before .before .before .before .before .before .before .before .args .text) in
-    gives _ _ _ _ _ (writing-done text _ (omega arith) (omega arith) (omega arith)) (omega (arith, length-publish text))
+    let t = text (c .before .before .before .before) in
+    gives _ _ _ _ _ (writing-done t _ (omega arith) (omega arith) (omega arith)) (omega (arith, length-publish t))
     (c .before .before .put .ensures)
 
 pub write-spec : {M : Type 1} → statement M

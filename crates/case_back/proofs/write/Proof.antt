@@ -8,13 +8,17 @@ use lib.Seq.{length-take-le}
 use Rattle.case_back.proofs.write.Statement.{statement}
 use Rattle.case_back.proofs.write.Tie as tie
 
+-- the way back to the entry
+abbrev start : tie.After-slice-known → tie.Start
+start c = c .before .before .before .before .before
+
 slice-relend-prefix-write : tie.Need-slice-relend-prefix-write
 slice-relend-prefix-write c = search needs
 
 slice-aggregate-write : tie.Need-slice-aggregate-write
 slice-aggregate-write c =
-    let start = c .before .before .before .before .before .before in
-    sym (length-take-le (length (now (start .args .seal))) (now (start .args .buffer)) (start .pre))
+    let s = start (c .before) in
+    sym (length-take-le (length (now (s .args .seal))) (now (s .args .buffer)) (s .pre))
 
 write-requires : tie.Need-write-requires
 write-requires c κs = search needs

@@ -4,6 +4,19 @@ use borrow.Author.Needs.{needs}
 use Rattle.case_writing.proofs.run_given.Statement.{statement}
 use Rattle.case_writing.proofs.run_given.Tie as tie
 
+-- the places before the case is run: where its signature was read, where its values were, its rows and its text
+abbrev signature-read : tie.After-number → tie.After-runs4
+signature-read c = c .before .before .before .before
+
+abbrev values-read : tie.After-number → tie.After-runs3
+values-read c = signature-read c .before .before .before .before
+
+abbrev rows-read : tie.After-number → tie.After-numbers2
+rows-read c = values-read c .before .before .before .before
+
+abbrev text-read : tie.After-number → tie.After-runs2
+text-read c = rows-read c .before .before .before .before
+
 after-requires : tie.Need-after-requires
 after-requires c κs = search needs
 
@@ -65,22 +78,16 @@ number-requires : tie.Need-number-requires
 number-requires c κs = search needs
 
 array-share-prefix-text : tie.Need-array-share-prefix-text
-array-share-prefix-text c =
-    c .before .before .before .before .before .before .before .before .before .before .before .before .before .before
-    .before .before .runs2 .ensures .0 .0
+array-share-prefix-text c = text-read c .runs2 .ensures .0 .0
 
 slice-aggregate-run-case : tie.Need-slice-aggregate-run-case
-slice-aggregate-run-case c =
-    c .before .before .before .before .before .before .before .before .before .before .before .before .before .before
-    .before .before .before .runs2 .ensures .0 .1
+slice-aggregate-run-case c = text-read (c .before) .runs2 .ensures .0 .1
 
 array-share-prefix-rows : tie.Need-array-share-prefix-rows
-array-share-prefix-rows c =
-    c .before .before .before .before .before .before .before .before .before .before .before .before .before .numbers2 .ensures .0
+array-share-prefix-rows c = rows-read (c .before) .numbers2 .ensures .0
 
 slice-aggregate-run-case-2 : tie.Need-slice-aggregate-run-case-2
-slice-aggregate-run-case-2 c =
-    c .before .before .before .before .before .before .before .before .before .before .before .before .before .before .numbers2 .ensures .1
+slice-aggregate-run-case-2 c = rows-read (c .before .before) .numbers2 .ensures .1
 
 array-share-prefix-values : tie.Need-array-share-prefix-values
 array-share-prefix-values c = search needs

@@ -27,106 +27,69 @@ abbrev put-number-below : ℕ → In 1 put-number-kinds.ps
 put-number-below t =
     and 1 put-number-kinds.ps (falls 1 put-number-kinds.ps _<_ μ-put-number t) put-number.Pre
 
-put-number-cast-put : (t : ℕ) → put-number-lts.Need-cast-put (
-  put-reads.Asked,
-  put-reads.Learnt,
-  put-number-below t,
-  put-number.Post,
-) (put-number-at t) put-number.Post
+-- what it may take of what it calls: of `put`, and of itself at a smaller number
+abbrev claims : ℕ → put-number-lts.Claims
+claims t = (put-reads.Asked, put-reads.Learnt, put-number-below t, put-number.Post)
+
+-- the places before the end, of a number of several digits: where the last digit was put, where the others were, and the test
+abbrev last-put :
+    (t : ℕ) →
+    put-number-lts.After-slice-known4 (claims t) (put-number-at t) put-number.Post →
+    put-number-lts.After-put2 (claims t) (put-number-at t) put-number.Post
+last-put t c = c .before .before
+
+abbrev others-put :
+    (t : ℕ) →
+    put-number-lts.After-slice-known4 (claims t) (put-number-at t) put-number.Post →
+    put-number-lts.After-put-number (claims t) (put-number-at t) put-number.Post
+others-put t c = last-put t c .before .before .before .before
+
+abbrev several :
+    (t : ℕ) →
+    put-number-lts.After-slice-known4 (claims t) (put-number-at t) put-number.Post →
+    put-number-lts.Else1 (claims t) (put-number-at t) put-number.Post
+several t c = others-put t c .before .before
+
+put-number-cast-put : (t : ℕ) → put-number-lts.Need-cast-put (claims t) (put-number-at t) put-number.Post
 put-number-cast-put t c = omega arith
 
-put-number-add-put : (t : ℕ) → put-number-lts.Need-add-put (
-  put-reads.Asked,
-  put-reads.Learnt,
-  put-number-below t,
-  put-number.Post,
-) (put-number-at t) put-number.Post
+put-number-add-put : (t : ℕ) → put-number-lts.Need-add-put (claims t) (put-number-at t) put-number.Post
 put-number-add-put t c = omega arith
 
-put-number-put-requires : (t : ℕ) → put-number-lts.Need-put-requires (
-  put-reads.Asked,
-  put-reads.Learnt,
-  put-number-below t,
-  put-number.Post,
-) (put-number-at t) put-number.Post
+put-number-put-requires : (t : ℕ) → put-number-lts.Need-put-requires (claims t) (put-number-at t) put-number.Post
 put-number-put-requires t c κs = search needs
 
-put-number-same-length : (t : ℕ) → put-number-lts.Need-same-length (
-  put-reads.Asked,
-  put-reads.Learnt,
-  put-number-below t,
-  put-number.Post,
-) (put-number-at t) put-number.Post
+put-number-same-length : (t : ℕ) → put-number-lts.Need-same-length (claims t) (put-number-at t) put-number.Post
 put-number-same-length t c = c .before .before .put .kept .0
 
-put-number-returns : (t : ℕ) → put-number-lts.Need-returns (
-  put-reads.Asked,
-  put-reads.Learnt,
-  put-number-below t,
-  put-number.Post,
-) (put-number-at t) put-number.Post
+put-number-returns : (t : ℕ) → put-number-lts.Need-returns (claims t) (put-number-at t) put-number.Post
 put-number-returns t c = rw (decimal-one _ (c .before .before .before .before .if1 .taken)) (c .before .before .put .ensures)
 
-put-number-put-number-requires : (t : ℕ) → put-number-lts.Need-put-number-requires (
-  put-reads.Asked,
-  put-reads.Learnt,
-  put-number-below t,
-  put-number.Post,
-) (put-number-at t) put-number.Post
+put-number-put-number-requires : (t : ℕ) → put-number-lts.Need-put-number-requires (claims t) (put-number-at t) put-number.Post
 put-number-put-number-requires t c κs = (omega (arith, c .before .before .before .pre .0), tt)
 
-put-number-cast-put-2 : (t : ℕ) → put-number-lts.Need-cast-put-2 (
-  put-reads.Asked,
-  put-reads.Learnt,
-  put-number-below t,
-  put-number.Post,
-) (put-number-at t) put-number.Post
+put-number-cast-put-2 : (t : ℕ) → put-number-lts.Need-cast-put-2 (claims t) (put-number-at t) put-number.Post
 put-number-cast-put-2 t c = omega arith
 
-put-number-add-put-2 : (t : ℕ) → put-number-lts.Need-add-put-2 (
-  put-reads.Asked,
-  put-reads.Learnt,
-  put-number-below t,
-  put-number.Post,
-) (put-number-at t) put-number.Post
+put-number-add-put-2 : (t : ℕ) → put-number-lts.Need-add-put-2 (claims t) (put-number-at t) put-number.Post
 put-number-add-put-2 t c = omega arith
 
-put-number-put-requires-2 : (t : ℕ) → put-number-lts.Need-put-requires-2 (
-  put-reads.Asked,
-  put-reads.Learnt,
-  put-number-below t,
-  put-number.Post,
-) (put-number-at t) put-number.Post
+put-number-put-requires-2 : (t : ℕ) → put-number-lts.Need-put-requires-2 (claims t) (put-number-at t) put-number.Post
 put-number-put-requires-2 t c κs = search needs
 
-put-number-same-length-2 : (t : ℕ) → put-number-lts.Need-same-length-2 (
-  put-reads.Asked,
-  put-reads.Learnt,
-  put-number-below t,
-  put-number.Post,
-) (put-number-at t) put-number.Post
-put-number-same-length-2 t c = c .before .before .put2 .kept .0 ∙ c .before .before .before .before .before .before .put-number .kept .0
+put-number-same-length-2 : (t : ℕ) → put-number-lts.Need-same-length-2 (claims t) (put-number-at t) put-number.Post
+put-number-same-length-2 t c = last-put t c .put2 .kept .0 ∙ others-put t c .put-number .kept .0
 
-put-number-returns-2 : (t : ℕ) → put-number-lts.Need-returns-2 (
-  put-reads.Asked,
-  put-reads.Learnt,
-  put-number-below t,
-  put-number.Post,
-) (put-number-at t) put-number.Post
+put-number-returns-2 : (t : ℕ) → put-number-lts.Need-returns-2 (claims t) (put-number-at t) put-number.Post
 put-number-returns-2 t c =
-    let most = c .before .before .before .before .before .before in
-    let start = most .before .before .before .before in
-    rw (decimal-more _ (most .before .before .if1 .left))
-    (put-more _ _ (decimalOf (start .args .n / 10)) _ _ ((48 + start .args .n % 10) ∷ []) _ _ (most .put-number .ensures)
-    (most .put-number .kept .0) (c .before .before .put2 .ensures))
+    let most = others-put t c .put-number in
+    let n = several t c .before .before .args .n in
+    rw (decimal-more _ (several t c .if1 .left))
+    (put-more _ _ (decimalOf (n / 10)) _ _ ((48 + n % 10) ∷ []) _ _ (most .ensures) (most .kept .0) (last-put t c .put2 .ensures))
 
 pub +put-number-spec : {M : Type 1} → statement M
-+put-number-spec = close μ-put-number λ t. put-number-lts.spec (
-  put-reads.Asked,
-  put-reads.Learnt,
-  put-number-below t,
-  put-number.Post,
-)
++put-number-spec = close μ-put-number λ t. put-number-lts.spec
+    (claims t)
     (put-number-at t)
     put-number.Post
     (put-number-cast-put t)

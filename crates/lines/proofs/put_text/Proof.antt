@@ -18,6 +18,16 @@ Inv-loop out₀ at text o₀ i₀ out o i = (i ≤ length text) × (length out �
 abbrev μ-loop : tie.MeasureT-loop
 μ-loop out₀ at text o₀ i₀ out o i = length text - i
 
+-- the places before the end of a turn: where its byte was put, and where the loop stood, back to the entry
+abbrev at-put : tie.After-slice-known2 Inv-loop μ-loop → tie.After-put Inv-loop μ-loop
+at-put c = c .before .before
+
+abbrev at-loop : tie.After-slice-known2 Inv-loop μ-loop → tie.At-loop Inv-loop μ-loop
+at-loop c = at-put c .before .before .before .before
+
+abbrev start : tie.At-loop Inv-loop μ-loop → tie.Start Inv-loop μ-loop
+start c = c .before .before .before
+
 loop-holds : tie.Need-loop-holds Inv-loop μ-loop
 loop-holds c = (omega arith, refl, put-none _ _)
 
@@ -35,12 +45,11 @@ loop-less c = omega arith
 
 loop-again : tie.Need-loop-again Inv-loop μ-loop
 loop-again c =
-    let on = c .before .before .before .before .before .before in
-    let call = c .before .before .put in (
+    let on = at-loop c in
+    let call = at-put c .put in (
       omega arith,
       call .kept .0 ∙ on .loop .inv .1,
-      text-turn (now (on .before .before .before .args .text)) _ _ (on .loop .i) (omega arith) _ _ (on .loop .inv .1) _ _ (on .loop .inv .2)
-          (call .ensures),
+      text-turn (now (start on .args .text)) _ _ (on .loop .i) (omega arith) _ _ (on .loop .inv .1) _ _ (on .loop .inv .2) (call .ensures),
     )
 
 same-length : tie.Need-same-length Inv-loop μ-loop
@@ -48,8 +57,9 @@ same-length c = c .before .loop .inv .1
 
 returns : tie.Need-returns Inv-loop μ-loop
 returns c =
-    let h : length (now (c .before .before .before .before .args .text)) ≤ c .before .loop .i = omega arith in
-    rw take-all at (c .before .loop .inv .2)
+    let on = c .before in
+    let h : length (now (start on .args .text)) ≤ on .loop .i = omega arith in
+    rw take-all at (on .loop .inv .2)
 
 pub put-text-spec : {M : Type 1} → statement M
 put-text-spec =

@@ -19,10 +19,23 @@ abbrev μ-loop : tie.MeasureT-loop
 loop-holds : tie.Need-loop-holds Inv-loop μ-loop
 loop-holds c = at-start _ _ (c .before .pre)
 
+-- the places before: where the tens were read, where the line's end was found and where the turn began, back to the entry
+abbrev tens-read : tie.After-wide2 Inv-loop μ-loop → tie.After-wide Inv-loop μ-loop
+tens-read c = c .before .before
+
+abbrev end-found : tie.After-wide2 Inv-loop μ-loop → tie.After-line-end Inv-loop μ-loop
+end-found c = tens-read c .before .before
+
+abbrev in-turn : tie.After-wide2 Inv-loop μ-loop → tie.In-loop Inv-loop μ-loop
+in-turn c = end-found c .before
+
+abbrev start : tie.At-loop Inv-loop μ-loop → tie.Start Inv-loop μ-loop
+start c = c .before .before
+
 -- the line at which a turn of the loop stands
 here :
     (c : tie.In-loop Inv-loop μ-loop) →
-    Turn (c .before .before .before .args .page .now) (c .before .before .before .args .number) (c .before .loop .at)
+    Turn (start (c .before) .args .page .now) (start (c .before) .args .number) (c .before .loop .at)
 here c = turn _ _ _ (c .before .loop .inv) (omega arith)
 
 -- and where it ends
@@ -58,62 +71,56 @@ wide-requires-2 c κs = search needs
 -- the number that its digits say
 said :
     (c : tie.After-wide2 Inv-loop μ-loop) →
-    c .before .before .wide .result * 10 + c .wide2 .result ≡ here (c .before .before .before .before .before) .row .number
+    tens-read c .wide .result * 10 + c .wide2 .result ≡ here (in-turn c) .row .number
 said c =
-    let l = here (c .before .before .before .before .before) .line in
-    omega (arith, c .before .before .wide .ensures, c .wide2 .ensures, l .tens, l .ones)
+    let l = here (in-turn c) .line in
+    omega (arith, tens-read c .wide .ensures, c .wide2 .ensures, l .tens, l .ones)
 
 mul-if1 : tie.Need-mul-if1 Inv-loop μ-loop
 mul-if1 c =
-    let w = c .before .before in
-    omega (arith, w .wide .ensures, w .before .shared-slice-known2 .given (w .before .before .before .before .loop .at))
+    let w = tens-read c in
+    omega (arith, w .wide .ensures, w .before .shared-slice-known2 .given (in-turn c .before .loop .at))
 
 add-if1 : tie.Need-add-if1 Inv-loop μ-loop
 add-if1 c =
-    let w = c .before .before in
-    let at = w .before .before .before .before .loop .at in
+    let w = tens-read c in
+    let at = in-turn c .before .loop .at in
     let byte = w .before .shared-slice-known2 .given in
     omega (arith, w .wide .ensures, byte at, c .wide2 .ensures, byte (at + 1))
 
 add-from : tie.Need-add-from Inv-loop μ-loop
-add-from c = omega (arith, here (c .before .before .before .before .before .before) .line .whole)
+add-from c = omega (arith, here (in-turn (c .before)) .line .whole)
 
 sub-result : tie.Need-sub-result Inv-loop μ-loop
-sub-result c = omega (arith, ended (c .before .before .before .before .before))
+sub-result c = omega (arith, ended (end-found (c .before)))
 
 part-result-start : tie.Need-part-result-start Inv-loop μ-loop
-part-result-start c = omega (arith, ended (c .before .before .before .before .before))
+part-result-start c = omega (arith, ended (end-found (c .before)))
 
 part-result-end : tie.Need-part-result-end Inv-loop μ-loop
-part-result-end c =
-    let e = c .before .before .before .before .before in
-    omega (arith, ended e, here (e .before) .line .whole)
+part-result-end c = omega (arith, ended (end-found (c .before)), here (in-turn (c .before)) .line .whole)
 
 returns : tie.Need-returns Inv-loop μ-loop
 returns c =
     let w = c .before .before in
-    let e = w .before .before .before .before in
-    let h = here (e .before) in
-    let at = e .before .before .loop .at in
+    let e = end-found w in
+    let h = here (in-turn w) in
+    let at = in-turn w .before .loop .at in
     let size : e .line-end .result - (at + 3) ≡ length (ascii (h .row .words)) = omega (arith, ended e) in
     rw size (h .line .words ∙ sym (h .found (sym (c .before .if1 .taken) ∙ said w)))
 
 add-at : tie.Need-add-at Inv-loop μ-loop
-add-at c =
-    let e = c .before .before .before .before .before in
-    omega (arith, ended e, here (e .before) .line .whole)
+add-at c = omega (arith, ended (end-found (c .before)), here (in-turn (c .before)) .line .whole)
 
 loop-less : tie.Need-loop-less Inv-loop μ-loop
-loop-less c =
-    let e = c .before .before .before .before .before in
-    omega (arith, ended e, here (e .before) .line .whole)
+loop-less c = omega (arith, ended (end-found (c .before)), here (in-turn (c .before)) .line .whole)
 
 loop-again : tie.Need-loop-again Inv-loop μ-loop
 loop-again c =
     let w = c .before in
-    let e = w .before .before .before .before in
-    let h = here (e .before) in
-    let at = e .before .before .loop .at in
+    let e = end-found w in
+    let h = here (in-turn w) in
+    let at = in-turn w .before .loop .at in
     let next : at + 3 + (length (ascii (h .row .words)) + 1) ≡ e .line-end .result + 1 = omega (arith, ended e) in
     rw next at (h .passed (λ y. c .if1 .left (said w ∙ sym y)))
 
@@ -129,9 +136,9 @@ part-result-end-2 c = omega arith
 returns-2 : tie.Need-returns-2 Inv-loop μ-loop
 returns-2 c =
     let o = c .before .before in
-    let page = o .before .before .args .page .now in
+    let page = start o .args .page .now in
     let none : length page - o .loop .at ≡ 0 = omega arith in
-    rw none (sym (at-end page (o .before .before .args .number) (o .loop .at) (o .loop .inv) (omega arith)))
+    rw none (sym (at-end page (start o .args .number) (o .loop .at) (o .loop .inv) (omega arith)))
 
 pub words-in-spec : {M : Type 1} → statement M
 words-in-spec =

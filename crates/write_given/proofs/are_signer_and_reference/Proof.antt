@@ -15,7 +15,13 @@ use Rattle.write_given.specs.Tests.{isTextSize}
 use Rattle.write_given.proofs.are_signer_and_reference.Statement.{statement}
 use Rattle.write_given.proofs.are_signer_and_reference.Tie as tie
 
--- where the function starts, from past the size
+-- the places before: from past the signer's test to where the text's length was right and its size was, back to the entry
+abbrev measured-at : tie.After-is-signer → tie.Else2
+measured-at c = c .before .before .before .before .before
+
+abbrev sized-at : tie.After-is-signer → tie.Else1
+sized-at c = measured-at c .before
+
 abbrev start : tie.Else1 → tie.Start
 start c = c .before .before .before
 
@@ -34,9 +40,9 @@ measured c =
 
 signer :
     (c : tie.After-is-signer) →
-    c .is-signer .result ≡ isSigner (take 4 (now (start (c .before .before .before .before .before .before) .args .text)))
+    c .is-signer .result ≡ isSigner (take 4 (now (start (sized-at c) .args .text)))
 signer c =
-    let on = c .before .before .before .before .before .before in
+    let on = sized-at c in
     let l = long on in
     c .is-signer .ensures ∙ ap isSigner (first-four (now (start on .args .text)) (omega arith))
 
@@ -75,16 +81,16 @@ is-signer-requires c κs = search needs
 
 returns-3 : tie.Need-returns-3
 returns-3 c =
-    let on = c .before .before .before .before .before .before in
-    let a = start (on .before) .args in
-    text-signer (a .version) (a .length) (now (a .text)) (size (on .before)) (measured on)
-    (sym (signer (c .before)) ∙ not-true _ (c .if3 .taken))
+    let d = c .before in
+    let on = sized-at d in
+    let a = start on .args in
+    text-signer (a .version) (a .length) (now (a .text)) (size on) (measured (measured-at d)) (sym (signer d) ∙ not-true _ (c .if3 .taken))
 
 sub-all-reference : tie.Need-sub-all-reference
-sub-all-reference c = let l = long (c .before .before .before .before .before .before .before) in omega arith
+sub-all-reference c = let l = long (sized-at (c .before)) in omega arith
 
 part-all-reference-start : tie.Need-part-all-reference-start
-part-all-reference-start c = let l = long (c .before .before .before .before .before .before .before) in omega arith
+part-all-reference-start c = let l = long (sized-at (c .before)) in omega arith
 
 part-all-reference-end : tie.Need-part-all-reference-end
 part-all-reference-end c = search needs
@@ -94,13 +100,14 @@ all-reference-requires c κs = search needs
 
 returns-4 : tie.Need-returns-4
 returns-4 c =
-    let d = c .before .before in
-    let on = d .before .before .before .before .before .before in
-    let a = start (on .before) .args in
+    let e = c .before .before in
+    let d = e .before in
+    let on = sized-at d in
+    let a = start on .args in
     c .all-reference .ensures
     ∙ ap (all isReference) (rest-of 4 (now (a .text)))
-    ∙ text-reference (a .version) (a .length) (now (a .text)) (size (on .before)) (measured on)
-    (sym (signer (d .before)) ∙ not-false _ (d .if3 .left))
+    ∙ text-reference (a .version) (a .length) (now (a .text)) (size on) (measured (measured-at d))
+    (sym (signer d) ∙ not-false _ (e .if3 .left))
 
 pub are-signer-and-reference-spec : {M : Type 1} → statement M
 are-signer-and-reference-spec =

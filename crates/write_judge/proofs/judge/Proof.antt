@@ -27,9 +27,13 @@ use Rattle.write_judge.proofs.judge.Tie as tie
 abbrev whole : tie.Start → Given
 whole s = given (s .args .header) (now (s .args .text)) (now (s .args .rows)) (now (s .args .values)) (now (s .args .signature))
 
+-- where the version's number was asked, back to the entry
+abbrev asked : tie.After-from-number → tie.Start
+asked c = c .before .before .before .before .before
+
 -- from past the version: where the function starts, what was handed over, the room, and the version that the header's number says
 abbrev start : tie.After-known-told → tie.Start
-start k = k .before .before .before .before .before .before .before .before
+start k = asked (k .before .before .before)
 
 abbrev all-of : tie.After-known-told → Given
 all-of k = whole (start k)
@@ -40,24 +44,40 @@ room k = start k .args .room
 abbrev ver : tie.After-known-told → Version
 ver k = k .before .version .given .0 .0
 
--- back to there from past each test
+-- from past each test to past the one before it
+abbrev names : tie.Else2 → tie.Else1
+names c = c .before .before
+
+abbrev days : tie.Else3 → tie.Else2
+days c = c .before .before
+
+abbrev last : tie.Else4 → tie.Else3
+last c = c .before .before
+
+abbrev rows : tie.Else5 → tie.Else4
+rows c = c .before .before
+
+abbrev values : tie.Else6 → tie.Else5
+values c = c .before .before
+
+-- and to past the version
 abbrev k1 : tie.Else1 → tie.After-known-told
 k1 c = c .before .before
 
 abbrev k2 : tie.Else2 → tie.After-known-told
-k2 c = k1 (c .before .before)
+k2 c = k1 (names c)
 
 abbrev k3 : tie.Else3 → tie.After-known-told
-k3 c = k2 (c .before .before)
+k3 c = k2 (days c)
 
 abbrev k4 : tie.Else4 → tie.After-known-told
-k4 c = k3 (c .before .before)
+k4 c = k3 (last c)
 
 abbrev k5 : tie.Else5 → tie.After-known-told
-k5 c = k4 (c .before .before)
+k5 c = k4 (rows c)
 
 abbrev k6 : tie.Else6 → tie.After-known-told
-k6 c = k5 (c .before .before)
+k6 c = k5 (values c)
 
 -- what the tests passed say
 pass-0 : (k : tie.After-known-told) → versionOf (all-of k .header .version) ≡ some (ver k)
@@ -87,13 +107,10 @@ seal k = length (publish (contentAs (all-of k) (ver k)))
 
 measured : (c : tie.After-seal-size) → c .seal-size .result ≡ min (seal (k6 (c .before))) 4097
 measured c =
-    let e = c .before in
-    let k = k6 e in
+    let e = rows (values (c .before)) in
+    let k = k4 e in
     c .seal-size .ensures
-    ∙ ap (λ n. min n 4097)
-    (sym
-    (seal-size (ver k) (all-of k) (pass-1 (e .before .before .before .before .before .before .before .before .before .before))
-    (pass-4 (e .before .before .before .before))))
+    ∙ ap (λ n. min n 4097) (sym (seal-size (ver k) (all-of k) (pass-1 (names (days (last e)))) (pass-4 e)))
 
 from-number-requires : tie.Need-from-number-requires
 from-number-requires c κs = search needs
@@ -106,7 +123,7 @@ enum-told c = search needs
 
 returns : tie.Need-returns
 returns c =
-    let s = c .before .before .before .before .before .before .before in
+    let s = asked (c .before .before) in
     sym
     (ap told
     (writing-version (whole s) (s .args .room) (sym (c .before .before .from-number .ensures) ∙ ap statedOf (c .enum-told .given .1))))
@@ -140,7 +157,7 @@ returns-4 c =
     let k = k2 e in
     sym
     (ap told
-    (writing-last (all-of k) (room k) (ver k) (pass-0 k) (pass-1 (e .before .before)) (pass-2 e)
+    (writing-last (all-of k) (room k) (ver k) (pass-0 k) (pass-1 (names e)) (pass-2 e)
     (sym (c .before .are-last .ensures) ∙ not-true _ (c .if3 .taken))))
 
 are-rows-requires : tie.Need-are-rows-requires
@@ -148,12 +165,12 @@ are-rows-requires c κs = search needs
 
 returns-5 : tie.Need-returns-5
 returns-5 c =
-    let e = c .before .before in
-    let k = k3 e in
+    let d = c .before .before in
+    let k = k3 d in
     sym
     (ap told
-    (writing-rows (all-of k) (room k) (ver k) (pass-0 k) (pass-1 (e .before .before .before .before)) (pass-2 (e .before .before))
-    (pass-3 e) (sym (c .before .are-rows .ensures) ∙ not-true _ (c .if4 .taken))))
+    (writing-rows (all-of k) (room k) (ver k) (pass-0 k) (pass-1 (names (days d))) (pass-2 (days d)) (pass-3 d)
+    (sym (c .before .are-rows .ensures) ∙ not-true _ (c .if4 .taken))))
 
 are-values-requires : tie.Need-are-values-requires
 are-values-requires c κs = search needs
@@ -161,12 +178,12 @@ are-values-requires c κs = search needs
 returns-6 : tie.Need-returns-6
 returns-6 c =
     let e = c .before .before in
-    let d = e .before .before in
+    let d = last e in
     let k = k4 e in
     sym
     (ap told
-    (writing-values (all-of k) (room k) (ver k) (pass-0 k) (pass-1 (d .before .before .before .before)) (pass-2 (d .before .before))
-    (pass-3 d) (pass-4 e) (sym (c .before .are-values .ensures) ∙ not-true _ (c .if5 .taken))))
+    (writing-values (all-of k) (room k) (ver k) (pass-0 k) (pass-1 (names (days d))) (pass-2 (days d)) (pass-3 d)
+    (pass-4 e) (sym (c .before .are-values .ensures) ∙ not-true _ (c .if5 .taken))))
 
 is-signature-requires : tie.Need-is-signature-requires
 is-signature-requires c κs = search needs
@@ -174,13 +191,13 @@ is-signature-requires c κs = search needs
 returns-7 : tie.Need-returns-7
 returns-7 c =
     let f = c .before .before in
-    let e = f .before .before in
-    let d = e .before .before in
+    let e = rows f in
+    let d = last e in
     let k = k5 f in
     sym
     (ap told
-    (writing-signature (all-of k) (room k) (ver k) (pass-0 k) (pass-1 (d .before .before .before .before)) (pass-2 (d .before .before))
-    (pass-3 d) (pass-4 e) (pass-5 f) (sym (c .before .is-signature .ensures) ∙ not-true _ (c .if6 .taken))))
+    (writing-signature (all-of k) (room k) (ver k) (pass-0 k) (pass-1 (names (days d))) (pass-2 (days d)) (pass-3 d)
+    (pass-4 e) (pass-5 f) (sym (c .before .is-signature .ensures) ∙ not-true _ (c .if6 .taken))))
 
 seal-size-requires : tie.Need-seal-size-requires
 seal-size-requires c κs = search needs
@@ -188,27 +205,27 @@ seal-size-requires c κs = search needs
 returns-8 : tie.Need-returns-8
 returns-8 c =
     let h = c .before .before in
-    let f = h .before .before in
-    let e = f .before .before in
-    let d = e .before .before in
+    let f = values h in
+    let e = rows f in
+    let d = last e in
     let k = k6 h in
     sym
     (ap told
-    (writing-long (all-of k) (room k) (ver k) (pass-0 k) (pass-1 (d .before .before .before .before)) (pass-2 (d .before .before))
-    (pass-3 d) (pass-4 e) (pass-5 f) (pass-6 h) (omega (arith, measured (c .before)))))
+    (writing-long (all-of k) (room k) (ver k) (pass-0 k) (pass-1 (names (days d))) (pass-2 (days d)) (pass-3 d)
+    (pass-4 e) (pass-5 f) (pass-6 h) (omega (arith, measured (c .before)))))
 
 returns-9 : tie.Need-returns-9
 returns-9 c =
     let h = c .before .before .before in
-    let f = h .before .before in
-    let e = f .before .before in
-    let d = e .before .before in
+    let f = values h in
+    let e = rows f in
+    let d = last e in
     let k = k6 h in
     let m = measured (c .before .before) in
     sym
     (ap told
-    (writing-no-room (all-of k) (room k) (ver k) (pass-0 k) (pass-1 (d .before .before .before .before)) (pass-2 (d .before .before))
-    (pass-3 d) (pass-4 e) (pass-5 f) (pass-6 h) (omega (arith, m)) (omega (arith, m))))
+    (writing-no-room (all-of k) (room k) (ver k) (pass-0 k) (pass-1 (names (days d))) (pass-2 (days d)) (pass-3 d)
+    (pass-4 e) (pass-5 f) (pass-6 h) (omega (arith, m)) (omega (arith, m))))
 
 -- done, with so many bytes
 counted : ℕ → Answer
@@ -218,17 +235,17 @@ returns-10 : tie.Need-returns-10
 unfolding counted
 returns-10 c =
     let h = c .before .before .before in
-    let f = h .before .before in
-    let e = f .before .before in
-    let d = e .before .before in
+    let f = values h in
+    let e = rows f in
+    let d = last e in
     let k = k6 h in
     let m = measured (c .before .before) in
     let all : c .before .before .seal-size .result ≡ seal k = omega (arith, m) in
     ap counted all
     ∙ sym
     (ap told
-    (writing-done (all-of k) (room k) (ver k) (pass-0 k) (pass-1 (d .before .before .before .before)) (pass-2 (d .before .before))
-    (pass-3 d) (pass-4 e) (pass-5 f) (pass-6 h) (omega (arith, m)) (omega (arith, m))))
+    (writing-done (all-of k) (room k) (ver k) (pass-0 k) (pass-1 (names (days d))) (pass-2 (days d)) (pass-3 d)
+    (pass-4 e) (pass-5 f) (pass-6 h) (omega (arith, m)) (omega (arith, m))))
 
 pub judge-spec : {M : Type 1} → statement M
 judge-spec =

@@ -3,12 +3,20 @@
 use borrow.Author.Needs.{needs}
 use native.Mathlib.Omega.{arith}
 use mathlib.Core.Path.{_∙_}
-use mathlib.Core.List.{[], _∷_}
+use Prim.Native.Nat.{ℕ}
+use mathlib.Core.List.{List, [], _∷_}
 use denote.Ref.{now}
 use lib.ListN.{getD}
 use Rattle.write_text.specs.Coded.Laws.{six-not, six-all}
 use Rattle.write_text.proofs.first_six.Statement.{statement}
 use Rattle.write_text.proofs.first_six.Tie as tie
+
+-- the places before: from the last digit to where the text was long enough, back to the entry
+abbrev long-enough : tie.After-hex-digit → tie.Else1
+long-enough c = c .before .before .before .before .before
+
+abbrev text : tie.After-hex-digit → List ℕ
+text c = now (long-enough c .before .before .args .text)
 
 returns : tie.Need-returns
 returns c = six-not (now (c .before .before .args .text)) (omega arith)
@@ -33,7 +41,7 @@ hex-digit-requires-2 c κs = search needs
 
 returns-2 : tie.Need-returns-2
 returns-2 c =
-    let t = now (c .before .before .before .before .before .before .before .before .args .text) in
+    let t = text (c .before) in
     (λ i. getD t 0 0 ∷ getD t 1 0 ∷ getD t 2 0 ∷ getD t 3 0 ∷ c .before .hex-digit .ensures i ∷ c .hex-digit2 .ensures i ∷ [])
     ∙ six-all t (omega arith)
 

@@ -3,7 +3,8 @@
 use borrow.Author.Needs.{needs}
 use native.Mathlib.Omega.{arith}
 use mathlib.Core.Path.{_≡_, _∙_, ap}
-use Prim.Native.Nat.{_-_}
+use Prim.Native.Nat.{ℕ, _-_}
+use mathlib.Core.List.{List}
 use denote.Ref.{now}
 use lib.ListN.{length, take, drop, length-drop}
 use lib.Seq.{take-all}
@@ -17,14 +18,29 @@ Inv-loop text out₀ start n at₀ i₀ out at i = Texting text out₀ start out
 abbrev μ-loop : tie.MeasureT-loop
 μ-loop text out₀ start n at₀ i₀ out at i = length text - i
 
+-- the loop, back to the entry
+abbrev text : tie.At-loop Inv-loop μ-loop → List ℕ
+text c = now (c .before .before .before .args .text)
+
+-- where three characters or those left over were packed, back to the loop
+abbrev from-three : tie.After-number-of Inv-loop μ-loop → tie.At-loop Inv-loop μ-loop
+from-three c = c .before .before .before .before .before
+
+abbrev from-left : tie.After-number-of-left Inv-loop μ-loop → tie.At-loop Inv-loop μ-loop
+from-left c = c .before .before .before .before
+
+-- where their number was put down, back to where they were packed
+abbrev three : tie.After-slice-known2 Inv-loop μ-loop → tie.After-number-of Inv-loop μ-loop
+three c = c .before .before .before .before
+
+abbrev last : tie.After-slice-known3 Inv-loop μ-loop → tie.After-number-of-left Inv-loop μ-loop
+last c = c .before .before .before .before
+
 -- the part that is lent is what is left
 left :
     (on : tie.At-loop Inv-loop μ-loop) →
-    let text =
-    now (on .before .before .before .args .text) in take (length text - on .loop .i) (drop (on .loop .i) text) ≡ drop (on .loop .i) text
-left on =
-    let text = now (on .before .before .before .args .text) in
-    take-all (length text - on .loop .i) (drop (on .loop .i) text) (omega (arith, length-drop (on .loop .i) text))
+    take (length (text on) - on .loop .i) (drop (on .loop .i) (text on)) ≡ drop (on .loop .i) (text on)
+left on = take-all (length (text on) - on .loop .i) (drop (on .loop .i) (text on)) (omega (arith, length-drop (on .loop .i) (text on)))
 
 loop-holds : tie.Need-loop-holds Inv-loop μ-loop
 loop-holds c = let s = c .before .before in texting-start (now (s .args .text)) (now (s .args .out)) (s .args .start) (s .pre)
@@ -52,7 +68,7 @@ number-of-requires c κs = search needs
 
 put-number-requires : tie.Need-put-number-requires Inv-loop μ-loop
 put-number-requires c κs =
-    let on = c .before .before .before .before .before .before in
+    let on = from-three (c .before) in
     (omega (arith, c .before .number-of .ensures .1), texting-room _ _ _ _ _ _ (on .loop .inv) (omega arith))
 
 add-i : tie.Need-add-i Inv-loop μ-loop
@@ -63,8 +79,8 @@ loop-less c = omega arith
 
 loop-again : tie.Need-loop-again Inv-loop μ-loop
 loop-again c =
-    let on = c .before .before .before .before .before .before .before .before .before in
-    let packed = c .before .before .before .before .number-of in
+    let on = from-three (three c) in
+    let packed = three c .number-of in
     let put = c .before .before .put-number in
     texting-more _ _ _ _ _ _ (on .loop .inv) (omega arith) (packed .result) (packed .ensures .0) _ _ (put .ensures .0) (put .ensures .1)
 
@@ -80,24 +96,21 @@ part-number-of-left-end c = omega arith
 number-of-left-requires : tie.Need-number-of-left-requires Inv-loop μ-loop
 number-of-left-requires c κs =
     let on = c .before .before .before in
-    let text = now (on .before .before .before .args .text) in
-    let many = ap length (left on) ∙ length-drop (on .loop .i) text in
+    let many = ap length (left on) ∙ length-drop (on .loop .i) (text on) in
     (omega (arith, many), omega (arith, many))
 
 put-number-requires-2 : tie.Need-put-number-requires-2 Inv-loop μ-loop
 put-number-requires-2 c κs =
-    let on = c .before .before .before .before .before in
+    let on = from-left (c .before) in
     (c .before .number-of-left .ensures .1, texting-room _ _ _ _ _ _ (on .loop .inv) (omega arith))
 
 same-length : tie.Need-same-length Inv-loop μ-loop
-same-length c =
-    let on = c .before .before .before .before .before .before .before .before in
-    c .before .before .put-number2 .kept .1 .0 ∙ texting-length _ _ _ _ _ _ (on .loop .inv)
+same-length c = c .before .before .put-number2 .kept .1 .0 ∙ texting-length _ _ _ _ _ _ (from-left (last c) .loop .inv)
 
 returns : tie.Need-returns Inv-loop μ-loop
 returns c =
-    let on = c .before .before .before .before .before .before .before .before in
-    let form = c .before .before .before .before .number-of-left in
+    let on = from-left (last c) in
+    let form = last c .number-of-left in
     let put = c .before .before .put-number2 in
     texting-last _ _ _ _ _ _ (on .loop .inv) (form .result) _ (left on) (form .ensures .0) _ _ (put .ensures .0) (put .ensures .1)
 

@@ -10,6 +10,10 @@ use Rattle.write_text.specs.Coded.Laws.{length-coded}
 use Rattle.write_text.proofs.put_text.Statement.{statement}
 use Rattle.write_text.proofs.put_text.Tie as tie
 
+-- the places before: from where there is room, back to the entry
+abbrev start : tie.Else2 → tie.Start
+start c = c .before .before .before .before
+
 returns : tie.Need-returns
 returns c =
     let a = c .before .before .before .args in
@@ -30,14 +34,14 @@ returns-2 c =
     (reached-not bytes (now (a .out)) (a .at) (omega arith), copied-not bytes (now (a .out)) (a .at) (omega arith))
 
 put-pairs-requires : tie.Need-put-pairs-requires
-put-pairs-requires c κs = omega (arith, length-coded (now (c .before .before .before .before .before .args .text)))
+put-pairs-requires c κs = omega (arith, length-coded (now (start (c .before) .args .text)))
 
 same-length : tie.Need-same-length
 same-length c = search needs
 
 returns-3 : tie.Need-returns-3
 returns-3 c =
-    let a = c .before .before .before .before .before .before .before .before .args in
+    let a = start (c .before .before .before .before) .args in
     let p = c .before .before .put-pairs in
     let bytes = coded (now (a .text)) in
     let many = length-coded (now (a .text)) in (

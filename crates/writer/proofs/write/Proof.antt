@@ -50,16 +50,23 @@ not-done write.TooLong k z = absurd (omega arith)
 not-done write.NoRoom k z = absurd (omega arith)
 
 -- from past the judging: where the function starts, and all that was handed over
+abbrev entry : tie.After-slice-known → tie.Start
+entry c = c .before .before .before .before .before
+
 abbrev start : tie.After-judge → tie.Start
-start c = c .before .before .before .before .before .before
+start c = entry (c .before)
 
 abbrev whole : tie.After-judge → Given
 whole c =
     let a = start c .args in given (a .header) (now (a .text)) (now (a .rows)) (now (a .values)) (now (a .signature))
 
+-- from where the version was asked: the judging
+abbrev done : tie.After-from-number → tie.After-judge
+done c = c .before .before .before
+
 -- from past the version: the judging, the version, and that every test is passed
 abbrev judged : tie.After-known-told → tie.After-judge
-judged k = k .before .before .before .before .before .before
+judged k = done (k .before .before .before)
 
 abbrev ver : tie.After-known-told → Version
 ver k = k .before .version .given .0 .0
@@ -98,7 +105,7 @@ enum-told-2 c = search needs
 
 returns-2 : tie.Need-returns-2
 returns-2 c =
-    let j = c .before .before .before .before .before in
+    let j = done (c .before .before) in
     let out = now (start j .args .out) in (
       j .judge .ensures,
       sym

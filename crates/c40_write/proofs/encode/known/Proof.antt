@@ -30,17 +30,22 @@ value-of-requires c κs = search needs
 element-copy-out-if1 : tie.Need-element-copy-out-if1 Inv-loop μ-loop
 element-copy-out-if1 c = omega arith
 
+-- the places before: the loop, back to the entry
+abbrev at-loop : tie.After-if12 Inv-loop μ-loop → tie.At-loop Inv-loop μ-loop
+at-loop c = c .before .before .before .before
+
+abbrev start : tie.At-loop Inv-loop μ-loop → tie.Start Inv-loop μ-loop
+start c = c .before .before
+
 -- what the chart has at the character's value
 found :
     (c : tie.After-if12 Inv-loop μ-loop) →
-    getD (c .before .before .before .before .before .before .args .chart .now) (c .before .value-of .result) 0
-    ≡ char
-    (valueOf (getD (c .before .before .before .before .before .before .args .text .now) (c .before .before .before .before .loop .i) 0))
-found c = entry _ _ _ (c .before .before .before .before .before .before .pre) (c .before .value-of .ensures .0)
+    getD (start (at-loop c) .args .chart .now) (c .before .value-of .result) 0
+    ≡ char (valueOf (getD (start (at-loop c) .args .text .now) (at-loop c .loop .i) 0))
+found c = entry _ _ _ (start (at-loop c) .pre) (c .before .value-of .ensures .0)
 
 returns : tie.Need-returns Inv-loop μ-loop
-returns c =
-    known-here _ _ (omega arith) (λ i. c .if1 .taken (found (c .before) ∙ i)) (c .before .before .before .before .before .loop .inv .1)
+returns c = known-here _ _ (omega arith) (λ i. c .if1 .taken (found (c .before) ∙ i)) (at-loop (c .before) .loop .inv .1)
 
 add-i : tie.Need-add-i Inv-loop μ-loop
 add-i c = omega arith
@@ -49,10 +54,8 @@ loop-less : tie.Need-loop-less Inv-loop μ-loop
 loop-less c = omega arith
 
 loop-again : tie.Need-loop-again Inv-loop μ-loop
-loop-again c = (
-  omega arith,
-  known-more _ _ (omega arith) (sym (found (c .before)) ∙ c .if1 .left) (c .before .before .before .before .before .loop .inv .1),
-)
+loop-again c =
+    (omega arith, known-more _ _ (omega arith) (sym (found (c .before)) ∙ c .if1 .left) (at-loop (c .before) .loop .inv .1))
 
 returns-2 : tie.Need-returns-2 Inv-loop μ-loop
 returns-2 c = known-end _ _ (omega arith) (c .before .loop .inv .1)

@@ -32,34 +32,57 @@ Inv-loop text out₀ n i₀ at₀ out i at =
 abbrev μ-loop : tie.MeasureT-loop
 μ-loop text out₀ n i₀ at₀ out i at = length text - i
 
+-- the loop, back to the entry
+abbrev start : tie.At-loop Inv-loop μ-loop → tie.Start Inv-loop μ-loop
+start c = c .before .before .before
+
+abbrev text : tie.At-loop Inv-loop μ-loop → List ℕ
+text c = now (start c .args .text)
+
+abbrev out : tie.At-loop Inv-loop μ-loop → List ℕ
+out c = now (start c .args .out)
+
+-- where three characters, two or one were packed, back to the loop
+abbrev from-three : tie.After-number-of Inv-loop μ-loop → tie.At-loop Inv-loop μ-loop
+from-three c = c .before .before .before .before .before
+
+abbrev from-two : tie.After-number-of-two Inv-loop μ-loop → tie.At-loop Inv-loop μ-loop
+from-two c = c .before .before .before .before .before
+
+abbrev from-one : tie.After-number-of-one Inv-loop μ-loop → tie.At-loop Inv-loop μ-loop
+from-one c = c .before .before .before .before .before
+
+-- where their number was put down, back to where they were packed
+abbrev three : tie.After-slice-known2 Inv-loop μ-loop → tie.After-number-of Inv-loop μ-loop
+three c = c .before .before .before .before
+
+abbrev two : tie.After-slice-known3 Inv-loop μ-loop → tie.After-number-of-two Inv-loop μ-loop
+two c = c .before .before .before .before
+
+abbrev one : tie.After-slice-known4 Inv-loop μ-loop → tie.After-number-of-one Inv-loop μ-loop
+one c = c .before .before .before .before
+
 -- where a character is left there is room for two bytes
 room :
     (c : tie.At-loop Inv-loop μ-loop) →
-    c .loop .i < length (now (c .before .before .before .args .text)) →
-    (c .loop .at + 2 ≤ length (now (c .before .before .before .args .out)))
-    × (length (c .loop .out) ≡ length (now (c .before .before .before .args .out)))
+    c .loop .i < length (text c) →
+    (c .loop .at + 2 ≤ length (out c)) × (length (c .loop .out) ≡ length (out c))
 room c h =
-    let fits : c .loop .at + 2 ≤ length (now (c .before .before .before .args .out)) = omega (arith, c .before .before .before .pre .1) in
+    let fits : c .loop .at + 2 ≤ length (out c) = omega (arith, start c .pre .1) in
     (fits, held-length _ _ _ _ (c .loop .inv .5) (omega arith))
 
 -- two bytes more, which are the form of what stands at the place
-module _ (c : tie.At-loop Inv-loop μ-loop) (h : c .loop .i < length (now (c .before .before .before .args .text))) (number : ℕ)
-    (after : List ℕ) (put : after ≡ over (c .loop .out) (c .loop .at) (be 2 number)) where
-  more : Held (now (c .before .before .before .args .out)) after (c .loop .at + 2) (c .loop .inv .3 ++ be 2 number)
+module _ (c : tie.At-loop Inv-loop μ-loop) (h : c .loop .i < length (text c)) (number : ℕ) (after : List ℕ)
+    (put : after ≡ over (c .loop .out) (c .loop .at) (be 2 number)) where
+  more : Held (out c) after (c .loop .at + 2) (c .loop .inv .3 ++ be 2 number)
   more = held-more _ _ _ _ (c .loop .inv .5) (be 2 number) after _ put (ap (λ k. c .loop .at + k) (length-be 2 number)) (room c h .0)
 
-  ends :
-      publish (drop (c .loop .i) (now (c .before .before .before .args .text))) ≡ be 2 number →
-      after ≡ over (now (c .before .before .before .args .out)) 0 (publish (now (c .before .before .before .args .text)))
-  ends e =
-      more .is ∙ ap (over (now (c .before .before .before .args .out)) 0) (ap (λ p. c .loop .inv .3 ++ p) (sym e) ∙ sym (c .loop .inv .4))
+  ends : publish (drop (c .loop .i) (text c)) ≡ be 2 number → after ≡ over (out c) 0 (publish (text c))
+  ends e = more .is ∙ ap (over (out c) 0) (ap (λ p. c .loop .inv .3 ++ p) (sym e) ∙ sym (c .loop .inv .4))
 
 -- a character that is left is at most 90
-low :
-    (c : tie.At-loop Inv-loop μ-loop) →
-    c .loop .i < length (now (c .before .before .before .args .text)) →
-    getD (now (c .before .before .before .args .text)) (c .loop .i) 0 < 91
-low c h = char-below _ (all-at InChart 0 (now (c .before .before .before .args .text)) (c .before .before .before .pre .0) (c .loop .i) h)
+low : (c : tie.At-loop Inv-loop μ-loop) → c .loop .i < length (text c) → getD (text c) (c .loop .i) 0 < 91
+low c h = char-below _ (all-at InChart 0 (text c) (start c .pre .0) (c .loop .i) h)
 
 loop-holds : tie.Need-loop-holds Inv-loop μ-loop
 loop-holds c = (omega arith, omega arith, omega arith, [], refl, held-start _)
@@ -87,8 +110,7 @@ number-of-requires c κs = search needs
 
 put-number-requires : tie.Need-put-number-requires Inv-loop μ-loop
 put-number-requires c κs =
-    let on = c .before .before .before .before .before .before in
-    let r = room on (omega arith) in
+    let r = room (from-three (c .before)) (omega arith) in
     (omega arith, omega arith)
 
 add-i : tie.Need-add-i Inv-loop μ-loop
@@ -102,11 +124,10 @@ loop-less c = omega arith
 
 loop-again : tie.Need-loop-again Inv-loop μ-loop
 loop-again c =
-    let packed = c .before .before .before .before .number-of in
-    let on = c .before .before .before .before .before .before .before .before .before in
-    let text = now (on .before .before .before .args .text) in
-    let whole = left-three text (on .loop .i) (omega arith) in
-    let rest = publish (drop (on .loop .i + 3) text) in (
+    let packed = three c .number-of in
+    let on = from-three (three c) in
+    let whole = left-three (text on) (on .loop .i) (omega arith) in
+    let rest = publish (drop (on .loop .i + 3) (text on)) in (
       omega arith,
       omega arith,
       omega arith,
@@ -134,8 +155,7 @@ number-of-two-requires c κs = search needs
 
 put-number-requires-2 : tie.Need-put-number-requires-2 Inv-loop μ-loop
 put-number-requires-2 c κs =
-    let on = c .before .before .before .before .before .before in
-    let r = room on (omega arith) in
+    let r = room (from-two (c .before)) (omega arith) in
     (omega arith, omega arith)
 
 shared-slice-read-number-of-one : tie.Need-shared-slice-read-number-of-one Inv-loop μ-loop
@@ -146,50 +166,44 @@ number-of-one-requires c κs = search needs
 
 put-number-requires-3 : tie.Need-put-number-requires-3 Inv-loop μ-loop
 put-number-requires-3 c κs =
-    let on = c .before .before .before .before .before .before in
+    let on = from-one (c .before) in
     let r = room on (omega arith) in
     let code = low on (omega arith) in
     (omega arith, omega arith)
 
 same-length : tie.Need-same-length Inv-loop μ-loop
-same-length c =
-    let on = c .before .before .before .before .before .before .before .before .before in
-    c .before .before .put-number2 .kept .1 .0 ∙ room on (omega arith) .1
+same-length c = c .before .before .put-number2 .kept .1 .0 ∙ room (from-two (two c)) (omega arith) .1
 
 returns : tie.Need-returns Inv-loop μ-loop
 returns c =
-    let on = c .before .before .before .before .before .before .before .before .before in
-    let text = now (on .before .before .before .args .text) in
-    let packed = c .before .before .before .before .number-of-two in
+    let packed = two c .number-of-two in
+    let on = from-two (two c) in
     ends on (omega arith) (packed .result) _ (c .before .before .put-number2 .ensures)
-    (left-two text (on .loop .i) (omega arith) ∙ ap (be 2) (sym (packed .ensures .0)))
+    (left-two (text on) (on .loop .i) (omega arith) ∙ ap (be 2) (sym (packed .ensures .0)))
 
 same-length-2 : tie.Need-same-length-2 Inv-loop μ-loop
-same-length-2 c =
-    let on = c .before .before .before .before .before .before .before .before .before in
-    c .before .before .put-number3 .kept .1 .0 ∙ room on (omega arith) .1
+same-length-2 c = c .before .before .put-number3 .kept .1 .0 ∙ room (from-one (one c)) (omega arith) .1
 
 returns-2 : tie.Need-returns-2 Inv-loop μ-loop
 returns-2 c =
-    let on = c .before .before .before .before .before .before .before .before .before in
-    let text = now (on .before .before .before .args .text) in
+    let packed = one c .number-of-one in
+    let on = from-one (one c) in
     let code = low on (omega arith) in
-    let packed = c .before .before .before .before .number-of-one in
     ends on (omega arith) (packed .result) _ (c .before .before .put-number3 .ensures)
-    (left-one text (on .loop .i) (omega arith) (omega arith) ∙ ap (be 2) (sym (packed .ensures)))
+    (left-one (text on) (on .loop .i) (omega arith) (omega arith) ∙ ap (be 2) (sym (packed .ensures)))
 
 same-length-3 : tie.Need-same-length-3 Inv-loop μ-loop
 same-length-3 c =
     let on = c .before .before .before in
-    held-length _ _ _ _ (on .loop .inv .5) (omega (arith, on .before .before .before .pre .1))
+    held-length _ _ _ _ (on .loop .inv .5) (omega (arith, start on .pre .1))
 
 returns-3 : tie.Need-returns-3 Inv-loop μ-loop
 returns-3 c =
     let on = c .before .before .before in
-    let text = now (on .before .before .before .args .text) in
     on .loop .inv .5 .is
-    ∙ ap (over (now (on .before .before .before .args .out)) 0)
-    (sym (on .loop .inv .4 ∙ ap (λ p. on .loop .inv .3 ++ p) (left-none text (on .loop .i) (omega arith)) ∙ append-nil (on .loop .inv .3)))
+    ∙ ap (over (out on) 0)
+    (sym
+    (on .loop .inv .4 ∙ ap (λ p. on .loop .inv .3 ++ p) (left-none (text on) (on .loop .i) (omega arith)) ∙ append-nil (on .loop .inv .3)))
 
 pub put-spec : {M : Type 1} → statement M
 put-spec =

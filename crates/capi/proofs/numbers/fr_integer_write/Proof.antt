@@ -11,6 +11,13 @@ use Rattle.face.specs.Face.{filledOf}
 use Rattle.capi.proofs.numbers.fr_integer_write.Statement.{statement}
 use Rattle.capi.proofs.numbers.fr_integer_write.Tie as tie
 
+-- the places before: the call beneath, back to the entry
+abbrev call : tie.After-integer-written → tie.After-write
+call c = c .before .before .before
+
+abbrev start : tie.After-write → tie.Start
+start c = c .before .before .before
+
 write-requires : tie.Need-write-requires
 write-requires c κs = search needs
 
@@ -22,8 +29,8 @@ same-length c = search needs
 
 returns : tie.Need-returns
 returns c =
-    let s = c .before .before .before .before .before .before in
-    let w = c .before .before .before .write .ensures in
+    let s = start (call c) in
+    let w = call c .write .ensures in
     let e = toZ-ofZ (s .fits .value) in
     let out = now (s .args .out) in (
       c .integer-written .ensures ∙ ap filledOf (w .0 ∙ ap (λ v. told (writing v (length out))) e),

@@ -12,6 +12,16 @@ use Rattle.face.specs.Face.{filledOf}
 use Rattle.capi.proofs.seals.fr_write.Statement.{statement}
 use Rattle.capi.proofs.seals.fr_write.Tie as tie
 
+-- the places before: the call beneath and the header's inner form, back to the entry
+abbrev call : tie.After-written → tie.After-write
+call c = c .before .before .before
+
+abbrev inner : tie.After-write → tie.After-inner
+inner c = c .before .before
+
+abbrev start : tie.After-slice-known → tie.Start
+start c = c .before .before .before .before .before
+
 -- what is written of what was handed over, under a header
 abbrev outcome : tie.Start → Header → Outcome
 outcome s h =
@@ -32,9 +42,9 @@ same-length c = search needs
 
 returns : tie.Need-returns
 returns c =
-    let i = c .before .before .before .before .before in
-    let w = c .before .before .before .write .ensures in
-    let s = i .before .before .before .before .before .before in (
+    let w = call c .write .ensures in
+    let i = inner (call c) in
+    let s = start (i .before) in (
       c .written .ensures ∙ ap filledOf (w .0 ∙ ap (λ h. told (outcome s h)) (i .inner .ensures)),
       w .1 ∙ ap (λ h. filled (outcome s h) (now (s .args .out))) (i .inner .ensures),
     )

@@ -20,13 +20,27 @@ use Rattle.write_judge.specs.Size.{names-three}
 use Rattle.writer.proofs.names.put_names.Statement.{statement}
 use Rattle.writer.proofs.names.put_names.Tie as tie
 
+-- the places before: in version 3, back to the entry
+abbrev start-three : tie.After-enum-told → tie.Start
+start-three c = c .before .before .before .before
+
+-- and in version 4: where the first six characters were put, where they were made and where the version was told, back to the entry
+abbrev six-put : tie.After-slice-known3 → tie.After-put-text2
+six-put c = c .before .before
+
+abbrev six-made : tie.After-put-text2 → tie.After-first-six
+six-made c = c .before .before .before
+
+abbrev start : tie.After-enum-told2 → tie.Start
+start c = c .before .before .before .before
+
 -- the text in version 4
 abbrev text : tie.After-enum-told2 → List ℕ
-text c = now (c .before .before .before .before .args .text)
+text c = now (start c .args .text)
 
 long : (c : tie.After-enum-told2) → 5 ≤ length (text c)
 long c =
-    let s = c .before .before .before .before in
+    let s = start c in
     size-four (s .args .version) (length (text c)) (c .enum-told2 .given .1) (s .pre .0 .size) .0
 
 -- the part that is lent is the reference
@@ -43,11 +57,13 @@ same-length : tie.Need-same-length
 same-length c = search needs
 
 returns : tie.Need-returns
-returns c = let s = c .before .before .before .before .before .before .before .before in
+returns c =
+    let told = c .before .before .before .before in
+    let s = start-three told in
     let a = s .args in
     let t = now (a .text) in
     let p = c .before .before .put-text in
-    let e = names-three (a .version) t (c .before .before .before .before .enum-told .given .1) in
+    let e = names-three (a .version) t (told .enum-told .given .1) in
     let put =
     text-put t (now (a .out)) (a .at) _ _ (named-text (a .version) t (s .pre .0))
     (subst (Room (now (a .out)) (a .at)) e (s .pre .1)) (p .ensures .0) (p .ensures .1) in
@@ -66,10 +82,10 @@ put-text-requires-2 : tie.Need-put-text-requires-2
 put-text-requires-2 c κs = search needs
 
 sub-put-text : tie.Need-sub-put-text
-sub-put-text c = let l = long (c .before .before .before .before .before .before) in omega arith
+sub-put-text c = let l = long (six-made (six-put c) .before) in omega arith
 
 part-put-text-start : tie.Need-part-put-text-start
-part-put-text-start c = let l = long (c .before .before .before .before .before .before) in omega arith
+part-put-text-start c = let l = long (six-made (six-put c) .before) in omega arith
 
 part-put-text-end : tie.Need-part-put-text-end
 part-put-text-end c = search needs
@@ -81,12 +97,15 @@ same-length-2 : tie.Need-same-length-2
 same-length-2 c = search needs
 
 returns-2 : tie.Need-returns-2
-returns-2 c = let told = c .before .before .before .before .before .before .before .before .before .before .before in
-    let s = told .before .before .before .before in
+returns-2 c =
+    let last = c .before .before in
+    let first = six-put (last .before .before .before) in
+    let told = six-made first .before in
+    let s = start told in
     let a = s .args in
-    let six = c .before .before .before .before .before .before .before .before .before .before .first-six .ensures in
-    let p = c .before .before .before .before .before .before .before .put-text2 in
-    let q = c .before .before .put-text3 in
+    let six = six-made first .first-six .ensures in
+    let p = first .put-text2 in
+    let q = last .put-text3 in
     names-put (a .version) (now (a .text)) (now (a .out)) (a .at) (s .pre .0) (told .enum-told2 .given .1) (s .pre .1) _ _
     (p .ensures .0 ∙ ap (λ l. reached (coded l) (length (now (a .out))) (a .at)) six)
     (p .ensures .1 ∙ ap (λ l. copied (coded l) (now (a .out)) (a .at)) six)

@@ -3,8 +3,8 @@
 use borrow.Author.Needs.{needs}
 use native.Mathlib.Omega.{arith}
 use mathlib.Core.Path.{_≡_, ap, sym, _∙_}
-use Prim.Native.Nat.{_<_}
-use mathlib.Core.List.{map}
+use Prim.Native.Nat.{ℕ, _<_}
+use mathlib.Core.List.{List, map}
 use denote.Ref.{now}
 use lib.ListN.{length, set, length-set}
 use Rattle.format.specs.Buffer.{over}
@@ -18,27 +18,42 @@ use Rattle.write_judge.specs.Size.{headed-named}
 use Rattle.writer.proofs.put.put_front.Statement.{statement}
 use Rattle.writer.proofs.put.put_front.Tie as tie
 
+-- the places before: where the country was put and where its characters were taken, back to the entry
+abbrev country-put : tie.After-put-names-arg → tie.After-put-text
+country-put c = c .before .before .before
+
+abbrev taken : tie.After-put-text → tie.After-country
+taken c = c .before .before .before
+
+abbrev start : tie.After-country → tie.Start
+start c = c .before .before .before .before .before
+
+-- where the function starts, from past the names
+abbrev entered : tie.After-put-names → tie.Start
+entered c = start (taken (country-put (c .before)))
+
+-- the bytes of the front
+abbrev bytes : tie.Start → List ℕ
+bytes s = front (s .args .version) (s .args .header) (now (s .args .text))
+
 -- the country's characters as they are carried
-is-carried :
-    (c : tie.After-country) → map carried (threeOf (c .before .before .before .before .before .args .header .country)) ≡ c .country .result
+is-carried : (c : tie.After-country) → map carried (threeOf (start c .args .header .country)) ≡ c .country .result
 is-carried c = sym (c .country .ensures)
 
 -- the version's byte, as it was stored
-stored : (c : tie.After-country) → c .before .before .byte .result ≡ versionByte (c .before .before .before .before .before .args .version)
+stored : (c : tie.After-country) → c .before .before .byte .result ≡ versionByte (start c .args .version)
 stored c = c .before .before .byte .ensures
 
 -- what was put down
 put :
-    (c : tie.After-slice-known3) →
-    let s = c .before .before .before .before .before .before .before .before .before .before .before .before .before .before in
-    (c .before .before .put-names .result ≡ length (front (s .args .version) (s .args .header) (now (s .args .text))))
-    × (c .before .before .put-names .last .1 .1 .0
-    ≡ over (now (s .args .out)) 0 (front (s .args .version) (s .args .header) (now (s .args .text))))
+    (c : tie.After-put-names) →
+    let s = entered c in
+    (c .put-names .result ≡ length (bytes s)) × (c .put-names .last .1 .1 .0 ≡ over (now (s .args .out)) 0 (bytes s))
 put c =
-    let on = c .before .before .before .before .before .before .before .before .before in
-    let s = on .before .before .before .before .before in
-    let p = c .before .before .before .before .before .before .put-text in
-    let q = c .before .before .put-names in
+    let p = country-put (c .before) .put-text in
+    let on = taken (country-put (c .before)) in
+    let s = start on in
+    let q = c .put-names in
     put-front (s .args .version) (s .args .header) (now (s .args .text)) (now (s .args .out)) (s .pre .0) (s .pre .1) _ (stored on)
     (on .country .result) (p .last .1 .0) (p .result) (is-carried on) (p .ensures .0) (p .ensures .1) (q .last .1 .1 .0) (q .result)
     (q .ensures .0) (q .ensures .1)
@@ -65,9 +80,9 @@ put-text-requires c κs = search needs
 
 put-names-requires : tie.Need-put-names-requires
 put-names-requires c κs =
-    let on = c .before .before .before .before .before .before in
-    let s = on .before .before .before .before .before in
-    let p = c .before .before .before .put-text in (
+    let p = country-put c .put-text in
+    let on = taken (country-put c) in
+    let s = start on in (
       headed-named (s .args .version) (s .args .header) (now (s .args .text)) (s .pre .0),
       names-room (s .args .version) (s .args .header) (now (s .args .text)) (now (s .args .out)) (s .pre .0) (s .pre .1) _ (stored on)
           (on .country .result) (p .last .1 .0) (p .result) (is-carried on) (p .ensures .0) (p .ensures .1),
@@ -75,11 +90,12 @@ put-names-requires c κs =
 
 same-length : tie.Need-same-length
 same-length c =
-    let s = c .before .before .before .before .before .before .before .before .before .before .before .before .before .before in
-    ap length (put c .1) ∙ length-over (now (s .args .out)) 0 (front (s .args .version) (s .args .header) (now (s .args .text))) (s .pre .1)
+    let n = c .before .before in
+    let s = entered n in
+    ap length (put n .1) ∙ length-over (now (s .args .out)) 0 (bytes s) (s .pre .1)
 
 returns : tie.Need-returns
-returns c = put c
+returns c = put (c .before .before)
 
 pub put-front-spec : {M : Type 1} → statement M
 put-front-spec =

@@ -20,33 +20,46 @@ Inv-loop version rows values out₀ start at₀ from₀ out at from = Putting ve
 abbrev μ-loop : tie.MeasureT-loop
 μ-loop version rows values out₀ start at₀ from₀ out at from = length rows - from
 
+-- the places before: where the row's feature was put, where the row was found and where the loop stood, back to the entry
+abbrev feature-put : tie.After-slice-known2 Inv-loop μ-loop → tie.After-put-feature Inv-loop μ-loop
+feature-put c = c .before .before
+
+abbrev row-found : tie.After-put-feature Inv-loop μ-loop → tie.After-known-told Inv-loop μ-loop
+row-found c = c .before .before .before .before
+
+abbrev at-loop : tie.After-known-told Inv-loop μ-loop → tie.At-loop Inv-loop μ-loop
+at-loop c = c .before .before .before .before
+
+abbrev start : tie.At-loop Inv-loop μ-loop → tie.Start Inv-loop μ-loop
+start c = c .before .before .before .before
+
 -- the table and the values that were handed over
 abbrev tableAt : tie.At-loop Inv-loop μ-loop → List ℕ
-tableAt on = now (on .before .before .before .before .args .rows)
+tableAt on = now (start on .args .rows)
 
 abbrev valuesAt : tie.At-loop Inv-loop μ-loop → List ℕ
-valuesAt on = now (on .before .before .before .before .args .values)
+valuesAt on = now (start on .args .values)
 
 -- the row that stands here, which was judged
 there : (c : tie.After-known-told Inv-loop μ-loop) →
-    let on = c .before .before .before .before in
+    let on = at-loop c in
     (on .loop .from + width ≤ length (tableAt on)) × (c .before .row .given .0 .0 ≡ rowAt (tableAt on) (on .loop .from))
 there c = found-row _ _ _ (sym (c .before .row .given .1) ∙ c .before .before .before .row-at .ensures)
 
 fits : (c : tie.After-known-told Inv-loop μ-loop) →
-    let on = c .before .before .before .before in
-    Fits (on .before .before .before .before .args .version) (length (valuesAt on)) (c .before .row .given .0 .0)
-fits c = putting-fits _ _ _ _ _ _ _ _ (c .before .before .before .before .loop .inv) (there c .0) _ (there c .1)
+    let on = at-loop c in
+    Fits (start on .args .version) (length (valuesAt on)) (c .before .row .given .0 .0)
+fits c = putting-fits _ _ _ _ _ _ _ _ (at-loop c .loop .inv) (there c .0) _ (there c .1)
 
 -- the part that is lent is its value
 value : (c : tie.After-known-told Inv-loop μ-loop) →
     let r = c .before .row .given .0 .0 in
-    let values = valuesAt (c .before .before .before .before) in
+    let values = valuesAt (at-loop c) in
     take (r .place + r .size - r .place) (drop (r .place) values) ≡ take (r .size) (drop (r .place) values)
 value c =
     let r = c .before .row .given .0 .0 in
     let e : r .place + r .size - r .place ≡ r .size = omega arith in
-    ap (λ k. take k (drop (r .place) (valuesAt (c .before .before .before .before)))) e
+    ap (λ k. take k (drop (r .place) (valuesAt (at-loop c)))) e
 
 loop-holds : tie.Need-loop-holds Inv-loop μ-loop
 loop-holds c =
@@ -86,19 +99,19 @@ part-put-feature-end c = let f = fits (c .before) in omega (arith, f .1)
 put-feature-requires : tie.Need-put-feature-requires Inv-loop μ-loop
 put-feature-requires c κs =
     let row = c .before .before .before in
-    putting-asks _ _ _ _ _ _ _ _ (row .before .before .before .before .loop .inv) (there row .0) _ (there row .1) _ (value row)
+    putting-asks _ _ _ _ _ _ _ _ (at-loop row .loop .inv) (there row .0) _ (there row .1) _ (value row)
 
 add-from : tie.Need-add-from Inv-loop μ-loop
-add-from c = omega (arith, there (c .before .before .before .before .before .before) .0)
+add-from c = omega (arith, there (row-found (feature-put c)) .0)
 
 loop-less : tie.Need-loop-less Inv-loop μ-loop
-loop-less c = omega (arith, there (c .before .before .before .before .before .before) .0)
+loop-less c = omega (arith, there (row-found (feature-put c)) .0)
 
 loop-again : tie.Need-loop-again Inv-loop μ-loop
 loop-again c =
-    let put = c .before .before in
-    let row = put .before .before .before .before in
-    putting-more _ _ _ _ _ _ _ _ (row .before .before .before .before .loop .inv) (there row .0) _ (there row .1) _ (value row) _ _
+    let put = feature-put c in
+    let row = row-found put in
+    putting-more _ _ _ _ _ _ _ _ (at-loop row .loop .inv) (there row .0) _ (there row .1) _ (value row) _ _
     (put .put-feature .ensures .0) (put .put-feature .ensures .1)
 
 pub put-rows-spec : {M : Type 1} → statement M
