@@ -4,6 +4,7 @@ use borrow.Author.Needs.{needs}
 use native.Mathlib.Omega.{arith}
 use mathlib.Core.Path.{_≡_, _∙_, sym}
 use Prim.Native.Nat.{ℕ, _<_, _≤_, _%_}
+use mathlib.Core.List.{List}
 use denote.Ref.{now}
 use lib.ListN.{length}
 use Rattle.format.specs.Answers.Laws.{refuses, gives}
@@ -13,16 +14,36 @@ use Rattle.c40.specs.Calls.Laws.{reading-long, reading-odd, reading-wrong, read
 use Rattle.c40_read.proofs.read.Statement.{statement}
 use Rattle.c40_read.proofs.read.Tie as tie
 
+-- the places before: the entry, where the number of bytes is good, where the pairs were judged, and where they are text
+abbrev start : tie.Else2 → tie.Start
+start c = c .before .before .before .before
+
+abbrev even : tie.After-judge → tie.Else2
+even c = c .before .before .before
+
+abbrev bytes : tie.After-judge → List ℕ
+bytes c = now (start (even c) .args .bytes)
+
+abbrev from-wrong : tie.After-known-told → tie.After-judge
+from-wrong c = c .before .before .before
+
+abbrev from-text : tie.After-known-told2 → tie.After-judge
+from-text c = c .before .before .before
+
+abbrev from-put : tie.After-put-arg → tie.After-known-told2
+from-put c = c .before .before .before
+
+abbrev from-done : tie.After-slice-known2 → tie.After-known-told2
+from-done c = from-put (c .before .before .before)
+
 -- the bytes decode as the judge said
 is-wrong : (c : tie.After-known-told)
-    → decode 0 (now (c .before .before .before .before .before .before .before .before .before .before .args .bytes))
-    ≡ wrong (c .before .judged .given .0 .0) (c .before .judged .given .0 .1 .0)
-is-wrong c = judged-wrong _ _ _ (sym (c .before .before .before .judge .ensures) ∙ c .before .judged .given .1)
+    → decode 0 (bytes (from-wrong c)) ≡ wrong (c .before .judged .given .0 .0) (c .before .judged .given .0 .1 .0)
+is-wrong c = judged-wrong _ _ _ (sym (from-wrong c .judge .ensures) ∙ c .before .judged .given .1)
 
 is-text : (c : tie.After-known-told2)
-    → let d = decode 0 (now (c .before .before .before .before .before .before .before .before .before .before .args .bytes)) in
-    (d ≡ text (textOf d)) × (length (textOf d) ≡ c .before .judged2 .given .0 .0)
-is-text c = judged-text _ _ (sym (c .before .before .before .judge .ensures) ∙ c .before .judged2 .given .1)
+    → let d = decode 0 (bytes (from-text c)) in (d ≡ text (textOf d)) × (length (textOf d) ≡ c .before .judged2 .given .0 .0)
+is-text c = judged-text _ _ (sym (from-text c .judge .ensures) ∙ c .before .judged2 .given .1)
 
 returns : tie.Need-returns
 returns c = refuses _ 45 0 _ (reading-long _ _ (omega arith))
@@ -46,32 +67,30 @@ enum-known-judged-2 c = search needs
 returns-3 : tie.Need-returns-3
 returns-3 c =
     let on = c .before in
-    let even = on .before .before .before .before .before .before .if2 .left in
-    refuses _ 42 0 _ (reading-no-room _ _ (omega arith) even _ (is-text on .0) (omega (arith, is-text on .1)))
+    refuses _ 42 0 _
+    (reading-no-room _ _ (omega arith) (even (from-text on) .if2 .left) _ (is-text on .0) (omega (arith, is-text on .1)))
 
 put-requires : tie.Need-put-requires
 put-requires c κs =
-    let on = c .before .before .before in
+    let on = from-put c in
     record {
-      is-chart = on .before .before .before .before .before .the-chart .ensures;
-      even = omega (arith, on .before .before .before .before .before .before .if2 .left);
+      is-chart = from-text on .before .before .the-chart .ensures;
+      even = omega (arith, even (from-text on) .if2 .left);
       is-text = is-text on .0;
       room = omega (arith, is-text on .1);
     }
 
 returns-4 : tie.Need-returns-4
-returns-4 c =
-    let even = c .before .before .before .before .before .before .if2 .left in
-    refuses _ 41 _ _ (reading-wrong _ _ (omega arith) even _ _ (is-wrong c))
+returns-4 c = refuses _ 41 _ _ (reading-wrong _ _ (omega arith) (even (from-wrong c) .if2 .left) _ _ (is-wrong c))
 
 same-length : tie.Need-same-length
 same-length c = search needs
 
 returns-5 : tie.Need-returns-5
 returns-5 c =
-    let on = c .before .before .before .before .before .before in
-    let even = on .before .before .before .before .before .before .if2 .left in
-    gives _ _ _ _ _ (reading-done _ _ (omega arith) even _ (is-text on .0) (omega (arith, is-text on .1)))
+    let on = from-done c in
+    gives _ _ _ _ _
+    (reading-done _ _ (omega arith) (even (from-text on) .if2 .left) _ (is-text on .0) (omega (arith, is-text on .1)))
     (sym (is-text on .1)) (c .before .before .put .ensures)
 
 pub read-spec : {M : Type 1} → statement M

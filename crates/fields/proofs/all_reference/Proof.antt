@@ -16,6 +16,13 @@ Inv-loop text i₀ i = (i ≤ length text) × Passed text i
 abbrev μ-loop : tie.MeasureT-loop
 μ-loop text i₀ i = length text - i
 
+-- the places before: the entry, and the loop, from where its character was tested
+abbrev start : tie.At-loop Inv-loop μ-loop → tie.Start Inv-loop μ-loop
+start c = c .before .before
+
+abbrev on-loop : tie.After-is-reference Inv-loop μ-loop → tie.At-loop Inv-loop μ-loop
+on-loop c = c .before .before .before
+
 loop-holds : tie.Need-loop-holds Inv-loop μ-loop
 loop-holds c = (omega arith, refl)
 
@@ -27,8 +34,9 @@ is-reference-requires c κs = search needs
 
 returns : tie.Need-returns Inv-loop μ-loop
 returns c =
-    all-stops (c .before .before .before .before .before .before .args .text .now) (c .before .before .before .before .loop .i)
-    (c .before .before .before .before .loop .inv .1) (omega arith) (sym (c .before .is-reference .ensures) ∙ not-true _ (c .if1 .taken))
+    let on = on-loop (c .before) in
+    all-stops (start on .args .text .now) (on .loop .i) (on .loop .inv .1) (omega arith)
+    (sym (c .before .is-reference .ensures) ∙ not-true _ (c .if1 .taken))
 
 add-i : tie.Need-add-i Inv-loop μ-loop
 add-i c = omega arith
@@ -37,14 +45,14 @@ loop-less : tie.Need-loop-less Inv-loop μ-loop
 loop-less c = omega arith
 
 loop-again : tie.Need-loop-again Inv-loop μ-loop
-loop-again c = (
-  omega arith,
-  all-more (c .before .before .before .before .before .before .args .text .now) (c .before .before .before .before .loop .i)
-      (c .before .before .before .before .loop .inv .1) (omega arith) (sym (c .before .is-reference .ensures) ∙ not-false _ (c .if1 .left)),
-)
+loop-again c =
+    let on = on-loop (c .before) in
+    let more = all-more (start on .args .text .now) (on .loop .i) (on .loop .inv .1) (omega arith)
+    (sym (c .before .is-reference .ensures) ∙ not-false _ (c .if1 .left)) in
+    (omega arith, more)
 
 returns-2 : tie.Need-returns-2 Inv-loop μ-loop
-returns-2 c = all-end (c .before .before .before .args .text .now) (c .before .loop .i) (c .before .loop .inv .1) (omega arith)
+returns-2 c = all-end (start (c .before) .args .text .now) (c .before .loop .i) (c .before .loop .inv .1) (omega arith)
 
 pub all-reference-spec : {M : Type 1} → statement M
 all-reference-spec =

@@ -20,18 +20,25 @@ use Rattle.judging.specs.Judged.{judge-features, judge-signature, judged
 use Rattle.judging.proofs.judge_message.Statement.{statement}
 use Rattle.judging.proofs.judge_message.Tie as tie
 
+-- the entry, from where the features are known, and the features, from where the signature is known
+abbrev start : tie.After-known-told → tie.Start
+start c = c .before .before .before .before .before
+
+abbrev on-features : tie.After-known-told2 → tie.After-known-told
+on-features c = c .before .before .before .before .before
+
 -- what was read by each step
 rows-read : (c : tie.After-known-told) →
-    let args = c .before .before .before .before .before .args in
+    let args = start c .args in
     let g = c .before .features .given .0 in
     Counted (features 256 (args .version) [] (args .message .place) (now (args .seal))) (g .0) (g .1 .0 .place)
 rows-read c = counted _ _ _ (sym (ap featuresOf (c .before .features .given .1)) ∙ c .before .before .before .read-features .ensures)
 
 signature-read : (c : tie.After-known-told2) →
-    let told = c .before .before .before .before .before in
+    let told = on-features c in
     let g = c .before .signature .given .0 in
     signatureOf (signature.Is (g .0) (g .1 .0))
-    ≡ signatureAt (told .before .features .given .0 .1 .0 .place + 1) (now (told .before .before .before .before .before .args .seal))
+    ≡ signatureAt (told .before .features .given .0 .1 .0 .place + 1) (now (start told .args .seal))
 signature-read c = sym (ap signatureOf (c .before .signature .given .1)) ∙ c .before .before .before .read-signature .ensures
 
 returns : tie.Need-returns
@@ -49,7 +56,7 @@ add-next : tie.Need-add-next
 add-next c =
     let rows = rows-read (c .before) in
     let inside = mark-inside 256 _ [] _ _ (rows .rows) _ (sym (rows .read)) in
-    omega (arith, inside, c .before .before .before .before .before .before .pre .short)
+    omega (arith, inside, start (c .before) .pre .short)
 
 returns-2 : tie.Need-returns-2
 returns-2 c =
@@ -59,18 +66,17 @@ returns-2 c =
     let rows = rows-read told in
     let why = c .before .signature2 .ensures ∙ ap (λ f. whyOf (signatureOf f)) (told2 .enum-told2 .given .1) in
     judged-refused _ _ _ _
-    (judge-signature _ _ _ _ (told .before .before .before .before .before .pre) (rows .rows) _ (rows .read) _ _
+    (judge-signature _ _ _ _ (start told .pre) (rows .rows) _ (rows .read) _ _
     (ap (λ (w : Refusal). not (w .why) (w .place)) why ∙ sym (ap signatureOf (told2 .enum-told2 .given .1)) ∙ on .read-signature .ensures))
     (c .not-good2 .ensures)
 
 returns-3 : tie.Need-returns-3
 returns-3 c =
     let told2 = c .before in
-    let told = told2 .before .before .before .before .before in
+    let told = on-features told2 in
     let rows = rows-read told in
     c .good2 .ensures
-    ∙ judged-good _ _ _ _ (told .before .before .before .before .before .pre) (rows .rows) _ (rows .read) _ _ _ (signature-read told2)
-    (rows .counts)
+    ∙ judged-good _ _ _ _ (start told .pre) (rows .rows) _ (rows .read) _ _ _ (signature-read told2) (rows .counts)
 
 read-features-requires : tie.Need-read-features-requires
 read-features-requires c κs = search needs

@@ -35,51 +35,70 @@ abbrev μ-rows : tie.MeasureT-rows
 μ-rows seal version tags₀ count₀ at₀ tags count at = 255 - count
 
 -- the seal and the version that were handed over, at the outer loop
+abbrev start : tie.At-rows Inv-loop μ-loop Inv-rows μ-rows → tie.Start Inv-loop μ-loop Inv-rows μ-rows
+start c = c .before .before
+
 abbrev sealAt : tie.At-rows Inv-loop μ-loop Inv-rows μ-rows → List ℕ
-sealAt c = now (c .before .before .args .seal)
+sealAt c = now (start c .args .seal)
 
 abbrev versionAt : tie.At-rows Inv-loop μ-loop Inv-rows μ-rows → Version
-versionAt c = c .before .before .args .version
+versionAt c = start c .args .version
+
+-- the outer loop, from where the tag is known; the tag, and the place after it
+abbrev on-rows : tie.After-known-told Inv-loop μ-loop Inv-rows μ-rows → tie.At-rows Inv-loop μ-loop Inv-rows μ-rows
+on-rows c = c .before .before .before .before
+
+abbrev tag : tie.After-known-told Inv-loop μ-loop Inv-rows μ-rows → ℕ
+tag c = c .before .tag .given .0 .0
+
+abbrev next : tie.After-known-told Inv-loop μ-loop Inv-rows μ-rows → ℕ
+next c = c .before .tag .given .0 .1 .0 .place
+
+-- the tag, from the inner loop; that loop's end, from where the length is known; and the length, from where the value is there
+abbrev on-tag : tie.At-loop Inv-loop μ-loop Inv-rows μ-rows → tie.After-known-told Inv-loop μ-loop Inv-rows μ-rows
+on-tag c = c .before .before
+
+abbrev on-new : tie.After-known-told2 Inv-loop μ-loop Inv-rows μ-rows → tie.After-loop Inv-loop μ-loop Inv-rows μ-rows
+on-new c = c .before .before .before .before
+
+abbrev on-length : tie.After-known-told3 Inv-loop μ-loop Inv-rows μ-rows → tie.After-known-told2 Inv-loop μ-loop Inv-rows μ-rows
+on-length c = c .before .before .before .before
+
+-- the inner loop's end and the outer loop, from where the value is there
+abbrev whole-new : tie.After-known-told3 Inv-loop μ-loop Inv-rows μ-rows → tie.After-loop Inv-loop μ-loop Inv-rows μ-rows
+whole-new c = on-new (on-length c)
+
+abbrev whole-rows : tie.After-known-told3 Inv-loop μ-loop Inv-rows μ-rows → tie.At-rows Inv-loop μ-loop Inv-rows μ-rows
+whole-rows c = on-rows (on-tag (whole-new c .before))
 
 -- the tag that was read
-tag-read :
-    (c : tie.After-known-told Inv-loop μ-loop Inv-rows μ-rows) →
-    let on =
-    c .before .before .before .before in is (c .before .tag .given .0 .0) (c .before .tag .given .0 .1 .0 .place)
-    ≡ byte (on .rows .at) (sealAt on) (plainIn (on .rows .at))
+tag-read : (c : tie.After-known-told Inv-loop μ-loop Inv-rows μ-rows) →
+    let on = on-rows c in
+    is (tag c) (next c) ≡ byte (on .rows .at) (sealAt on) (plainIn (on .rows .at))
 tag-read c = sym (ap (byteOf _) (c .before .tag .given .1)) ∙ c .before .before .before .byte .ensures
 
 -- it is new, once none of the earlier ones is the same
-new :
-    (c : tie.After-loop Inv-loop μ-loop Inv-rows μ-rows) →
-    let told =
-    c .before .before .before in let on = told .before .before .before .before in New (versionAt on) (sealAt on)
-    (on .before .before .args .start .place) (on .rows .tags) (on .rows .count) (on .rows .at) (told .before .tag .given .0 .0)
-    (told .before .tag .given .0 .1 .0 .place)
+new : (c : tie.After-loop Inv-loop μ-loop Inv-rows μ-rows) →
+    let told = on-tag (c .before) in
+    let on = on-rows told in
+    New (versionAt on) (sealAt on) (start on .args .start .place) (on .rows .tags) (on .rows .count) (on .rows .at) (tag told) (next told)
 new c = record {
-  kept = c .before .before .before .before .before .before .before .rows .inv;
-  read = tag-read (c .before .before .before);
+  kept = on-rows (on-tag (c .before)) .rows .inv;
+  read = tag-read (on-tag (c .before));
   other = c .before .before .if1 .left;
   none = λ k h. c .before .loop .inv .1 k (omega arith);
 }
 
 -- its length
-size-read :
-    (c : tie.After-known-told2 Inv-loop μ-loop Inv-rows μ-rows) →
-    let told =
-    c .before .before .before .before .before .before .before in let on = told .before .before .before .before in is
-    (c .before .length .given .0 .0) (c .before .length .given .0 .1 .0 .place)
-    ≡ featureLength (versionAt on) (told .before .tag .given .0 .1 .0 .place) (sealAt on)
+size-read : (c : tie.After-known-told2 Inv-loop μ-loop Inv-rows μ-rows) →
+    let told = on-tag (on-new c .before) in
+    let on = on-rows told in
+    is (c .before .length .given .0 .0) (c .before .length .given .0 .1 .0 .place) ≡ featureLength (versionAt on) (next told) (sealAt on)
 size-read c = sym (ap numberOf (c .before .length .given .1)) ∙ c .before .before .before .feature-length .ensures
 
 -- the seal's bytes
-bytes :
-    (c : tie.After-known-told3 Inv-loop μ-loop Inv-rows μ-rows) →
-    Bytes
-    (sealAt (c .before .before .before .before .before .before .before .before .before .before .before .before .before .before .before))
-bytes c i =
-    c .before .before .before .before .before .before .before .before .before .before .before .before .before .before
-    .before .before .shared-slice-known .given i .fits
+bytes : (c : tie.After-known-told3 Inv-loop μ-loop Inv-rows μ-rows) → Bytes (sealAt (whole-rows c))
+bytes c i = whole-rows c .before .shared-slice-known .given i .fits
 
 rows-holds : tie.Need-rows-holds Inv-loop μ-loop Inv-rows μ-rows
 rows-holds c = kept-start _ _ _ _ refl
@@ -104,13 +123,13 @@ of-requires : tie.Need-of-requires Inv-loop μ-loop Inv-rows μ-rows
 of-requires c κs = search needs
 
 returns-2 : tie.Need-returns-2 Inv-loop μ-loop Inv-rows μ-rows
-returns-2 c = kept-end _ _ _ _ _ _ (c .before .before .before .before .before .rows .inv) _ _ (tag-read (c .before)) (c .if1 .taken)
+returns-2 c = kept-end _ _ _ _ _ _ (on-rows (c .before) .rows .inv) _ _ (tag-read (c .before)) (c .if1 .taken)
 
 loop-holds : tie.Need-loop-holds Inv-loop μ-loop Inv-rows μ-rows
 loop-holds c = (omega arith, below-none _)
 
 array-read-wide : tie.Need-array-read-wide Inv-loop μ-loop Inv-rows μ-rows
-array-read-wide c = omega (arith, kept-most _ _ _ _ _ _ (c .before .before .before .before .before .before .before .rows .inv))
+array-read-wide c = omega (arith, kept-most _ _ _ _ _ _ (on-rows (on-tag (c .before)) .rows .inv))
 
 wide-requires : tie.Need-wide-requires Inv-loop μ-loop Inv-rows μ-rows
 wide-requires c κs = search needs
@@ -160,14 +179,14 @@ returns-4 c =
     let told = c .before in
     let on = told .before .before .before in
     says _ _ _ _ (c .of2 .ensures)
-    (new-short _ _ _ _ _ _ _ _ (new (on .before .before .before .before)) _ _ (size-read on)
+    (new-short _ _ _ _ _ _ _ _ (new (on-new on)) _ _ (size-read on)
     (sym (ap (wholeOf _) (told .enum-told3 .given .1)) ∙ told .before .before .skip .ensures))
 
 cast-tags : tie.Need-cast-tags Inv-loop μ-loop Inv-rows μ-rows
-cast-tags c = omega (arith, new-small _ _ _ _ _ _ _ _ (new (c .before .before .before .before .before .before .before .before)) (bytes c))
+cast-tags c = omega (arith, new-small _ _ _ _ _ _ _ _ (new (whole-new c)) (bytes c))
 
 array-write-tags : tie.Need-array-write-tags Inv-loop μ-loop Inv-rows μ-rows
-array-write-tags c = new-room _ _ _ _ _ _ _ _ (new (c .before .before .before .before .before .before .before .before)) (bytes c)
+array-write-tags c = new-room _ _ _ _ _ _ _ _ (new (whole-new c)) (bytes c)
 
 add-count : tie.Need-add-count Inv-loop μ-loop Inv-rows μ-rows
 add-count c = omega (arith, array-write-tags c)
@@ -177,16 +196,15 @@ rows-less c = omega (arith, array-write-tags c)
 
 rows-again : tie.Need-rows-again Inv-loop μ-loop Inv-rows μ-rows
 rows-again c =
-    new-more _ _ _ _ _ _ _ _ (new (c .before .before .before .before .before .before .before .before)) _ _
-    (size-read (c .before .before .before .before)) _ (bytes c)
+    new-more _ _ _ _ _ _ _ _ (new (whole-new c)) _ _ (size-read (on-length c)) _ (bytes c)
     (sym (ap (wholeOf _) (c .before .end .given .1)) ∙ c .before .before .before .skip .ensures)
 
 returns-5 : tie.Need-returns-5 Inv-loop μ-loop Inv-rows μ-rows
 returns-5 c =
     let test = c .before in
-    let on = test .before .before .before in
+    let told = on-tag (test .before .before .before) in
     says _ _ _ _ (c .of3 .ensures)
-    (kept-again _ _ _ _ _ _ (on .before .before .before .before .before .before .rows .inv) _ _ _ (tag-read (on .before .before))
+    (kept-again _ _ _ _ _ _ (on-rows told .rows .inv) _ _ _ (tag-read told)
     (test .before .before .loop-test .taken) (sym (test .before .wide .ensures) ∙ test .if2 .taken))
 
 of-requires-3 : tie.Need-of-requires-3 Inv-loop μ-loop Inv-rows μ-rows

@@ -2,7 +2,8 @@
 -- Assumes nothing.
 use borrow.Author.Needs.{needs}
 use mathlib.Core.Path.{_≡_, _∙_, ap, sym}
-use mathlib.Core.List.{[]}
+use Prim.Native.Nat.{ℕ}
+use mathlib.Core.List.{List, []}
 use denote.Ref.{now}
 use Rattle.causes.specs.declared.Item.the-variants as item
 use Rattle.verdict.specs.Items.{is, not, mark, version, country, names}
@@ -16,38 +17,59 @@ use Rattle.read_items.specs.Meaning.Laws.{says}
 use Rattle.read_header.proofs.read_front.Statement.{statement}
 use Rattle.read_header.proofs.read_front.Tie as tie
 
-read-mark :
-    (c : tie.After-known-told) →
-    is tt (c .before .mark2 .given .0 .0 .place) ≡ mark 0 (now (c .before .before .before .before .before .args .seal))
+-- the entry, from where DC was read, and back from item to item
+abbrev start : tie.After-known-told → tie.Start
+start c = c .before .before .before .before .before
+
+abbrev on-mark : tie.After-known-told2 → tie.After-known-told
+on-mark c = c .before .before .before .before
+
+abbrev on-version : tie.After-known-told3 → tie.After-known-told2
+on-version c = c .before .before .before .before .before
+
+abbrev on-country : tie.After-signer-and-reference → tie.After-known-told3
+on-country c = c .before .before
+
+abbrev on-names : tie.After-known-told4 → tie.After-signer-and-reference
+on-names c = c .before .before .before
+
+-- the seal, from where the version was read, and the country and the text that were left
+abbrev sealAt : tie.After-known-told2 → List ℕ
+sealAt c = now (start (on-mark c) .args .seal)
+
+abbrev code : tie.After-country → List ℕ
+code c = c .country .last .1 .1 .0
+
+abbrev text : tie.After-signer-and-reference → List ℕ
+text c = c .signer-and-reference .last .1 .1 .1 .0
+
+-- what was read of each item
+read-mark : (c : tie.After-known-told) → is tt (c .before .mark2 .given .0 .0 .place) ≡ mark 0 (now (start c .args .seal))
 read-mark c = sym (ap (stepOf tt) (c .before .mark2 .given .1)) ∙ c .before .before .before .mark .ensures
 
 read-version : (c : tie.After-known-told2) →
-    let told = c .before .before .before .before in
-    is (c .before .version2 .given .0 .0) (c .before .version2 .given .0 .1 .0 .place)
-    ≡ version (told .before .mark2 .given .0 .0 .place) (now (told .before .before .before .before .before .args .seal))
+    let g = c .before .version2 .given .0 in
+    is (g .0) (g .1 .0 .place) ≡ version (on-mark c .before .mark2 .given .0 .0 .place) (sealAt c)
 read-version c = sym (ap editionOf (c .before .version2 .given .1)) ∙ c .before .before .before .version .ensures
 
 read-country : (c : tie.After-known-told3) →
-    let on = c .before .before .before in
-    let told2 = on .before .before in
-    is (on .country .last .1 .1 .0) (c .before .code .given .0 .0 .place)
-    ≡ country (told2 .before .version2 .given .0 .1 .0 .place)
-    (now (told2 .before .before .before .before .before .before .before .before .before .args .seal))
+    let told2 = on-version c in
+    is (code (c .before .before .before)) (c .before .code .given .0 .0 .place)
+    ≡ country (told2 .before .version2 .given .0 .1 .0 .place) (sealAt told2)
 read-country c =
     let on = c .before .before .before in
-    sym (ap (stepOf (on .country .last .1 .1 .0)) (c .before .code .given .1)) ∙ on .country .ensures .0
+    sym (ap (stepOf (code on)) (c .before .code .given .1)) ∙ on .country .ensures .0
 
 read-names : (c : tie.After-known-told4) →
-    let on = c .before .before .before in
-    let told3 = on .before .before in
-    let told2 = told3 .before .before .before .before .before in
+    let on = on-names c in
+    let told3 = on-country on in
+    let told2 = on-version told3 in
     let g = c .before .read .given .0 in
-    namesOf (on .signer-and-reference .last .1 .1 .1 .0) (read.Are (g .0) (g .1 .0)) ≡ through measured
-    (names (told2 .before .version2 .given .0 .0) (told3 .before .code .given .0 .0 .place)
-    (now (told2 .before .before .before .before .before .before .before .before .before .args .seal)))
+    namesOf (text on) (read.Are (g .0) (g .1 .0)) ≡ through measured
+    (names (told2 .before .version2 .given .0 .0) (told3 .before .code .given .0 .0 .place) (sealAt told2))
 read-names c =
-    let on = c .before .before .before in
-    sym (ap (namesOf (on .signer-and-reference .last .1 .1 .1 .0)) (c .before .read .given .1)) ∙ on .signer-and-reference .ensures .0
+    let on = on-names c in
+    sym (ap (namesOf (text on)) (c .before .read .given .1)) ∙ on .signer-and-reference .ensures .0
 
 returns : tie.Need-returns
 returns c =
@@ -71,41 +93,37 @@ returns-3 c =
     let on = told .before .before in
     let told2 = on .before .before in
     let item = says _ _ _ _ (c .of-step2 .ensures ∙ ap (λ r. refused {A = Unit} item.Country (stepOf tt r)) (told .enum-told3 .given .1))
-    (fields-country _ _ (read-mark (told2 .before .before .before .before)) _ _ (read-version told2) _ _
-    (sym (ap (stepOf (on .country .last .1 .1 .0)) (told .enum-told3 .given .1)) ∙ on .country .ensures .0)) in
+    (fields-country _ _ (read-mark (on-mark told2)) _ _ (read-version told2) _ _
+    (sym (ap (stepOf (code on)) (told .enum-told3 .given .1)) ∙ on .country .ensures .0)) in
     (item, (code-kept _ _ _ item _, text-kept _ _ _ item _))
 
 -- what the names' item left is what the names of the whole leave
 text-left : (c : tie.After-signer-and-reference) →
-    let told3 = c .before .before in
-    let start = told3 .before .before .before .before .before .before .before .before .before .before .before .before .before .before in
-    c .signer-and-reference .last .1 .1 .1 .0 ≡ textOver (now (start .args .text)) (through namesIn (fields (now (start .args .seal))))
+    let args = start (on-mark (on-version (on-country c))) .args in
+    text c ≡ textOver (now (args .text)) (through namesIn (fields (now (args .seal))))
 text-left c =
-    let told3 = c .before .before in
-    let told2 = told3 .before .before .before .before .before in
+    let told3 = on-country c in
+    let told2 = on-version told3 in
     c .signer-and-reference .ensures .1
-    ∙ ap (textOver _)
-    (names-reached _ _ (read-mark (told2 .before .before .before .before)) _ _ (read-version told2) _ _ (read-country told3))
+    ∙ ap (textOver _) (names-reached _ _ (read-mark (on-mark told2)) _ _ (read-version told2) _ _ (read-country told3))
 
 returns-4 : tie.Need-returns-4
 returns-4 c =
     let told = c .before in
     let on = told .before .before in
-    let told3 = on .before .before in
-    let told2 = told3 .before .before .before .before .before in
+    let told3 = on-country on in
+    let told2 = on-version told3 in
     let item = says _ _ _ _ (c .of-names .ensures ∙ ap (λ e. whyOf (namesOf [] e)) (told .enum-told4 .given .1))
-    (fields-names _ _ (read-mark (told2 .before .before .before .before)) _ _ (read-version told2) _ _ (read-country told3) _ _
-    (sym (ap (namesOf (on .signer-and-reference .last .1 .1 .1 .0)) (told .enum-told4 .given .1))
-    ∙ on .signer-and-reference .ensures .0)) in
+    (fields-names _ _ (read-mark (on-mark told2)) _ _ (read-version told2) _ _ (read-country told3) _ _
+    (sym (ap (namesOf (text on)) (told .enum-told4 .given .1)) ∙ on .signer-and-reference .ensures .0)) in
     (item, (code-kept _ _ _ item _, text-left on))
 
 returns-5 : tie.Need-returns-5
 returns-5 c =
-    let on = c .before .before .before in
-    let told3 = on .before .before in
-    let told2 = told3 .before .before .before .before .before in
-    let item = fields-all _ _ (read-mark (told2 .before .before .before .before)) _ _ (read-version told2) _ _ (read-country told3) _ _
-    (read-names c) in
+    let on = on-names c in
+    let told3 = on-country on in
+    let told2 = on-version told3 in
+    let item = fields-all _ _ (read-mark (on-mark told2)) _ _ (read-version told2) _ _ (read-country told3) _ _ (read-names c) in
     (item, (code-given _ _ _ item _, text-left on))
 
 mark-requires : tie.Need-mark-requires

@@ -17,46 +17,102 @@ use Rattle.read_names.specs.Meaning.Named.{names-four-not}
 use Rattle.read_names.proofs.names_in.Statement.{statement}
 use Rattle.read_names.proofs.names_in.Tie as tie
 
-slice-aggregate-field : tie.Need-slice-aggregate-field
-slice-aggregate-field c = sym (length-take-le 9 (c .before .before .before .before .before .args .text .now) (omega arith))
+-- the places before, in version 3: the entry, and the nine characters, from where they were refused and from where they are good
+abbrev three : tie.After-enum-told → tie.Start
+three c = c .before .before .before .before
+
+abbrev start-three : tie.After-field → tie.Start
+start-three c = three (c .before .before)
+
+abbrev nine : tie.After-field → List ℕ
+nine c = c .field .last .1 .1 .1 .0
+
+abbrev nine-refused : tie.After-enum-told2 → tie.After-field
+nine-refused c = c .before .before .before .before
+
+abbrev nine-past : tie.After-known-told → tie.After-field
+nine-past c = c .before .before .before .before .before
+
+-- in version 4: the entry, and the six characters, from where they were refused, from where they are good, and from their digits
+abbrev four : tie.After-enum-told3 → tie.Start
+four c = c .before .before .before .before
+
+abbrev start-four : tie.After-field2 → tie.Start
+start-four c = four (c .before .before)
+
+abbrev six : tie.After-field2 → List ℕ
+six c = c .field2 .last .1 .1 .1 .0
+
+abbrev six-refused : tie.After-enum-told4 → tie.After-field2
+six-refused c = c .before .before .before .before
+
+abbrev six-past : tie.After-six → tie.After-field2
+six-past c = c .before .before .before .before
+
+abbrev from-digit : tie.After-hex-value → tie.After-six
+from-digit c = c .before .before .before
+
+abbrev from-digits : tie.After-hex-value2 → tie.After-six
+from-digits c = from-digit (c .before .before)
+
+-- where both digits are known: the first field, the place after it, and the reference's length
+abbrev first-field : tie.After-hex-value2 → tie.After-field2
+first-field c = six-past (from-digits c)
+
+abbrev after : tie.After-hex-value2 → ℕ
+after c = from-digits c .six .given .0 .0 .place
+
+abbrev size : tie.After-hex-value2 → ℕ
+size c = c .before .before .hex-value .result * 16 + c .hex-value2 .result
+
+-- the digits, from the reference's field, and that field, from where it was refused and from where it is good
+abbrev digits : tie.After-field3 → tie.After-hex-value2
+digits c = c .before .before
+
+abbrev reference-refused : tie.After-enum-told5 → tie.After-field3
+reference-refused c = c .before .before .before .before
+
+abbrev reference-past : tie.After-known-told3 → tie.After-field3
+reference-past c = c .before .before .before .before .before
 
 -- nine characters, and six, are asked for
-nine-long : (on : tie.After-enum-told) → length (take 9 (on .before .before .before .before .args .text .now)) ≡ 9
-nine-long on = length-take-le 9 (on .before .before .before .before .args .text .now) (omega arith)
+nine-long : (on : tie.After-enum-told) → length (take 9 (three on .args .text .now)) ≡ 9
+nine-long on = length-take-le 9 (three on .args .text .now) (omega arith)
 
-six-long : (on : tie.After-enum-told3) → length (take 6 (on .before .before .before .before .args .text .now)) ≡ 6
-six-long on = length-take-le 6 (on .before .before .before .before .args .text .now) (omega arith)
+six-long : (on : tie.After-enum-told3) → length (take 6 (four on .args .text .now)) ≡ 6
+six-long on = length-take-le 6 (four on .args .text .now) (omega arith)
+
+slice-aggregate-field : tie.Need-slice-aggregate-field
+slice-aggregate-field c = sym (nine-long (c .before))
 
 field-requires : tie.Need-field-requires
 field-requires c κs = nine-long (c .before)
 
 nine-read : (on : tie.After-field) →
-    let args = on .before .before .before .before .before .before .args in
-    stepOf (on .field .last .1 .1 .1 .0) (on .field .result) ≡ field 9 inNine (args .at .place) (args .seal .now)
+    let args = start-three on .args in
+    stepOf (nine on) (on .field .result) ≡ field 9 inNine (args .at .place) (args .seal .now)
 nine-read on =
-    let args = on .before .before .before .before .before .before .args in
+    let args = start-three on .args in
     on .field .ensures ∙ ap (λ k. field k inNine (args .at .place) (args .seal .now)) (nine-long (on .before .before))
 
 returns : tie.Need-returns
 returns c =
     let told = c .before in
-    let on = told .before .before .before .before in
-    let args = on .before .before .before .before .before .before .args in
-    let out = on .field .last .1 .1 .1 .0 in
+    let on = nine-refused told in
+    let args = start-three on .args in
     names-three-not (args .at .place) (args .seal .now) _ _ (c .of-step .result)
-    (sym (ap (stepOf out) (told .enum-told2 .given .1)) ∙ nine-read on)
+    (sym (ap (stepOf (nine on)) (told .enum-told2 .given .1)) ∙ nine-read on)
     (c .of-step .ensures ∙ ap (λ r. refused {A = Unit} item.Names (stepOf tt r)) (told .enum-told2 .given .1))
     ∙ ap (λ v. through measured (names v (args .at .place) (args .seal .now))) (sym (on .before .before .enum-told .given .1))
 
 returns-2 : tie.Need-returns-2
 returns-2 c =
-    let on = c .before .before .before .before .before in
-    let args = on .before .before .before .before .before .before .args in
-    let out = on .field .last .1 .1 .1 .0 in
+    let on = nine-past c in
+    let args = start-three on .args in
     let n = c .before .nine .given .0 .0 in
-    let long : length out ≡ 9 = omega (arith, nine-long (on .before .before)) in
-    names-three (args .at .place) (n .place) (args .seal .now) out (drop 9 (args .text .now)) long
-    (sym (ap (stepOf out) (c .before .nine .given .1)) ∙ nine-read on)
+    let long : length (nine on) ≡ 9 = omega (arith, nine-long (on .before .before)) in
+    names-three (args .at .place) (n .place) (args .seal .now) (nine on) (drop 9 (args .text .now)) long
+    (sym (ap (stepOf (nine on)) (c .before .nine .given .1)) ∙ nine-read on)
     ∙ ap (λ v. through measured (names v (args .at .place) (args .seal .now))) (sym (on .before .before .enum-told .given .1))
 
 slice-aggregate-field-2 : tie.Need-slice-aggregate-field-2
@@ -66,70 +122,66 @@ field-requires-2 : tie.Need-field-requires-2
 field-requires-2 c κs = six-long (c .before)
 
 six-read-as : (on : tie.After-field2) →
-    let args = on .before .before .before .before .before .before .args in
-    stepOf (on .field2 .last .1 .1 .1 .0) (on .field2 .result) ≡ field 6 inSix (args .at .place) (args .seal .now)
+    let args = start-four on .args in
+    stepOf (six on) (on .field2 .result) ≡ field 6 inSix (args .at .place) (args .seal .now)
 six-read-as on =
-    let args = on .before .before .before .before .before .before .args in
+    let args = start-four on .args in
     on .field2 .ensures ∙ ap (λ k. field k inSix (args .at .place) (args .seal .now)) (six-long (on .before .before))
 
 returns-3 : tie.Need-returns-3
 returns-3 c =
     let told = c .before in
-    let on = told .before .before .before .before in
-    let args = on .before .before .before .before .before .before .args in
-    let out = on .field2 .last .1 .1 .1 .0 in
+    let on = six-refused told in
+    let args = start-four on .args in
     names-six-not (args .at .place) (args .seal .now) _ _ (c .of-step2 .result)
-    (sym (ap (stepOf out) (told .enum-told4 .given .1)) ∙ six-read-as on)
+    (sym (ap (stepOf (six on)) (told .enum-told4 .given .1)) ∙ six-read-as on)
     (c .of-step2 .ensures ∙ ap (λ r. refused {A = Unit} item.SignerAndLength (stepOf tt r)) (told .enum-told4 .given .1))
     ∙ ap (λ v. through measured (names v (args .at .place) (args .seal .now))) (sym (on .before .before .enum-told3 .given .1))
 
 mul-size : tie.Need-mul-size
 mul-size c =
-    let on = c .before .before .before .before .before .before .before in
-    let t = on .field2 .last .1 .1 .1 .0 ++ drop 6 (on .before .before .before .before .before .before .args .text .now) in
+    let on = six-past (from-digit c) in
+    let t = six on ++ drop 6 (start-four on .args .text .now) in
     let high : c .hex-value .result ≤ 16 = subst (λ k. k ≤ 16) (sym (c .hex-value .ensures)) (value-most (getD t 4 0)) in
     omega arith
 
 -- the six characters that were read, and the length that they give
 six-read : (c : tie.After-hex-value2) →
-    let on = c .before .before .before .before .before .before .before .before .before in
-    let args = on .before .before .before .before .before .before .args in
-    Six (args .at .place) (args .seal .now) (on .field2 .last .1 .1 .1 .0)
-    (c .before .before .before .before .before .six .given .0 .0 .place) (c .before .before .hex-value .result * 16 + c .hex-value2 .result)
+    let on = first-field c in
+    let args = start-four on .args in
+    Six (args .at .place) (args .seal .now) (six on) (after c) (size c)
 six-read c =
-    let on = c .before .before .before .before .before .before .before .before .before in
-    let args = on .before .before .before .before .before .before .args in
-    let out = on .field2 .last .1 .1 .1 .0 in
-    let six = c .before .before .before .before .before .six in
-    let long : length out ≡ 6 = omega (arith, six-long (on .before .before)) in
-    six-there (args .at .place) (args .seal .now) out (drop 6 (args .text .now)) (six .given .0 .0 .place)
+    let on = first-field c in
+    let args = start-four on .args in
+    let long : length (six on) ≡ 6 = omega (arith, six-long (on .before .before)) in
+    six-there (args .at .place) (args .seal .now) (six on) (drop 6 (args .text .now)) (after c)
     (c .before .before .hex-value .result) (c .hex-value2 .result) long
-    (sym (ap (stepOf out) (six .given .1)) ∙ six-read-as on) (c .before .before .hex-value .ensures) (c .hex-value2 .ensures)
+    (sym (ap (stepOf (six on)) (from-digits c .six .given .1)) ∙ six-read-as on) (c .before .before .hex-value .ensures)
+    (c .hex-value2 .ensures)
 
 add-size : tie.Need-add-size
-add-size c = let six = six-read c in omega arith
+add-size c = let read = six-read c in omega arith
 
 add-end : tie.Need-add-end
-add-end c = let six = six-read c in omega arith
+add-end c = let read = six-read c in omega arith
 
 -- the text after the first field has room for the longest reference, and the part that it is put into has its length
 held : tie.After-hex-value2 → List ℕ
 held c =
-    let on = c .before .before .before .before .before .before .before .before .before in
-    on .field2 .last .1 .1 .1 .0 ++ drop 6 (on .before .before .before .before .before .before .args .text .now)
+    let on = first-field c in
+    six on ++ drop 6 (start-four on .args .text .now)
 
-room : (c : tie.After-hex-value2) → 4 + (c .before .before .hex-value .result * 16 + c .hex-value2 .result) ≤ length (held c)
+room : (c : tie.After-hex-value2) → 4 + size c ≤ length (held c)
 unfolding held
 room c =
-    let on = c .before .before .before .before .before .before .before .before .before in
-    let six = six-read c in
-    let rest = drop 6 (on .before .before .before .before .before .before .args .text .now) in
-    let long : length rest ≡ 253 = length-drop 6 (on .before .before .before .before .before .before .args .text .now) ∙ omega arith in
-    omega (arith, length-append (on .field2 .last .1 .1 .1 .0) rest)
+    let on = first-field c in
+    let read = six-read c in
+    let text = start-four on .args .text .now in
+    let long : length (drop 6 text) ≡ 253 = length-drop 6 text ∙ omega arith in
+    omega (arith, length-append (six on) (drop 6 text))
 
-part-size : (c : tie.After-hex-value2)
-    → let size = c .before .before .hex-value .result * 16 + c .hex-value2 .result in length (take (4 + size - 4) (drop 4 (held c))) ≡ size
-part-size c = part-long (held c) (c .before .before .hex-value .result * 16 + c .hex-value2 .result) (room c)
+part-size : (c : tie.After-hex-value2) → length (take (4 + size c - 4) (drop 4 (held c))) ≡ size c
+part-size c = part-long (held c) (size c) (room c)
 
 part-field-end : tie.Need-part-field-end
 unfolding held
@@ -138,7 +190,7 @@ part-field-end c = room c
 field-requires-3 : tie.Need-field-requires-3
 unfolding held
 field-requires-3 c κs =
-    let six = six-read (c .before) in
+    let read = six-read (c .before) in
     let e = part-size (c .before) in
     (omega arith, omega arith)
 
@@ -146,15 +198,13 @@ returns-4 : tie.Need-returns-4
 unfolding held
 returns-4 c =
     let told = c .before in
-    let reference = told .before .before .before .before .field3 in
-    let last = told .before .before .before .before .before .before in
-    let on = last .before .before .before .before .before .before .before .before .before in
-    let args = on .before .before .before .before .before .before .args in
+    let reference = reference-refused told .field3 in
+    let last = digits (reference-refused told) in
+    let on = first-field last in
+    let args = start-four on .args in
     let out = reference .last .1 .1 .1 .0 in
-    let size = last .before .before .hex-value .result * 16 + last .hex-value2 .result in
-    names-four-not (args .at .place) (args .seal .now) (on .field2 .last .1 .1 .1 .0)
-    (last .before .before .before .before .before .six .given .0 .0 .place) size (six-read last)
-    (length (take (4 + size - 4) (drop 4 (held last)))) (part-size last) _ _ (c .of-step3 .result)
+    names-four-not (args .at .place) (args .seal .now) (six on) (after last) (size last) (six-read last)
+    (length (take (4 + size last - 4) (drop 4 (held last)))) (part-size last) _ _ (c .of-step3 .result)
     (sym (ap (stepOf out) (told .enum-told5 .given .1)) ∙ reference .ensures)
     (c .of-step3 .ensures ∙ ap (λ r. refused {A = Unit} item.Reference (stepOf tt r)) (told .enum-told5 .given .1))
     ∙ ap (λ v. through measured (names v (args .at .place) (args .seal .now))) (sym (on .before .before .enum-told3 .given .1))
@@ -162,18 +212,16 @@ returns-4 c =
 returns-5 : tie.Need-returns-5
 unfolding held
 returns-5 c =
-    let reference = c .before .before .before .before .before .field3 in
-    let last = c .before .before .before .before .before .before .before in
-    let on = last .before .before .before .before .before .before .before .before .before in
-    let args = on .before .before .before .before .before .before .args in
+    let reference = reference-past c .field3 in
+    let last = digits (reference-past c) in
+    let on = first-field last in
+    let args = start-four on .args in
     let out = reference .last .1 .1 .1 .0 in
-    let size = last .before .before .hex-value .result * 16 + last .hex-value2 .result in
     let e = part-size last in
-    let long : length out ≡ size = omega arith in
-    names-four (args .at .place) (args .seal .now) (on .field2 .last .1 .1 .1 .0)
-    (last .before .before .before .before .before .six .given .0 .0 .place) size (six-read last)
-    (length (take (4 + size - 4) (drop 4 (held last)))) (part-size last)
-    out (drop 6 (args .text .now)) (drop (4 + size - 4) (drop 4 (held last))) (c .before .reference .given .0 .0 .place) long
+    let long : length out ≡ size last = omega arith in
+    names-four (args .at .place) (args .seal .now) (six on) (after last) (size last) (six-read last)
+    (length (take (4 + size last - 4) (drop 4 (held last)))) (part-size last)
+    out (drop 6 (args .text .now)) (drop (4 + size last - 4) (drop 4 (held last))) (c .before .reference .given .0 .0 .place) long
     (sym (ap (stepOf out) (c .before .reference .given .1)) ∙ reference .ensures)
     ∙ ap (λ v. through measured (names v (args .at .place) (args .seal .now))) (sym (on .before .before .enum-told3 .given .1))
 

@@ -3,6 +3,8 @@
 use borrow.Author.Needs.{needs}
 use native.Mathlib.Omega.{arith}
 use mathlib.Core.Path.{_≡_, _∙_, ap, sym}
+use Prim.Native.Nat.{ℕ}
+use mathlib.Core.List.{List}
 use denote.Ref.{now}
 use lib.ListN.{length}
 use lib.Seq.{length-take-le}
@@ -12,25 +14,33 @@ use Rattle.read_names.specs.Meaning.Lent.{names-kept, Found, found-names
 use Rattle.read_names.proofs.signer_and_reference.Statement.{statement}
 use Rattle.read_names.proofs.signer_and_reference.Tie as tie
 
-whole : (c : tie.After-known-told) → length (c .before .before .before .before .names-in .last .1 .1 .1 .0) ≡ 259
-whole c = let on = c .before .before .before .before in omega arith
+-- the places before: the entry, and the reading of the names, from where they are known; and the text that it left
+abbrev start : tie.After-names-in → tie.Start
+start c = c .before .before .before
+
+abbrev on-names : tie.After-known-told → tie.After-names-in
+on-names c = c .before .before .before .before
+
+abbrev found : tie.After-names-in → List ℕ
+found c = c .names-in .last .1 .1 .1 .0
+
+whole : (c : tie.After-known-told) → length (found (on-names c)) ≡ 259
+whole c = let on = on-names c in omega arith
 
 found-in : (c : tie.After-known-told) →
-    let on = c .before .before .before .before in
-    let a = on .before .before .before .args in
-    Found (on .names-in .last .1 .1 .1 .0) (c .before .names .given .0 .0) (c .before .names .given .0 .1 .0 .place)
+    let on = on-names c in
+    let a = start on .args in
+    Found (found on) (c .before .names .given .0 .0) (c .before .names .given .0 .1 .0 .place)
     (names (a .version) (a .at .place) (now (a .seal)))
 found-in c =
-    let on = c .before .before .before .before in
-    found-names (on .names-in .last .1 .1 .1 .0) _ _ _
-    (sym (ap (namesOf (on .names-in .last .1 .1 .1 .0)) (c .before .names .given .1)) ∙ on .names-in .ensures)
+    let on = on-names c in
+    found-names (found on) _ _ _ (sym (ap (namesOf (found on)) (c .before .names .given .1)) ∙ on .names-in .ensures)
 
 returns : tie.Need-returns
 returns c =
     let on = c .before .before .before in
-    let a = on .before .before .before .args in
-    let found = on .names-in .last .1 .1 .1 .0 in
-    let e = sym (ap (namesOf found) (c .enum-told .given .1)) ∙ on .names-in .ensures in
+    let a = start on .args in
+    let e = sym (ap (namesOf (found on)) (c .enum-told .given .1)) ∙ on .names-in .ensures in
     let k = names-kept (a .text .now) (c .enum-told .given .0 .0) (names (a .version) (a .at .place) (now (a .seal))) e in
     (ap (namesOf (a .text .now)) (c .enum-told .given .1) ∙ k .0, k .1)
 
@@ -48,7 +58,7 @@ slice-aggregate-copy c =
 returns-2 : tie.Need-returns-2
 returns-2 c =
     let on = c .before .before .before in
-    let a = on .before .before .before .before .before .before .before .args in
+    let a = start (on-names on) .args in
     let room : length (a .text .now) ≡ 259 = omega arith in
     names-given _ _ _ _ (found-in on) (whole on) (a .text .now) _ room (c .copy .ensures .1)
 

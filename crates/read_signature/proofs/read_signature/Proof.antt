@@ -4,6 +4,7 @@ use borrow.Author.Needs.{needs}
 use native.Mathlib.Omega.{arith}
 use mathlib.Core.Path.{_≡_, _∙_, refl, ap, sym}
 use mathlib.Core.Bool.{Bool, true, false, not}
+use Prim.Native.Nat.{ℕ}
 use denote.Ref.{now}
 use Rattle.causes.specs.declared.Item.the-variants as item
 use Rattle.verdict.specs.Items.{is, derLength}
@@ -16,10 +17,24 @@ use Rattle.read_items.specs.Meaning.Laws.{says}
 use Rattle.read_signature.proofs.read_signature.Statement.{statement}
 use Rattle.read_signature.proofs.read_signature.Tie as tie
 
-read-length :
-    (c : tie.After-known-told) →
-    is (c .before .length .given .0 .0) (c .before .length .given .0 .1 .0 .place)
-    ≡ derLength (c .before .before .before .before .before .args .at .place) (now (c .before .before .before .before .before .args .seal))
+-- the entry, from where the length is known; the length, and where its bytes start
+abbrev start : tie.After-known-told → tie.Start
+start c = c .before .before .before .before .before
+
+abbrev size : tie.After-known-told → ℕ
+size c = c .before .length .given .0 .0
+
+abbrev starts-at : tie.After-known-told → ℕ
+starts-at c = c .before .length .given .0 .1 .0 .place
+
+-- the length, from where its size is good, and its size, from where the bytes are there
+abbrev on-length : tie.Else1 → tie.After-known-told
+on-length c = c .before .before
+
+abbrev on-size : tie.After-known-told2 → tie.Else1
+on-size c = c .before .before .before .before
+
+read-length : (c : tie.After-known-told) → is (size c) (starts-at c) ≡ derLength (start c .args .at .place) (now (start c .args .seal))
 read-length c = sym (ap numberOf (c .before .length .given .1)) ∙ c .before .before .before .der-length .ensures
 
 not-not : (b : Bool) → not (not b) ≡ b
@@ -32,14 +47,12 @@ flipped b e = sym (not-not b) ∙ ap not e
 kept : (b : Bool) → not b ≡ false → b ≡ true
 kept b e = sym (not-not b) ∙ ap not e
 
-sized : (c : tie.Else1) → isSignature (c .before .before .before .length .given .0 .0) ≡ true
+sized : (c : tie.Else1) → isSignature (size (on-length c)) ≡ true
 sized c = sym (c .before .is-signature .ensures) ∙ kept _ (c .if1 .left)
 
-there :
-    (c : tie.After-known-told2) →
-    let on =
-    c .before .before .before .before .before .before in Past (on .before .length .given .0 .0) (on .before .length .given .0 .1 .0 .place)
-    (now (on .before .before .before .before .before .args .seal)) (c .before .end .given .0 .0 .place)
+there : (c : tie.After-known-told2) →
+    let on = on-length (on-size c) in
+    Past (size on) (starts-at on) (now (start on .args .seal)) (c .before .end .given .0 .0 .place)
 there c = past-whole _ _ _ _ (sym (ap (wholeOf _) (c .before .end .given .1)) ∙ c .before .before .before .skip .ensures)
 
 returns : tie.Need-returns
@@ -58,25 +71,24 @@ returns-2 c =
 returns-3 : tie.Need-returns-3
 returns-3 c =
     let on = c .before .before .before in
-    let told = on .before .before .before in
-    let n = told .before .length .given .0 .0 in
-    let start = told .before .length .given .0 .1 .0 .place in
-    let s = now (told .before .before .before .before .before .args .seal) in
+    let told = on-length (on .before) in
+    let n = size told in
     says _ _ _ _ (c .of2 .ensures)
     (signature-cut _ _ _ _ (read-length told) (sized (on .before))
-    (whole-none n start s (rawIn n start) (sym (ap (wholeOf start) (c .before .enum-told2 .given .1)) ∙ on .skip .ensures)))
+    (whole-none n (starts-at told) (now (start told .args .seal)) (rawIn n (starts-at told))
+    (sym (ap (wholeOf (starts-at told)) (c .before .enum-told2 .given .1)) ∙ on .skip .ensures)))
 
 returns-4 : tie.Need-returns-4
 returns-4 c =
     let told2 = c .before .before .before in
-    let on = told2 .before .before .before .before in
-    says _ _ _ _ (c .of3 .ensures) (signature-more _ _ _ _ (read-length (on .before .before)) (sized on) _ (there told2) (omega arith))
+    let on = on-size told2 in
+    says _ _ _ _ (c .of3 .ensures) (signature-more _ _ _ _ (read-length (on-length on)) (sized on) _ (there told2) (omega arith))
 
 returns-5 : tie.Need-returns-5
 returns-5 c =
     let told2 = c .before .before in
-    let on = told2 .before .before .before .before in
-    signature-is _ _ _ _ (read-length (on .before .before)) (sized on) _ (there told2) (omega arith)
+    let on = on-size told2 in
+    signature-is _ _ _ _ (read-length (on-length on)) (sized on) _ (there told2) (omega arith)
 
 der-length-requires : tie.Need-der-length-requires
 der-length-requires c κs = search needs

@@ -11,26 +11,30 @@ use Rattle.reader.specs.Given.{given}
 use Rattle.reader.proofs.read.Statement.{statement}
 use Rattle.reader.proofs.read.Tie as tie
 
+-- the entry, from where the seal was judged, and the judging, from where the version is known
+abbrev start : tie.After-judge-names → tie.Start
+start c = c .before .before .before .before .before
+
+abbrev on-judged : tie.After-known-told → tie.After-judge-names
+on-judged c = c .before .before .before
+
 -- the seal was accepted
-good :
-    (c : tie.After-known-told) →
-    Accepted (now (c .before .before .before .before .before .before .before .before .args .seal))
-    (c .before .before .before .judge-names .result .reading) (c .before .stated .given .0 .0)
+good : (c : tie.After-known-told) →
+    let on = on-judged c in
+    Accepted (now (start on .args .seal)) (on .judge-names .result .reading) (c .before .stated .given .0 .0)
 good c =
-    let on = c .before .before .before in
+    let on = on-judged c in
     accepted-version _ (λ i. on .before .before .before .before .shared-slice-known .given i .fits) _ (on .judge-names .ensures .0) _
     (c .before .stated .given .1)
 
 -- the reference's length, as the report has it
-size :
-    (c : tie.After-known-told) →
-    c .before .before .before .judge-names .result .reading .header .length ≡ length (good c .report .header .reference)
+size : (c : tie.After-known-told) → on-judged c .judge-names .result .reading .header .length ≡ length (good c .report .header .reference)
 size c = ap (λ z. z .header .length) (good c .answer)
 
 returns : tie.Need-returns
 returns c =
     let on = c .before .before .before in
-    let args = on .before .before .before .before .before .args in
+    let args = start on .args in
     reads-judged (now (args .seal)) (now (args .table)) (now (args .text)) (on .judge-names .result) (on .judge-names .ensures .0)
     (c .before .enum-told .given .1)
 
@@ -40,17 +44,17 @@ add-size c = let on = c .before in omega (arith, size on, good on .reference)
 array-share-prefix-names : tie.Need-array-share-prefix-names
 array-share-prefix-names c =
     let on = c .before in
-    named-room _ _ _ (good on) _ (on .before .before .before .judge-names .ensures .1 .0)
+    named-room _ _ _ (good on) _ (on-judged on .judge-names .ensures .1 .0)
 
 slice-aggregate-give : tie.Need-slice-aggregate-give
 slice-aggregate-give c =
     let on = c .before .before in
-    sym (length-take-le _ _ (named-room _ _ _ (good on) _ (on .before .before .before .judge-names .ensures .1 .0)))
+    sym (length-take-le _ _ (named-room _ _ _ (good on) _ (on-judged on .judge-names .ensures .1 .0)))
 
 give-requires : tie.Need-give-requires
 give-requires c κs =
     let on = c .before .before .before .before in
-    given _ _ _ (good on) _ (on .before .before .before .judge-names .ensures .1 .0)
+    given _ _ _ (good on) _ (on-judged on .judge-names .ensures .1 .0)
 
 judge-names-requires : tie.Need-judge-names-requires
 judge-names-requires c κs = search needs

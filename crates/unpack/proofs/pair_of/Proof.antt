@@ -10,6 +10,19 @@ use Rattle.pairs.specs.Pairs.Laws.{values-first, values-second, values-three, v
 use Rattle.unpack.proofs.pair_of.Statement.{statement}
 use Rattle.unpack.proofs.pair_of.Tie as tie
 
+-- the places before: the entry, and the split of the number, from where two of its values were tested and from the characters
+abbrev start : tie.After-split → tie.Start
+start c = c .before .before .before .before .before
+
+abbrev from-tested : tie.Else4 → tie.After-split
+from-tested c = c .before .before
+
+abbrev from-three : tie.After-t25 → tie.After-split
+from-three c = from-tested (c .before .before .before .before)
+
+abbrev from-two : tie.After-t32 → tie.After-split
+from-two c = from-tested (c .before .before .before .before .before)
+
 wide-requires : tie.Need-wide-requires
 wide-requires c κs = search needs
 
@@ -39,11 +52,11 @@ split-requires c κs = search needs
 
 -- what the three values carry is what the pair carries
 whole : (c : tie.After-split)
-    → let a = c .before .before .before .before .before .args in
+    → let a = start c .args in
     values (a .chart .now) (a .last) (c .split .result .a) (c .split .result .b) (c .split .result .c)
     ≡ pairOf (a .chart .now) (a .last) (a .x) (a .y)
 whole c =
-    let a = c .before .before .before .before .before .args in
+    let a = start c .args in
     let s = c .split .ensures in
     let less = c .before .before .before .before .wide .result * 256 + c .before .before .before .wide2 .result - 1 in
     let e : less + 1 ≡ number (a .x) (a .y) = omega arith in
@@ -65,8 +78,7 @@ element-copy-out-t25 : tie.Need-element-copy-out-t25
 element-copy-out-t25 c = search needs
 
 returns-5 : tie.Need-returns-5
-returns-5 c =
-    values-three _ _ _ _ _ (omega arith) (omega arith) (omega arith) ∙ whole (c .before .before .before .before .before .before)
+returns-5 c = values-three _ _ _ _ _ (omega arith) (omega arith) (omega arith) ∙ whole (from-three c)
 
 element-copy-out-t29 : tie.Need-element-copy-out-t29
 element-copy-out-t29 c = search needs
@@ -76,15 +88,14 @@ element-copy-out-t32 c = search needs
 
 returns-6 : tie.Need-returns-6
 returns-6 c =
-    values-two _ _ _ _ _ (c .before .before .if7 .taken) (omega arith) (omega arith) (omega arith)
-    ∙ whole (c .before .before .before .before .before .before .before)
+    values-two _ _ _ _ _ (c .before .before .if7 .taken) (omega arith) (omega arith) (omega arith) ∙ whole (from-two c)
 
 returns-7 : tie.Need-returns-7
 returns-7 c =
-    values-inner _ _ _ _ _ (c .if7 .left) (omega arith) (omega arith) (omega arith) ∙ whole (c .before .before .before .before .before)
+    values-inner _ _ _ _ _ (c .if7 .left) (omega arith) (omega arith) (omega arith) ∙ whole (from-tested (c .before .before .before))
 
 returns-8 : tie.Need-returns-8
-returns-8 c = values-third _ _ _ _ _ (omega arith) (omega arith) (omega arith) (c .if6 .left) ∙ whole (c .before .before .before .before)
+returns-8 c = values-third _ _ _ _ _ (omega arith) (omega arith) (omega arith) (c .if6 .left) ∙ whole (from-tested (c .before .before))
 
 pub pair-of-spec : {M : Type 1} → statement M
 pair-of-spec =

@@ -31,6 +31,13 @@ Inv-loop chart bytes n i₀ count₀ i count =
 abbrev μ-loop : tie.MeasureT-loop
 μ-loop chart bytes n i₀ count₀ i count = length bytes - i
 
+-- the places before: the entry, and the loop, from where its pair was told
+abbrev start : tie.At-loop Inv-loop μ-loop → tie.Start Inv-loop μ-loop
+start c = c .before .before
+
+abbrev on-loop : tie.After-pair-of Inv-loop μ-loop → tie.At-loop Inv-loop μ-loop
+on-loop c = c .before .before .before .before
+
 loop-holds : tie.Need-loop-holds Inv-loop μ-loop
 loop-holds c = (omega arith, omega arith, omega arith, [], refl, sofar-start _)
 
@@ -51,10 +58,10 @@ pair-of-requires c κs = search needs
 
 -- what the pair carries, by the chart
 told-pair : (c : tie.After-pair-of Inv-loop μ-loop)
-    → let on = c .before .before .before .before in
-    let s = now (on .before .before .args .bytes) in
+    → let on = on-loop c in
+    let s = now (start on .args .bytes) in
     c .pair-of .result ≡ pairOf theChart (eqb (on .loop .i + 2) (length s)) (getD s (on .loop .i) 0) (getD s (on .loop .i + 1) 0)
-told-pair c = by-chart _ _ _ (c .before .before .before .before .before .before .pre .is-chart) (c .pair-of .ensures)
+told-pair c = by-chart _ _ _ (start (on-loop c) .pre .is-chart) (c .pair-of .ensures)
 
 enum-known-pair : tie.Need-enum-known-pair Inv-loop μ-loop
 enum-known-pair c = search needs
@@ -62,7 +69,7 @@ enum-known-pair c = search needs
 returns : tie.Need-returns Inv-loop μ-loop
 returns c =
     let told = c .before .before .before in
-    let on = told .before .before .before .before in
+    let on = on-loop told in
     ap judgedOf (sym (sofar-wrong _ _ _ (on .loop .inv .5) (omega arith) _ (told-pair told) _ (c .before .pair .given .1)))
 
 carried-requires : tie.Need-carried-requires Inv-loop μ-loop
@@ -89,7 +96,7 @@ loop-less c = omega arith
 loop-again : tie.Need-loop-again Inv-loop μ-loop
 loop-again c =
     let told = c .before .before in
-    let on = told .before .before .before .before in
+    let on = on-loop told in
     let pair = told .pair-of .result in
     let some = carries pair (c .before .match .keys2) in
     let most = chars-most pair in

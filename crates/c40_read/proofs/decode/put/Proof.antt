@@ -23,20 +23,39 @@ Inv-loop chart bytes out₀ n i₀ at₀ out i at =
 abbrev μ-loop : tie.MeasureT-loop
 μ-loop chart bytes out₀ n i₀ at₀ out i at = length bytes - i
 
+-- the places before: the entry, and where a pair is taken up, from the call that told it and from where it was put down
+abbrev start : tie.At-loop Inv-loop μ-loop → tie.Start Inv-loop μ-loop
+start c = c .before .before .before
+
+abbrev bytes : tie.At-loop Inv-loop μ-loop → List ℕ
+bytes c = now (start c .args .bytes)
+
+abbrev from-full : tie.After-full Inv-loop μ-loop → tie.In-loop Inv-loop μ-loop
+from-full c = c .before .before .before
+
+abbrev from-put : tie.After-slice-known2 Inv-loop μ-loop → tie.In-loop Inv-loop μ-loop
+from-put c = from-full (c .before .before .before .before)
+
+abbrev on-loop : tie.Then1 Inv-loop μ-loop → tie.At-loop Inv-loop μ-loop
+on-loop c = c .before .before
+
+abbrev from-last : tie.After-pair-of Inv-loop μ-loop → tie.Then1 Inv-loop μ-loop
+from-last c = c .before .before .before
+
+abbrev from-put-last : tie.After-slice-known3 Inv-loop μ-loop → tie.Then1 Inv-loop μ-loop
+from-put-last c = from-last (c .before .before .before .before)
+
 -- at a pair that is not the last: it carries three characters, which there is room for
-inner :
-    (c : tie.In-loop Inv-loop μ-loop) →
-    let s =
-    now (c .before .before .before .before .args .bytes) in Inner s (c .before .loop .i) (c .before .loop .inv .3) (textOf (decode 0 s))
-inner c = sofar-inner _ _ _ (c .before .loop .inv .4) _ (c .before .before .before .before .pre .is-text) (omega arith)
+inner : (c : tie.In-loop Inv-loop μ-loop) →
+    let on = c .before in
+    Inner (bytes on) (on .loop .i) (on .loop .inv .3) (textOf (decode 0 (bytes on)))
+inner c = sofar-inner _ _ _ (c .before .loop .inv .4) _ (start (c .before) .pre .is-text) (omega arith)
 
 -- at the last pair: there is room for what it carries, and the text then is whole
-last :
-    (c : tie.Then1 Inv-loop μ-loop) →
-    let s =
-    now (c .before .before .before .before .before .args .bytes) in Last s (c .before .before .loop .i) (c .before .before .loop .inv .3)
-    (textOf (decode 0 s))
-last c = sofar-last _ _ _ (c .before .before .loop .inv .4) _ (c .before .before .before .before .before .pre .is-text) (omega arith)
+last : (c : tie.Then1 Inv-loop μ-loop) →
+    let on = on-loop c in
+    Last (bytes on) (on .loop .i) (on .loop .inv .3) (textOf (decode 0 (bytes on)))
+last c = sofar-last _ _ _ (on-loop c .loop .inv .4) _ (start (on-loop c) .pre .is-text) (omega arith)
 
 loop-holds : tie.Need-loop-holds Inv-loop μ-loop
 loop-holds c = (omega arith, omega arith, omega arith, [], sofar-start _, held-start _)
@@ -54,11 +73,11 @@ shared-slice-read-full-2 : tie.Need-shared-slice-read-full-2 Inv-loop μ-loop
 shared-slice-read-full-2 c = omega arith
 
 full-requires : tie.Need-full-requires Inv-loop μ-loop
-full-requires c κs = (c .before .before .before .before .before .before .pre .is-chart, inner (c .before .before) .three)
+full-requires c κs = let on = c .before .before in (start (on .before) .pre .is-chart, inner on .three)
 
 put-pair-requires : tie.Need-put-pair-requires Inv-loop μ-loop
 put-pair-requires c κs =
-    let on = c .before .before .before .before in
+    let on = from-full (c .before) in
     let many = ap (λ p. length (charsOf p)) (c .before .full .ensures) in
     let inv = on .before .loop .inv in
     omega (arith, inner on .three, inner on .room, many, inv .5 .many, held-length _ _ _ _ (inv .5) (inv .2))
@@ -68,7 +87,7 @@ add-i c = omega arith
 
 add-at : tie.Need-add-at Inv-loop μ-loop
 add-at c =
-    let on = c .before .before .before .before .before .before .before in
+    let on = from-put c in
     omega (arith, inner on .room, on .before .loop .inv .5 .many)
 
 loop-less : tie.Need-loop-less Inv-loop μ-loop
@@ -77,7 +96,7 @@ loop-less c = omega arith
 loop-again : tie.Need-loop-again Inv-loop μ-loop
 loop-again c =
     let full = c .before .before .before .before .full in
-    let on = c .before .before .before .before .before .before .before in
+    let on = from-put c in
     let inv = on .before .loop .inv in
     let many = ap (λ p. length (charsOf p)) (full .ensures) in
     let room = inner on .room in (
@@ -85,7 +104,7 @@ loop-again c =
       omega arith,
       omega (arith, inv .5 .many),
       inv .3 ++ charsOf (full .result),
-      subst (λ p. Sofar (now (on .before .before .before .before .args .bytes)) (on .before .loop .i + 2) (inv .3 ++ charsOf p))
+      subst (λ p. Sofar (bytes (on .before)) (on .before .loop .i + 2) (inv .3 ++ charsOf p))
           (sym (full .ensures)) (inner on .next),
       held-more _ _ _ _ (inv .5) (charsOf (full .result)) _ _ (c .before .before .put-pair .ensures) (omega (arith, inner on .three))
           (omega (arith, inv .5 .many)),
@@ -105,31 +124,30 @@ pair-of-requires c κs = search needs
 
 put-pair-requires-2 : tie.Need-put-pair-requires-2 Inv-loop μ-loop
 put-pair-requires-2 c κs =
-    let on = c .before .before .before .before in
-    let inv = on .before .before .loop .inv in
-    let is = by-chart _ _ _ (on .before .before .before .before .before .pre .is-chart) (c .before .pair-of .ensures) in
+    let on = from-last (c .before) in
+    let inv = on-loop on .loop .inv in
+    let is = by-chart _ _ _ (start (on-loop on) .pre .is-chart) (c .before .pair-of .ensures) in
     let many = ap (λ p. length (charsOf p)) is in
     let room = last on .room in
     omega (arith, many, inv .5 .many, held-length _ _ _ _ (inv .5) (inv .2))
 
 same-length : tie.Need-same-length Inv-loop μ-loop
 same-length c =
-    let on = c .before .before .before .before .before .before .before in
-    let inv = on .before .before .loop .inv in
+    let inv = on-loop (from-put-last c) .loop .inv in
     c .before .before .put-pair2 .kept .1 .0 ∙ held-length _ _ _ _ (inv .5) (inv .2)
 
 returns : tie.Need-returns Inv-loop μ-loop
 returns c =
-    let on = c .before .before .before .before .before .before .before in
-    let inv = on .before .before .loop .inv in
+    let on = from-put-last c in
+    let out = now (start (on-loop on) .args .out) in
+    let inv = on-loop on .loop .inv in
     let pair = c .before .before .before .before .pair-of in
-    let is = by-chart _ _ _ (on .before .before .before .before .before .pre .is-chart) (pair .ensures) in
+    let is = by-chart _ _ _ (start (on-loop on) .pre .is-chart) (pair .ensures) in
     let many = ap (λ p. length (charsOf p)) is in
     let room = last on .room in
     let held = held-more _ _ _ _ (inv .5) (charsOf (pair .result)) _ _ (c .before .before .put-pair2 .ensures) refl
     (omega (arith, many, inv .5 .many)) in
-    held .is ∙ ap (λ p. over (now (on .before .before .before .before .before .args .out)) 0 (inv .3 ++ charsOf p)) is
-    ∙ ap (over (now (on .before .before .before .before .before .args .out)) 0) (sym (last on .whole))
+    held .is ∙ ap (λ p. over out 0 (inv .3 ++ charsOf p)) is ∙ ap (over out 0) (sym (last on .whole))
 
 same-length-2 : tie.Need-same-length-2 Inv-loop μ-loop
 same-length-2 c =
@@ -140,7 +158,7 @@ returns-2 : tie.Need-returns-2 Inv-loop μ-loop
 returns-2 c =
     let inv = c .before .before .loop .inv in
     inv .5 .is
-    ∙ ap (λ d. over (now (c .before .before .before .before .before .args .out)) 0 (textOf d))
+    ∙ ap (λ d. over (now (start (c .before .before) .args .out)) 0 (textOf d))
     (sym (sofar-end _ _ _ (inv .4) (omega arith)))
 
 pub put-spec : {M : Type 1} → statement M

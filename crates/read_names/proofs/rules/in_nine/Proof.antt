@@ -3,6 +3,8 @@
 use borrow.Author.Needs.{needs}
 use native.Mathlib.Omega.{arith}
 use mathlib.Core.Path.{_≡_, _∙_, ap, sym}
+use Prim.Native.Nat.{ℕ}
+use mathlib.Core.List.{List}
 use lib.ListN.{length, take}
 use Rattle.fields.specs.Characters.{isSigner}
 use Rattle.fields.specs.Characters.Laws.{first-four, rest-of}
@@ -12,18 +14,21 @@ use Rattle.read_names.specs.Meaning.Rules.{breaks, keeps}
 use Rattle.read_names.proofs.rules.in_nine.Statement.{statement}
 use Rattle.read_names.proofs.rules.in_nine.Tie as tie
 
+-- the entry, from where all four characters of the signer were looked at, and the text, from where it was tested
+abbrev start : tie.After-shared-slice-known5 → tie.Start
+start c = c .before .before .before .before .before
+
+abbrev text : tie.After-is-signer → List ℕ
+text c = start (c .before) .args .text .now
+
 -- what the test of the signer says
-signer : (on : tie.After-is-signer)
-    → on .is-signer .result ≡ isSigner (take 4 (on .before .before .before .before .before .before .args .text .now))
-signer on =
-    let start = on .before .before .before .before .before .before in
-    on .is-signer .ensures ∙ ap isSigner (first-four (start .args .text .now) (omega arith))
+signer : (on : tie.After-is-signer) → on .is-signer .result ≡ isSigner (take 4 (text on))
+signer on = on .is-signer .ensures ∙ ap isSigner (first-four (text on) (omega arith))
 
 returns : tie.Need-returns
 returns c =
     let test = c .before .before in
-    let start = test .before .before .before .before .before .before .before in
-    c .in-reference .ensures ∙ ap inReference (rest-of 4 (start .args .text .now))
+    c .in-reference .ensures ∙ ap inReference (rest-of 4 (text (test .before)))
     ∙ keeps _ rule.SignerCharacters _ (sym (signer (test .before)) ∙ test .if1 .taken)
 
 returns-2 : tie.Need-returns-2

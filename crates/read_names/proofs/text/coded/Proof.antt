@@ -3,7 +3,7 @@
 use borrow.Author.Needs.{needs}
 use native.Mathlib.Omega.{arith}
 use mathlib.Core.Path.{_≡_, _∙_, ap, sym}
-use Prim.Native.Nat.{_+_, _≤_}
+use Prim.Native.Nat.{ℕ, _+_, _≤_}
 use lib.ListN.{length}
 use Rattle.c40.specs.Text.{width}
 use Rattle.read_names.specs.Meaning.{exactOf}
@@ -11,23 +11,36 @@ use Rattle.read_names.specs.Meaning.Field.{field-cut, field-place, field
 use Rattle.read_names.proofs.text.coded.Statement.{statement}
 use Rattle.read_names.proofs.text.coded.Tie as tie
 
+-- the places before: the entry, and the skipping of the bytes, from where all of them are there; and the place after them
+abbrev start : tie.After-skip → tie.Start
+start c = c .before .before .before
+
+abbrev skipped : tie.After-known-told → tie.After-skip
+skipped c = c .before .before .before
+
+abbrev next : tie.After-known-told → ℕ
+next c = c .before .next .given .0 .0 .place
+
+-- where the bytes are there, from where they fill the text or do not
+abbrev from-fill : tie.After-fill → tie.After-known-told
+from-fill c = c .before .before .before
+
 -- the next place, and that the bytes up to it are there
 place : (c : tie.After-known-told)
-    → let args =
-    c .before .before .before .before .before .before .args in
-    (c .before .next .given .0 .0 .place ≡ args .at .place + width (length (args .text .now)))
+    → let args = start (skipped c) .args in
+    (next c ≡ args .at .place + width (length (args .text .now)))
     × (args .at .place + width (length (args .text .now)) ≤ length (args .seal .now))
 place c =
-    let skip = c .before .before .before .skip in
-    let args = c .before .before .before .before .before .before .args in
-    field-place (length (args .text .now)) _ (args .at .place) (args .seal .now) (omega arith) (skip .result) (skip .ensures)
+    let on = skipped c in
+    let args = start on .args in
+    field-place (length (args .text .now)) _ (args .at .place) (args .seal .now) (omega arith) (on .skip .result) (on .skip .ensures)
     (c .before .next .given .0 .0) (c .before .next .given .1)
 
 returns : tie.Need-returns
 returns c =
-    let skip = c .before .before .skip in
-    let args = c .before .before .before .before .before .args in
-    field-cut (length (args .text .now)) _ (args .at .place) (args .seal .now) (omega arith) (skip .result) (skip .ensures)
+    let on = c .before .before in
+    let args = start on .args in
+    field-cut (length (args .text .now)) _ (args .at .place) (args .seal .now) (omega arith) (on .skip .result) (on .skip .ensures)
     (c .enum-told .given .1)
 
 sub-fill : tie.Need-sub-fill
@@ -41,30 +54,28 @@ part-fill-end c = omega (arith, place c .0, place c .1)
 
 fill-requires : tie.Need-fill-requires
 fill-requires c κs =
-    let on = c .before .before in
-    let start = on .before .before .before .before .before .before in (
-      field-wide (length (start .args .text .now)) (start .args .at .place) (on .before .next .given .0 .0 .place) (start .args .seal .now)
-          (place on),
-      start .pre,
-    )
+    let told = c .before .before in
+    let entry = start (skipped told) in
+    let args = entry .args in
+    (field-wide (length (args .text .now)) (args .at .place) (next told) (args .seal .now) (place told), entry .pre)
 
 returns-2 : tie.Need-returns-2
 returns-2 c =
-    let fill = c .before .before .before .before .fill in
-    let on = c .before .before .before .before .before .before .before in
-    let args = on .before .before .before .before .before .before .args in
-    let out = fill .last .1 .0 in
-    field-coded (length (args .text .now)) (args .at .place) (on .before .next .given .0 .0 .place) (args .seal .now) (place on) out
-    (sym (ap (exactOf out) (c .enum-told2 .given .1)) ∙ fill .ensures)
+    let on = c .before .before .before .before in
+    let told = from-fill on in
+    let args = start (skipped told) .args in
+    let out = on .fill .last .1 .0 in
+    field-coded (length (args .text .now)) (args .at .place) (next told) (args .seal .now) (place told) out
+    (sym (ap (exactOf out) (c .enum-told2 .given .1)) ∙ on .fill .ensures)
 
 returns-3 : tie.Need-returns-3
 returns-3 c =
-    let fill = c .before .before .before .before .fill in
-    let on = c .before .before .before .before .before .before .before in
-    let args = on .before .before .before .before .before .before .args in
-    let out = fill .last .1 .0 in
-    field-wrong (length (args .text .now)) (args .at .place) (on .before .next .given .0 .0 .place) (args .seal .now) (place on) _
-    (sym (ap (exactOf out) (c .enum-told3 .given .1)) ∙ fill .ensures)
+    let on = c .before .before .before .before in
+    let told = from-fill on in
+    let args = start (skipped told) .args in
+    let out = on .fill .last .1 .0 in
+    field-wrong (length (args .text .now)) (args .at .place) (next told) (args .seal .now) (place told) _
+    (sym (ap (exactOf out) (c .enum-told3 .given .1)) ∙ on .fill .ensures)
 
 add-skip : tie.Need-add-skip
 add-skip c = search needs

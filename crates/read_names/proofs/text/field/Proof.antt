@@ -3,10 +3,9 @@
 use borrow.Author.Needs.{needs}
 use native.Mathlib.Omega.{arith}
 use mathlib.Core.Path.{_≡_, _∙_, ap, sym, subst}
-use Prim.Native.Nat.{_≤_, _<_}
+use Prim.Native.Nat.{ℕ, _≤_, _<_}
 use lib.ListN.{length}
 use mathlib.Core.List.{List}
-use Prim.Native.Nat.{ℕ}
 use Rattle.verdict.specs.Items.{judgedBy}
 use Rattle.verdict.specs.Items as read
 use Rattle.read_items.specs.Meaning.{stepOf}
@@ -16,6 +15,23 @@ use Rattle.read_names.specs.declared.rules.Kind.the-variants as kind
 use Rattle.read_names.specs.Meaning.Field.{field-judged, field-unread}
 use Rattle.read_names.proofs.text.field.Statement.{statement}
 use Rattle.read_names.proofs.text.field.Tie as tie
+
+-- the places before: the entry, from where the text was read by its coding, and that text
+abbrev start : tie.After-coded → tie.Start
+start c = c .before .before .before .before
+
+abbrev out : tie.After-coded → List ℕ
+out c = c .coded .last .1 .1 .0
+
+-- the reading, from where the text is well coded, and the place after it; and from where it was judged
+abbrev on-coded : tie.After-known-told → tie.After-coded
+on-coded c = c .before .before .before .before .before
+
+abbrev next : tie.After-known-told → ℕ
+next c = c .before .read .given .0 .0 .place
+
+abbrev told : tie.After-judge → tie.After-known-told
+told c = c .before .before
 
 -- every kind of text has 1 to 255 characters
 some : (k : Kind) (t : List ℕ) → Fits k t → (0 < length t) × (length t ≤ 255)
@@ -32,58 +48,48 @@ again kind.Six t u e h = e ∙ h
 again kind.Reference t u e h = (omega arith, omega arith)
 
 coded-requires : tie.Need-coded-requires
-coded-requires c κs = let start = c .before .before .before in some (start .args .kind) (start .args .text .now) (start .pre)
+coded-requires c κs = let entry = c .before .before .before in some (entry .args .kind) (entry .args .text .now) (entry .pre)
 
 returns : tie.Need-returns
 returns c =
-    let coded = c .before .before .before .before .coded in
-    let args = c .before .before .before .before .before .before .before .before .args in
-    let out = coded .last .1 .1 .0 in
-    ap (stepOf out) (c .enum-told .given .1)
+    let on = c .before .before .before .before in
+    let args = start on .args in
+    ap (stepOf (out on)) (c .enum-told .given .1)
     ∙ field-unread (length (args .text .now)) (rulesOf (args .kind)) (args .at .place) (args .seal .now) _ _
-    (sym (ap (stepOf out) (c .enum-told .given .1)) ∙ coded .ensures)
+    (sym (ap (stepOf (out on)) (c .enum-told .given .1)) ∙ on .coded .ensures)
 
 judge-requires : tie.Need-judge-requires
 judge-requires c κs =
-    let on = c .before .before .before .before .before .before in
-    let start = on .before .before .before .before in
-    again (start .args .kind) (start .args .text .now) (on .coded .last .1 .1 .0) (omega arith) (start .pre)
+    let on = on-coded (c .before) in
+    let entry = start on in
+    again (entry .args .kind) (entry .args .text .now) (out on) (omega arith) (entry .pre)
 
 -- the text that was read, and what its rules say of it
 judged : (c : tie.After-judge) →
-    let told = c .before .before in
-    let on = told .before .before .before .before .before in
-    let args = on .before .before .before .before .args in
-    let out = on .coded .last .1 .1 .0 in
-    judgedBy (keptOf (c .judge .result)) out (args .at .place) (told .before .read .given .0 .0 .place) ≡ read.field
+    let on = on-coded (told c) in
+    let args = start on .args in
+    judgedBy (keptOf (c .judge .result)) (out on) (args .at .place) (next (told c)) ≡ read.field
     (length (args .text .now)) (rulesOf (args .kind)) (args .at .place) (args .seal .now)
 judged c =
-    let told = c .before .before in
-    let on = told .before .before .before .before .before in
-    let args = on .before .before .before .before .args in
-    let out = on .coded .last .1 .1 .0 in
-    let next = told .before .read .given .0 .0 .place in
-    ap (λ o. judgedBy o out (args .at .place) next) (c .judge .ensures)
-    ∙ field-judged (length (args .text .now)) (rulesOf (args .kind)) (args .at .place) (args .seal .now) out next
-    (sym (ap (stepOf out) (told .before .read .given .1)) ∙ on .coded .ensures)
+    let on = on-coded (told c) in
+    let args = start on .args in
+    ap (λ o. judgedBy o (out on) (args .at .place) (next (told c))) (c .judge .ensures)
+    ∙ field-judged (length (args .text .now)) (rulesOf (args .kind)) (args .at .place) (args .seal .now) (out on) (next (told c))
+    (sym (ap (stepOf (out on)) (told c .before .read .given .1)) ∙ on .coded .ensures)
 
 returns-2 : tie.Need-returns-2
 returns-2 c =
-    let on = c .before .before in
-    let told = on .before .before in
-    let coded = told .before .before .before .before .before in
-    let out = coded .coded .last .1 .1 .0 in
-    let at = coded .before .before .before .before .args .at .place in
-    sym (ap (λ k. judgedBy (keptOf k) out at (told .before .read .given .0 .0 .place)) (c .enum-told2 .given .1)) ∙ judged on
+    let judge = c .before .before in
+    let on = on-coded (told judge) in
+    let at = start on .args .at .place in
+    sym (ap (λ k. judgedBy (keptOf k) (out on) at (next (told judge))) (c .enum-told2 .given .1)) ∙ judged judge
 
 returns-3 : tie.Need-returns-3
 returns-3 c =
-    let on = c .before .before .before in
-    let told = on .before .before in
-    let coded = told .before .before .before .before .before in
-    let out = coded .coded .last .1 .1 .0 in
-    let at = coded .before .before .before .before .args .at .place in
-    sym (ap (λ k. judgedBy (keptOf k) out at (told .before .read .given .0 .0 .place)) (c .before .rules .given .1)) ∙ judged on
+    let judge = c .before .before .before in
+    let on = on-coded (told judge) in
+    let at = start on .args .at .place in
+    sym (ap (λ k. judgedBy (keptOf k) (out on) at (next (told judge))) (c .before .rules .given .1)) ∙ judged judge
 
 enum-known-read : tie.Need-enum-known-read
 enum-known-read c = search needs

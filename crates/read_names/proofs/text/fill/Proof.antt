@@ -17,6 +17,22 @@ use Rattle.read_names.specs.Meaning.Text.{filled-exactly, filled-less, f
 use Rattle.read_names.proofs.text.fill.Statement.{statement}
 use Rattle.read_names.proofs.text.fill.Tie as tie
 
+-- the places before: the entry, and the reading of C40, from where its answer is known, and from each of the three answers
+abbrev start : tie.After-read → tie.Start
+start c = c .before .before .before .before
+
+abbrev on-read : tie.After-slice-known2 → tie.After-read
+on-read c = c .before .before
+
+abbrev from-done : tie.After-known-told → tie.After-read
+from-done c = on-read (c .before .before .before)
+
+abbrev from-wrong : tie.After-known-told2 → tie.After-read
+from-wrong c = on-read (c .before .before .before)
+
+abbrev from-other : tie.At-match-keys3 → tie.After-read
+from-other c = on-read (c .before)
+
 -- each other case is neither done nor a wrong pair
 other : (r : Reading) → OneOf (1 ∷ 2 ∷ 4 ∷ []) (tagOf the-type r) → (readingOf r .number ≡ 0 → ⊥) × (readingOf r .number ≡ 41 → ⊥)
 other (reading.Done count) (inl e) = absurd (omega arith)
@@ -34,32 +50,36 @@ sub-last c = omega (arith, c .before .before .pre)
 
 returns : tie.Need-returns
 returns c =
-    let read = c .before .before .before .before .before .before .read in
-    let start = c .before .before .before .before .before .before .before .before .before .before in
-    filled-exactly (start .args .bytes .now) (start .args .text .now) (read .last .1 .0) (start .pre) (read .result) (read .ensures .0)
+    let on = from-done (c .before) in
+    let entry = start on in
+    let read = on .read in
+    filled-exactly (entry .args .bytes .now) (entry .args .text .now) (read .last .1 .0) (entry .pre) (read .result) (read .ensures .0)
     (read .ensures .1) _ (c .before .before .read2 .given .1) (c .if1 .taken)
 
 returns-2 : tie.Need-returns-2
 returns-2 c =
-    let read = c .before .before .before .before .before .before .read in
-    let start = c .before .before .before .before .before .before .before .before .before .before in
-    ap (λ k. wrongAt (k - 2)) (start .pre .0)
-    ∙ filled-less (start .args .bytes .now) (start .args .text .now) (read .last .1 .0) (start .pre) (read .result) (read .ensures .0)
+    let on = from-done (c .before) in
+    let entry = start on in
+    let read = on .read in
+    ap (λ k. wrongAt (k - 2)) (entry .pre .0)
+    ∙ filled-less (entry .args .bytes .now) (entry .args .text .now) (read .last .1 .0) (entry .pre) (read .result) (read .ensures .0)
     (read .ensures .1) _ (c .before .before .read2 .given .1) (c .if1 .left)
 
 returns-3 : tie.Need-returns-3
 returns-3 c =
-    let read = c .before .before .before .before .before .read in
-    let start = c .before .before .before .before .before .before .before .before .before in
-    filled-wrong (start .args .bytes .now) (start .args .text .now) (read .last .1 .0) (start .pre) (read .result) (read .ensures .0)
+    let on = from-wrong c in
+    let entry = start on in
+    let read = on .read in
+    filled-wrong (entry .args .bytes .now) (entry .args .text .now) (read .last .1 .0) (entry .pre) (read .result) (read .ensures .0)
     (read .ensures .1) _ _ (c .before .read3 .given .1)
 
 returns-4 : tie.Need-returns-4
 returns-4 c =
-    let read = c .before .before .before .read in
-    let start = c .before .before .before .before .before .before .before in
-    ap (λ k. wrongAt (k - 2)) (start .pre .0)
-    ∙ filled-more (start .args .bytes .now) (start .args .text .now) (read .last .1 .0) (start .pre) (read .result) (read .ensures .0)
+    let on = from-other c in
+    let entry = start on in
+    let read = on .read in
+    ap (λ k. wrongAt (k - 2)) (entry .pre .0)
+    ∙ filled-more (entry .args .bytes .now) (entry .args .text .now) (read .last .1 .0) (entry .pre) (read .result) (read .ensures .0)
     (read .ensures .1) (other (read .result) (c .match .keys3) .0) (other (read .result) (c .match .keys3) .1)
 
 read-requires : tie.Need-read-requires

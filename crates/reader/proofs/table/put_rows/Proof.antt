@@ -25,26 +25,39 @@ abbrev μ-loop : tie.MeasureT-loop
 μ-loop seal version count table₀ end at₀ to₀ table at to = width * count - to
 
 -- the seal and the version that were handed over
+abbrev start : tie.At-loop Inv-loop μ-loop → tie.Start Inv-loop μ-loop
+start c = c .before .before .before
+
 abbrev sealAt : tie.At-loop Inv-loop μ-loop → List ℕ
-sealAt c = now (c .before .before .before .args .seal)
+sealAt c = now (start c .args .seal)
 
 abbrev versionAt : tie.At-loop Inv-loop μ-loop → Version
-versionAt c = c .before .before .before .args .version
+versionAt c = start c .args .version
+
+-- the places before: the loop, from where the tag is known; the tag, from where the length is known; the length, from where the row is put
+abbrev in-loop : tie.After-known-told Inv-loop μ-loop → tie.In-loop Inv-loop μ-loop
+in-loop c = c .before .before .before .before
+
+abbrev on-tag : tie.After-known-told2 Inv-loop μ-loop → tie.After-known-told Inv-loop μ-loop
+on-tag c = c .before .before .before .before
+
+abbrev on-size : tie.After-struct-known Inv-loop μ-loop → tie.After-known-told2 Inv-loop μ-loop
+on-size c = c .before .before .before .before .before
+
+abbrev on-loop : tie.After-known-told2 Inv-loop μ-loop → tie.At-loop Inv-loop μ-loop
+on-loop c = in-loop (on-tag c) .before
 
 -- the tag that was read, and its length
-tag-read :
-    (c : tie.After-known-told Inv-loop μ-loop) →
-    let on =
-    c .before .before .before .before .before in is (c .before .tag .given .0 .0) (c .before .tag .given .0 .1 .0 .place)
-    ≡ byte (on .loop .at) (sealAt on) (plainIn (on .loop .at))
+tag-read : (c : tie.After-known-told Inv-loop μ-loop) →
+    let on = in-loop c .before in
+    let g = c .before .tag .given .0 in
+    is (g .0) (g .1 .0 .place) ≡ byte (on .loop .at) (sealAt on) (plainIn (on .loop .at))
 tag-read c = sym (ap (byteOf _) (c .before .tag .given .1)) ∙ c .before .before .before .byte .ensures
 
-size-read :
-    (c : tie.After-known-told2 Inv-loop μ-loop) →
-    let told =
-    c .before .before .before .before in let on = told .before .before .before .before .before in is
-    (c .before .size .given .0 .0) (c .before .size .given .0 .1 .0 .place)
-    ≡ featureLength (versionAt on) (told .before .tag .given .0 .1 .0 .place) (sealAt on)
+size-read : (c : tie.After-known-told2 Inv-loop μ-loop) →
+    let on = on-loop c in
+    let g = c .before .size .given .0 in
+    is (g .0) (g .1 .0 .place) ≡ featureLength (versionAt on) (on-tag c .before .tag .given .0 .1 .0 .place) (sealAt on)
 size-read c = sym (ap numberOf (c .before .size .given .1)) ∙ c .before .before .before .feature-length .ensures
 
 -- neither is ever missing
@@ -57,26 +70,24 @@ tag-there c =
 size-there : tie.After-enum-told2 Inv-loop μ-loop → ⊥
 size-there c =
     let told = c .before .before .before in
-    let on = told .before .before .before .before in
+    let on = in-loop told in
     put-size _ _ _ _ _ _ _ _ (on .before .loop .inv) (on .loop-test .taken) _ _ (tag-read told) _ _
     (sym (ap numberOf (c .enum-told2 .given .1)) ∙ c .before .before .feature-length .ensures)
 
 -- nor is the value
-value-there :
-    (c : tie.After-known-told2 Inv-loop μ-loop) →
-    c .before .size .given .0 .1 .0 .place + c .before .size .given .0 .0 ≤ length
-    (sealAt (c .before .before .before .before .before .before .before .before .before))
+value-there : (c : tie.After-known-told2 Inv-loop μ-loop) →
+    let g = c .before .size .given .0 in
+    g .1 .0 .place + g .0 ≤ length (sealAt (on-loop c))
 value-there c =
-    let told = c .before .before .before .before in
-    let on = told .before .before .before .before in
+    let told = on-tag c in
+    let on = in-loop told in
     put-value _ _ _ _ _ _ _ _ (on .before .loop .inv) (on .loop-test .taken) _ _ (tag-read told) _ _ (size-read c)
 
 -- the table has room for the row
-room : (c : tie.After-known-told2 Inv-loop μ-loop) →
-    let on = c .before .before .before .before .before .before .before .before .before in on .loop .to + width ≤ length (on .loop .table)
+room : (c : tie.After-known-told2 Inv-loop μ-loop) → on-loop c .loop .to + width ≤ length (on-loop c .loop .table)
 room c =
-    let told = c .before .before .before .before in
-    let on = told .before .before .before .before in
+    let told = on-tag c in
+    let on = in-loop told in
     put-room _ _ _ _ _ _ _ _ (on .before .loop .inv) (on .loop-test .taken) _ _ (tag-read told) _ _ (size-read c)
 
 mul-end : tie.Need-mul-end Inv-loop μ-loop
@@ -110,7 +121,7 @@ enum-known-size : tie.Need-enum-known-size Inv-loop μ-loop
 enum-known-size c = search needs
 
 same-length-2 : tie.Need-same-length-2 Inv-loop μ-loop
-same-length-2 c = put-length _ _ _ _ _ _ _ _ (c .before .before .before .before .before .before .before .before .loop .inv)
+same-length-2 c = put-length _ _ _ _ _ _ _ _ (in-loop (c .before .before .before) .before .loop .inv)
 
 returns-2 : tie.Need-returns-2 Inv-loop μ-loop
 returns-2 c = absurd (size-there c)
@@ -119,10 +130,10 @@ put-row-requires : tie.Need-put-row-requires Inv-loop μ-loop
 put-row-requires c κs = search needs
 
 add-at : tie.Need-add-at Inv-loop μ-loop
-add-at c = omega (arith, value-there (c .before .before .before .before .before))
+add-at c = omega (arith, value-there (on-size c))
 
 add-to : tie.Need-add-to Inv-loop μ-loop
-add-to c = omega (arith, room (c .before .before .before .before .before))
+add-to c = omega (arith, room (on-size c))
 
 loop-less : tie.Need-loop-less Inv-loop μ-loop
 loop-less c = omega arith
@@ -130,9 +141,9 @@ loop-less c = omega arith
 loop-again : tie.Need-loop-again Inv-loop μ-loop
 loop-again c =
     let put = c .before .before .before in
-    let sized = put .before .before in
-    let told = sized .before .before .before .before in
-    let on = told .before .before .before .before in
+    let sized = on-size c in
+    let told = on-tag sized in
+    let on = in-loop told in
     put-more _ _ _ _ _ _ _ _ (on .before .loop .inv) (on .loop-test .taken) _ _ (tag-read told) _ _ (size-read sized) _
     (put .put-row .ensures)
 
