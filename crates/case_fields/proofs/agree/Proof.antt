@@ -32,7 +32,7 @@ returns-3 c =
     let first = second .before in
     let places = first .before in
     let numbers = places .before .before .before in
-    let args = c .before .before .before .before .before .before .before .before .before .before .before .args in
+    let args = numbers .before .before .before .args in
     let same-a = first .fields-of .ensures in
     let same-b = second .fields-of2 .ensures in
     tells-through

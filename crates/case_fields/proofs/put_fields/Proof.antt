@@ -5,6 +5,16 @@ use Rattle.case_file.specs.Line.Laws.{within-more}
 use Rattle.case_fields.proofs.put_fields.Statement.{statement}
 use Rattle.case_fields.proofs.put_fields.Tie as tie
 
+-- the way back through the parts: from the count to the signature, to the zone ends, and to the header
+abbrev put-signature : tie.After-put-part-arg9 → tie.After-put-part2
+put-signature c = c .before .before .before .before .before
+
+abbrev put-ends : tie.After-put-part-arg6 → tie.After-put-part
+put-ends c = c .before .before .before .before .before
+
+abbrev put-first : tie.After-put-part-arg3 → tie.After-put-header
+put-first c = c .before .before .before .before .before
+
 put-header-requires : tie.Need-put-header-requires
 put-header-requires c κs = search needs
 
@@ -40,14 +50,14 @@ same-length c = search needs
 
 returns : tie.Need-returns
 returns c =
-    let four = c .before .before in
-    let three = four .before .before .before .before .before .before in
-    let two = three .before .before .before .before .before .before in
-    let one = two .before .before .before .before .before .before in
-    within-more _ _ _ _ _ (one .put-header .ensures) (one .put-header .kept .1 .0)
-    (within-more _ _ _ _ _ (two .put-part .ensures .within) (two .put-part .kept .0)
-    (within-more _ _ _ _ _ (three .put-part2 .ensures .within) (three .put-part2 .kept .0)
-    (four .put-part3 .ensures .within)))
+    let count = c .before .before in
+    let signature = put-signature (count .before) in
+    let ends = put-ends (signature .before) in
+    let header = put-first (ends .before) in
+    within-more _ _ _ _ _ (header .put-header .ensures) (header .put-header .kept .1 .0)
+    (within-more _ _ _ _ _ (ends .put-part .ensures .within) (ends .put-part .kept .0)
+    (within-more _ _ _ _ _ (signature .put-part2 .ensures .within) (signature .put-part2 .kept .0)
+    (count .put-part3 .ensures .within)))
 
 pub put-fields-spec : {M : Type 1} → statement M
 put-fields-spec =

@@ -5,6 +5,13 @@ use Rattle.case_file.specs.Line.Laws.{within-more}
 use Rattle.case_fields.proofs.put_header.Statement.{statement}
 use Rattle.case_fields.proofs.put_header.Tie as tie
 
+-- the way back through the parts: from the numbers to the country, and to the word before it
+abbrev put-country : tie.After-numbers → tie.After-put-text2
+put-country c = c .before .before .before .before .before
+
+abbrev put-word : tie.After-put-text2 → tie.After-put-text
+put-word c = c .before .before .before .before .before
+
 slice-aggregate-put-text : tie.Need-slice-aggregate-put-text
 slice-aggregate-put-text c = search needs
 
@@ -31,12 +38,12 @@ same-length c = search needs
 
 returns : tie.Need-returns
 returns c =
-    let three = c .before .before in
-    let two = three .before .before .before .before .before .before in
-    let one = two .before .before .before .before .before in
-    within-more _ _ _ _ _ (one .put-text .ensures .within) (one .put-text .kept .0)
-    (within-more _ _ _ _ _ (two .put-text2 .ensures .within) (two .put-text2 .kept .0)
-    (three .put-part .ensures .within))
+    let numbers = c .before .before in
+    let country = put-country (numbers .before) in
+    let word = put-word country in
+    within-more _ _ _ _ _ (word .put-text .ensures .within) (word .put-text .kept .0)
+    (within-more _ _ _ _ _ (country .put-text2 .ensures .within) (country .put-text2 .kept .0)
+    (numbers .put-part .ensures .within))
 
 pub put-header-spec : {M : Type 1} → statement M
 put-header-spec =

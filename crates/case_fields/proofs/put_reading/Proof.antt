@@ -5,6 +5,22 @@ use Rattle.case_file.specs.Line.Laws.{within-more}
 use Rattle.case_fields.proofs.put_reading.Statement.{statement}
 use Rattle.case_fields.proofs.put_reading.Tie as tie
 
+-- the way back: from either end to the fields compared with none, from there to the place, to the word before it, and to the number
+abbrev from-empty : tie.After-put-text2 → tie.After-none
+from-empty c = c .before .before .before .before .before
+
+abbrev from-fields : tie.After-put-fields → tie.After-none
+from-fields c = c .before .before .before .before
+
+abbrev put-place : tie.After-none → tie.After-put-number2
+put-place c = c .before .before .before .before .before
+
+abbrev put-word : tie.After-put-number2 → tie.After-put-text
+put-word c = c .before .before .before .before
+
+abbrev put-first : tie.After-put-text → tie.After-put-number
+put-first c = c .before .before .before .before .before
+
 put-number-requires : tie.Need-put-number-requires
 put-number-requires c κs = search needs
 
@@ -34,14 +50,14 @@ same-length c = search needs
 
 returns : tie.Need-returns
 returns c =
-    let four = c .before .before in
-    let three = four .before .before .before .before .before .before .before .before .before .before in
-    let two = three .before .before .before .before in
-    let one = two .before .before .before .before .before in
-    within-more _ _ _ _ _ (one .put-number .ensures .within) (one .put-number .kept .0)
-    (within-more _ _ _ _ _ (two .put-text .ensures .within) (two .put-text .kept .0)
-    (within-more _ _ _ _ _ (three .put-number2 .ensures .within) (three .put-number2 .kept .0)
-    (four .put-text2 .ensures .within)))
+    let empty = c .before .before in
+    let place = put-place (from-empty empty) in
+    let word = put-word place in
+    let number = put-first word in
+    within-more _ _ _ _ _ (number .put-number .ensures .within) (number .put-number .kept .0)
+    (within-more _ _ _ _ _ (word .put-text .ensures .within) (word .put-text .kept .0)
+    (within-more _ _ _ _ _ (place .put-number2 .ensures .within) (place .put-number2 .kept .0)
+    (empty .put-text2 .ensures .within)))
 
 put-fields-requires : tie.Need-put-fields-requires
 put-fields-requires c κs = search needs
@@ -51,14 +67,14 @@ same-length-2 c = search needs
 
 returns-2 : tie.Need-returns-2
 returns-2 c =
-    let four = c .before .before in
-    let three = four .before .before .before .before .before .before .before .before .before in
-    let two = three .before .before .before .before in
-    let one = two .before .before .before .before .before in
-    within-more _ _ _ _ _ (one .put-number .ensures .within) (one .put-number .kept .0)
-    (within-more _ _ _ _ _ (two .put-text .ensures .within) (two .put-text .kept .0)
-    (within-more _ _ _ _ _ (three .put-number2 .ensures .within) (three .put-number2 .kept .0)
-    (four .put-fields .ensures)))
+    let fields = c .before .before in
+    let place = put-place (from-fields fields) in
+    let word = put-word place in
+    let number = put-first word in
+    within-more _ _ _ _ _ (number .put-number .ensures .within) (number .put-number .kept .0)
+    (within-more _ _ _ _ _ (word .put-text .ensures .within) (word .put-text .kept .0)
+    (within-more _ _ _ _ _ (place .put-number2 .ensures .within) (place .put-number2 .kept .0)
+    (fields .put-fields .ensures)))
 
 pub put-reading-spec : {M : Type 1} → statement M
 put-reading-spec =

@@ -7,6 +7,22 @@ use Rattle.listing.specs.Listed.Laws.{listed-counts, listed-length}
 use Rattle.case_listing.proofs.run_case.Statement.{statement}
 use Rattle.case_listing.proofs.run_case.Tie as tie
 
+-- the way back: from either last word to the rest of the buffer, from there to the count, to the listing put down, and to the call
+abbrev from-kept : tie.After-put-text2 → tie.After-text3
+from-kept c = c .before .before .before .before .before
+
+abbrev from-changed : tie.After-put-text3 → tie.After-text3
+from-changed c = c .before .before .before .before .before
+
+abbrev put-count : tie.After-text3 → tie.After-put-number
+put-count c = c .before .before .before
+
+abbrev put-listed : tie.After-put-number → tie.After-put-text
+put-listed c = c .before .before .before .before
+
+abbrev called : tie.After-put-text → tie.After-list
+called c = c .before .before .before
+
 list-requires : tie.Need-list-requires
 list-requires c κs = search needs
 
@@ -27,8 +43,7 @@ put-number-requires c κs = search needs
 
 slice-aggregate-unchanged : tie.Need-slice-aggregate-unchanged
 slice-aggregate-unchanged c =
-    let called = c .before .before .before .before .before .before .before .before .before .before .list in
-    listed-length _ _ _ (called .ensures .1 .0) (called .ensures .1 .1 .0)
+    let call = called (put-listed (put-count c)) .list in listed-length _ _ _ (call .ensures .1 .0) (call .ensures .1 .1 .0)
 
 unchanged-requires : tie.Need-unchanged-requires
 unchanged-requires c κs = search needs
@@ -45,10 +60,10 @@ same-length c = search needs
 returns : tie.Need-returns
 returns c =
     let last = c .before .before in
-    let number = last .before .before .before .before .before .before .before .before in
-    let text = number .before .before .before .before in
+    let count = put-count (from-kept last) in
+    let text = put-listed count in
     within-more _ _ _ _ _ (text .put-text .ensures .within) (text .put-text .kept .0)
-    (within-more _ _ _ _ _ (number .put-number .ensures .within) (number .put-number .kept .0) (last .put-text2 .ensures .within))
+    (within-more _ _ _ _ _ (count .put-number .ensures .within) (count .put-number .kept .0) (last .put-text2 .ensures .within))
 
 slice-aggregate-put-text-3 : tie.Need-slice-aggregate-put-text-3
 slice-aggregate-put-text-3 c = search needs
@@ -62,10 +77,10 @@ same-length-2 c = search needs
 returns-2 : tie.Need-returns-2
 returns-2 c =
     let last = c .before .before in
-    let number = last .before .before .before .before .before .before .before .before in
-    let text = number .before .before .before .before in
+    let count = put-count (from-changed last) in
+    let text = put-listed count in
     within-more _ _ _ _ _ (text .put-text .ensures .within) (text .put-text .kept .0)
-    (within-more _ _ _ _ _ (number .put-number .ensures .within) (number .put-number .kept .0) (last .put-text3 .ensures .within))
+    (within-more _ _ _ _ _ (count .put-number .ensures .within) (count .put-number .kept .0) (last .put-text3 .ensures .within))
 
 pub run-case-spec : {M : Type 1} → statement M
 run-case-spec =

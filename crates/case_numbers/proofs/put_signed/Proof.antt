@@ -12,6 +12,13 @@ use Rattle.integers.specs.Integer.Signed.{up-fits, below-fits, below-cast, word
 use Rattle.case_numbers.proofs.put_signed.Statement.{statement}
 use Rattle.case_numbers.proofs.put_signed.Tie as tie
 
+-- the way back: from the magnitude to the test of the sign, and to the entry
+abbrev is-below : tie.After-put-number-arg → tie.Then1
+is-below c = c .before .before .before .before .before
+
+abbrev start : tie.Then1 → tie.Start
+start c = c .before .before
+
 -- the magnitude of a number that fits, read back from its bits
 most : (z : ℤ) → SFits w64 z → natAbs (toZ w64 (ofZ w64 z)) ≤ 2 ^ 63
 most z f = subst (λ v. natAbs v ≤ 2 ^ 63) (sym (toZ-ofZ f)) (go z f)
@@ -21,25 +28,21 @@ most z f = subst (λ v. natAbs v ≤ 2 ^ 63) (sym (toZ-ofZ f)) (go z f)
     go (negsuc k) f = omega (arith, f .sfits)
 
 add-below : tie.Need-add-below
-add-below c = let o = c .before .before in up-fits (o .args .value) (o .fits .value) (c .if1 .taken)
+add-below c = let o = start c in up-fits (o .args .value) (o .fits .value) (c .if1 .taken)
 
 sub-below : tie.Need-sub-below
-sub-below c = let o = c .before .before in below-fits (o .args .value) (o .fits .value) (c .if1 .taken)
+sub-below c = let o = start c in below-fits (o .args .value) (o .fits .value) (c .if1 .taken)
 
 put-requires : tie.Need-put-requires
 put-requires c κs = search needs
 
 cast-put-number : tie.Need-cast-put-number
-cast-put-number c =
-    let o = c .before .before .before .before .before .before .before in
-    below-cast (o .args .value) (o .fits .value) (c .before .before .before .before .before .if1 .taken)
+cast-put-number c = let o = start (is-below c) in below-cast (o .args .value) (o .fits .value) (is-below c .if1 .taken)
 
 add-put-number : tie.Need-add-put-number
 add-put-number c =
-    let o = c .before .before .before .before .before .before .before in
-    record {
-      fits = omega (arith, most _ (below-fits (o .args .value) (o .fits .value) (c .before .before .before .before .before .if1 .taken)));
-    }
+    let o = start (is-below c) in
+    record { fits = omega (arith, most _ (below-fits (o .args .value) (o .fits .value) (is-below c .if1 .taken))) }
 
 put-number-requires : tie.Need-put-number-requires
 put-number-requires c κs = search needs

@@ -21,6 +21,16 @@ Inv-loop s from out₀ to i₀ o₀ out i o = (length out ≡ length out₀) × 
 abbrev μ-loop : tie.MeasureT-loop
 μ-loop s from out₀ to i₀ o₀ out i o = length s - i
 
+-- the way back: from the second digit to the first, from the first to this turn of the loop, and the text of the entry
+abbrev read-first : tie.After-hex-value2 Inv-loop μ-loop → tie.Else1 Inv-loop μ-loop
+read-first c = c .before .before
+
+abbrev on-loop : tie.After-hex-value Inv-loop μ-loop → tie.At-loop Inv-loop μ-loop
+on-loop c = c .before .before .before
+
+abbrev text : tie.At-loop Inv-loop μ-loop → List ℕ
+text on = now (on .before .before .before .args .s)
+
 loop-holds : tie.Need-loop-holds Inv-loop μ-loop
 loop-holds c = (refl, [], pairs-none _ _, put-none _ _)
 
@@ -31,12 +41,12 @@ hex-value-requires : tie.Need-hex-value-requires Inv-loop μ-loop
 hex-value-requires c κs = search needs
 
 same-length : tie.Need-same-length Inv-loop μ-loop
-same-length c = c .before .before .before .before .loop .inv .0
+same-length c = on-loop (c .before) .loop .inv .0
 
 returns : tie.Need-returns Inv-loop μ-loop
 returns c =
-    let on = c .before .before .before .before in
-    let s = now (on .before .before .before .args .s) in
+    let on = on-loop (c .before) in
+    let s = text on in
     pairs-done s _ (on .loop .i) _ (on .loop .inv .2)
     (pairs-no-high s (on .loop .i) (omega arith) _ (digit-at _ _ _ (c .before .before .at .ensures) (c .before .hex-value .ensures))
     (c .if1 .taken))
@@ -52,22 +62,22 @@ hex-value-requires-2 : tie.Need-hex-value-requires-2 Inv-loop μ-loop
 hex-value-requires-2 c κs = search needs
 
 same-length-2 : tie.Need-same-length-2 Inv-loop μ-loop
-same-length-2 c = c .before .before .before .before .before .before .before .loop .inv .0
+same-length-2 c = on-loop (read-first (c .before) .before) .loop .inv .0
 
 returns-2 : tie.Need-returns-2 Inv-loop μ-loop
 returns-2 c =
-    let first = c .before .before .before in
-    let on = first .before .before .before .before in
-    let s = now (on .before .before .before .args .s) in
+    let first = read-first (c .before) in
+    let on = on-loop (first .before) in
+    let s = text on in
     pairs-done s _ (on .loop .i) _ (on .loop .inv .2)
     (pairs-no-low s (on .loop .i) (omega arith) _ (digit-at _ _ _ (first .before .before .at .ensures) (first .before .hex-value .ensures))
     (first .if1 .left) _ (digit-at _ _ _ (c .before .before .at2 .ensures) (c .before .hex-value2 .ensures)) (c .if2 .taken))
     _ _ _ _ (on .loop .inv .3)
 
 -- both are digits
-small : (c : tie.Else2 Inv-loop μ-loop) → (c .before .before .before .before .hex-value .result < 16) × (c .before .hex-value2 .result < 16)
+small : (c : tie.Else2 Inv-loop μ-loop) → (read-first (c .before) .before .hex-value .result < 16) × (c .before .hex-value2 .result < 16)
 small c =
-    let first = c .before .before .before in
+    let first = read-first (c .before) in
     let high = first .before .before .at .result in
     let low = c .before .before .at2 .result in
     let one = digit-small high _ (first .before .hex-value .ensures) (first .if1 .left) in
@@ -95,9 +105,9 @@ loop-again : tie.Need-loop-again Inv-loop μ-loop
 loop-again c =
     let call = c .before .before in
     let second = call .before .before in
-    let first = second .before .before .before in
-    let on = first .before .before .before .before in
-    let s = now (on .before .before .before .args .s) in
+    let first = read-first (second .before) in
+    let on = on-loop (first .before) in
+    let s = text on in
     let pair = pairs-more s (on .loop .i) (omega arith) _
     (digit-at _ _ _ (first .before .before .at .ensures) (first .before .hex-value .ensures)) (first .if1 .left) _
     (digit-at _ _ _ (second .before .before .at2 .ensures) (second .before .hex-value2 .ensures)) (second .if2 .left) in (
@@ -113,7 +123,7 @@ same-length-3 c = c .before .loop .inv .0
 returns-3 : tie.Need-returns-3 Inv-loop μ-loop
 returns-3 c =
     let on = c .before in
-    let s = now (on .before .before .before .args .s) in
+    let s = text on in
     pairs-done s _ (on .loop .i) _ (on .loop .inv .2) (pairs-past s (on .loop .i) (omega arith)) _ _ _ _ (on .loop .inv .3)
 
 pub take-pairs-spec : {M : Type 1} → statement M

@@ -7,21 +7,22 @@ use lib.Seq.{length-take-le}
 use Rattle.case_seals.proofs.run_case.Statement.{statement}
 use Rattle.case_seals.proofs.run_case.Tie as tie
 
+-- the way back to the entry from where the reader is lent its numbers
+abbrev start : tie.After-read-arg → tie.Start
+start c = c .before .before .before .before .before
+
 slice-relend-prefix-read : tie.Need-slice-relend-prefix-read
 slice-relend-prefix-read c = search needs
 
 slice-aggregate-read : tie.Need-slice-aggregate-read
-slice-aggregate-read c =
-    let start = c .before .before .before .before .before in
-    sym (length-take-le (start .args .numbers) (now (start .args .table)) (start .pre .0))
+slice-aggregate-read c = let entry = start c in sym (length-take-le (entry .args .numbers) (now (entry .args .table)) (entry .pre .0))
 
 slice-relend-prefix-read-2 : tie.Need-slice-relend-prefix-read-2
 slice-relend-prefix-read-2 c = search needs
 
 slice-aggregate-read-2 : tie.Need-slice-aggregate-read-2
 slice-aggregate-read-2 c =
-    let start = c .before .before .before .before .before .before in
-    sym (length-take-le (start .args .room) (now (start .args .text)) (start .pre .1))
+    let entry = start (c .before) in sym (length-take-le (entry .args .room) (now (entry .args .text)) (entry .pre .1))
 
 read-requires : tie.Need-read-requires
 read-requires c κs = search needs

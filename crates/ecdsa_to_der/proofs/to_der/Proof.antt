@@ -21,8 +21,15 @@ use borrow.Author.Needs.{needs}
 use Rattle.ecdsa_to_der.proofs.to_der.Statement.{statement}
 use Rattle.ecdsa_to_der.proofs.to_der.Tie as tie
 
+-- the way back: from both halves to where n and the raw length were judged, from the test of n to the entry
+abbrev judged : tie.After-put-pair-arg3 → tie.Else2
+judged c = c .before .before .before
+
+abbrev start : tie.Else1 → tie.Start
+start c = c .before .before .before .before
+
 -- n is one of the five
-sized : (c : tie.Else1) → isSize (c .before .before .before .before .args .n) ≡ true
+sized : (c : tie.Else1) → isSize (start c .args .n) ≡ true
 sized c = sym (c .before .is-size .ensures) ∙ not-false _ (c .if1 .left)
 
 -- r is the first n bytes, s the n after them
@@ -65,21 +72,22 @@ part-put-pair-end : tie.Need-part-put-pair-end
 part-put-pair-end c = search needs
 
 put-pair-requires : tie.Need-put-pair-requires
-put-pair-requires c κs = let on = c .before .before .before in numbers _ _ (sized (on .before)) (on .if2 .left)
+put-pair-requires c κs = let on = judged c in numbers _ _ (sized (on .before)) (on .if2 .left)
 
 same-length : tie.Need-same-length
 same-length c = search needs
 
 returns-3 : tie.Need-returns-3
 returns-3 c =
-    let on = c .before .before .before .before .before .before in
-    let a = on .before .before .before .before .before .args in
+    let put = c .before .before in
+    let on = judged (put .before) in
+    let a = start (on .before) .args in
     let raw = now (a .raw) in
     let out = now (a .out) in
     let e : formed (take (a .n) raw) (take (length raw - a .n) (drop (a .n) raw)) (length out) ≡ toDer (a .n) raw (length out) =
     ap (λ s. formed (take (a .n) raw) s (length out)) (rest (a .n) raw)
     ∙ sym (to-der-formed (a .n) raw (length out) (sized (on .before)) (on .if2 .left)) in
-    (c .before .before .put-pair .ensures .0 ∙ ap told e, c .before .before .put-pair .ensures .1 ∙ ap (λ o. filled o out) e)
+    (put .put-pair .ensures .0 ∙ ap told e, put .put-pair .ensures .1 ∙ ap (λ o. filled o out) e)
 
 pub to-der-spec : {M : Type 1} → statement M
 to-der-spec =

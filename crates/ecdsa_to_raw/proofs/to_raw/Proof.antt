@@ -17,16 +17,25 @@ use Rattle.ecdsa_to_raw.specs.Rawed.{to-raw-pair}
 use Rattle.ecdsa_to_raw.proofs.to_raw.Statement.{statement}
 use Rattle.ecdsa_to_raw.proofs.to_raw.Tie as tie
 
-sized : (c : tie.Else1) → isSize (c .before .before .before .before .args .n) ≡ true
+-- the way back: from what the sequence holds to its end, to where it was read, and from the test of n to the entry
+abbrev whole : tie.After-put-pair-arg2 → tie.Else2
+whole c = c .before .before
+
+abbrev read : tie.After-known-told → tie.After-element-of
+read c = c .before .before .before
+
+abbrev start : tie.Else1 → tie.Start
+start c = c .before .before .before .before
+
+sized : (c : tie.Else1) → isSize (start c .args .n) ≡ true
 sized c = sym (c .before .is-size .ensures) ∙ not-false _ (c .if1 .left)
 
 -- the sequence is whole
 framed :
     (c : tie.After-known-told) →
-    Found 0x30 (now (c .before .before .before .before .before .before .before .before .args .der)) (c .before .found .given .0 .0)
-    (c .before .found .given .0 .1 .0)
+    Found 0x30 (now (start (read c .before) .args .der)) (c .before .found .given .0 .0) (c .before .found .given .0 .1 .0)
 framed c =
-    let on = c .before .before .before in
+    let on = read c in
     element-whole 0x30 _ (λ i. on .before .before .before .before .shared-slice-known .given i .fits) _ _
     (sym (on .element-of .ensures) ∙ c .before .found .given .1)
 
@@ -52,7 +61,7 @@ returns-2 c =
 
 returns-3 : tie.Need-returns-3
 returns-3 c =
-    let on = c .before .before .before .before in
+    let on = read (c .before) in
     refuses _ 62 0 _
     (toRaw-not-strict _ _ _ (sized (on .before))
     (raw-more _ _ _ _ (sym (on .element-of .ensures) ∙ c .before .before .found .given .1) (c .if2 .taken)))
@@ -67,21 +76,20 @@ part-put-pair-end : tie.Need-part-put-pair-end
 part-put-pair-end c = search needs
 
 put-pair-requires : tie.Need-put-pair-requires
-put-pair-requires c κs =
-    let on = c .before .before .before .before .before .before .before in
-    omega (arith, size-bounds _ (sized on))
+put-pair-requires c κs = let on = read (whole c .before) in omega (arith, size-bounds _ (sized (on .before)))
 
 same-length : tie.Need-same-length
 same-length c = search needs
 
 returns-4 : tie.Need-returns-4
 returns-4 c =
-    let at = c .before .before .before .before .before in
-    let on = at .before .before .before .before in
-    let a = on .before .before .before .before .before .args in
-    let read = sym (on .element-of .ensures) ∙ at .before .before .found .given .1 in
-    let e = to-raw-pair _ _ _ _ _ (sized (on .before)) read (at .if2 .left) _ refl in
-    (c .before .before .put-pair .ensures .0 ∙ ap told e, c .before .before .put-pair .ensures .1 ∙ ap (λ o. filled o (now (a .out))) e)
+    let put = c .before .before in
+    let all = whole (put .before) in
+    let on = read (all .before) in
+    let a = start (on .before) .args in
+    let found = sym (on .element-of .ensures) ∙ all .before .before .found .given .1 in
+    let e = to-raw-pair _ _ _ _ _ (sized (on .before)) found (all .if2 .left) _ refl in
+    (put .put-pair .ensures .0 ∙ ap told e, put .put-pair .ensures .1 ∙ ap (λ o. filled o (now (a .out))) e)
 
 pub to-raw-spec : {M : Type 1} → statement M
 to-raw-spec =

@@ -5,6 +5,7 @@ use borrow.Author.Needs.{needs}
 use native.Mathlib.Omega.{arith}
 use mathlib.Core.Path.{_≡_, _∙_, ap, sym}
 use Prim.Native.Nat.{ℕ, _-_, _≤_}
+use mathlib.Core.List.{List}
 use denote.Ref.{now}
 use lib.ListN.{length, getD, drop, take, length-drop}
 use lib.Seq.{take-all}
@@ -16,12 +17,17 @@ use Rattle.der.specs.Element.Laws.{element-none, element-other, element-read}
 use Rattle.elements.proofs.element_of.Statement.{statement}
 use Rattle.elements.proofs.element_of.Tie as tie
 
+-- the way back from the length that was read to the known bytes of the entry, and those bytes
+abbrev known : tie.After-read-length → tie.After-shared-slice-known
+known c = c .before .before .before .before .before
+
+abbrev whole : tie.After-read-length → List ℕ
+whole c = now (known c .before .args .s)
+
 -- the length is read after the tag
-rest :
-    (c : tie.After-read-length) →
-    c .read-length .result ≡ readLength (drop 1 (now (c .before .before .before .before .before .before .args .s)))
+rest : (c : tie.After-read-length) → c .read-length .result ≡ readLength (drop 1 (whole c))
 rest c =
-    let s = now (c .before .before .before .before .before .before .args .s) in
+    let s = whole c in
     c .read-length .ensures ∙ ap readLength (take-all (length s - 1) (drop 1 s) (omega (arith, length-drop 1 s)))
 
 returns : tie.Need-returns
@@ -54,9 +60,8 @@ sub-body-in c = search needs
 body-in-requires : tie.Need-body-in-requires
 body-in-requires c κs =
     let on = c .before .before .before in
-    let start = on .before .before .before .before .before .before in
-    let s = now (start .args .s) in
-    let bytes = bytes-drop 1 s (λ i. on .before .before .before .before .before .shared-slice-known .given i .fits) in
+    let s = whole on in
+    let bytes = bytes-drop 1 s (λ i. known on .shared-slice-known .given i .fits) in
     let taken = read-is-form (drop 1 s) bytes (c .before .read .given .0 .0) (c .before .read .given .0 .1 .0)
     (sym (rest on) ∙ c .before .read .given .1) in
     (omega (arith, taken .there, length-drop 1 s), omega arith)
@@ -67,7 +72,7 @@ enum-told c = search needs
 returns-3 : tie.Need-returns-3
 returns-3 c =
     let on = c .before .before .before .before in
-    let s = now (on .before .before .before .before .before .before .args .s) in
+    let s = whole on in
     c .body-in .ensures
     ∙ ap (bodyIn (length s - 1)) (sym (c .before .before .read .given .1) ∙ rest on)
     ∙ element-read _ s (omega arith) (on .before .before .if2 .left)
@@ -75,7 +80,7 @@ returns-3 c =
 returns-4 : tie.Need-returns-4
 returns-4 c =
     let on = c .before .before in
-    let s = now (on .before .before .before .before .before .before .args .s) in
+    let s = whole on in
     ap (bodyIn (length s - 1)) (sym (c .enum-told .given .1) ∙ rest on) ∙ element-read _ s (omega arith) (on .before .before .if2 .left)
 
 pub element-of-spec : {M : Type 1} → statement M

@@ -14,15 +14,25 @@ use borrow.Author.Needs.{needs}
 use Rattle.integers_write.proofs.write.Statement.{statement}
 use Rattle.integers_write.proofs.write.Tie as tie
 
+-- the way back: from the copy to the test of the room, from where the shortest form starts to the eight bytes and to the entry
+abbrev has-room : tie.After-copy → tie.Else1
+has-room c = c .before .before .before .before
+
+abbrev made : tie.After-start-of → tie.After-bytes-of
+made c = c .before .before
+
+abbrev start : tie.After-start-of → tie.Start
+start c = made c .before .before .before
+
 -- the eight bytes, and where their shortest form starts
 from :
     (c : tie.After-start-of) →
-    (c .before .before .bytes-of .result ≡ be 8 (word (c .before .before .before .before .before .args .v)))
+    (made c .bytes-of .result ≡ be 8 (word (start c .args .v)))
     × (c .start-of .result < 8)
-    × (shortest (c .before .before .bytes-of .result) ≡ drop (c .start-of .result) (c .before .before .bytes-of .result))
+    × (shortest (made c .bytes-of .result) ≡ drop (c .start-of .result) (made c .bytes-of .result))
 from c =
-    let o = c .before .before in (
-      o .bytes-of .ensures ∙ ap (be 8) (o .before .word .ensures ∙ ap word (toZ-ofZ (o .before .before .before .fits .v))),
+    let o = made c in (
+      o .bytes-of .ensures ∙ ap (be 8) (o .before .word .ensures ∙ ap word (toZ-ofZ (start c .fits .v))),
       c .start-of .ensures .0,
       c .start-of .ensures .1,
     )
@@ -44,7 +54,7 @@ add-if1 c = search needs
 
 returns : tie.Need-returns
 returns c =
-    let a = c .before .before .before .before .before .before .args in
+    let a = start (c .before) .args in
     let f = from (c .before) in no-room (a .v) _ _ (f .0) (f .1) (f .2) (now (a .out)) (omega arith)
 
 slice-write-out : tie.Need-slice-write-out
@@ -73,17 +83,19 @@ add-t9 c = search needs
 
 same-length : tie.Need-same-length
 same-length c =
-    let o = c .before .before .before .before .before .before in
-    let a = o .before .before .before .before .before .before .args in
+    let copied = c .before .before in
+    let o = has-room copied in
+    let a = start (o .before) .args in
     let f = from (o .before) in
-    written-size (a .v) _ _ (f .0) (f .1) (f .2) (now (a .out)) (omega (arith, o .if1 .left)) _ (c .before .before .copy .ensures .1)
+    written-size (a .v) _ _ (f .0) (f .1) (f .2) (now (a .out)) (omega (arith, o .if1 .left)) _ (copied .copy .ensures .1)
 
 returns-2 : tie.Need-returns-2
 returns-2 c =
-    let o = c .before .before .before .before .before .before in
-    let a = o .before .before .before .before .before .before .args in
+    let copied = c .before .before in
+    let o = has-room copied in
+    let a = start (o .before) .args in
     let f = from (o .before) in
-    written (a .v) _ _ (f .0) (f .1) (f .2) (now (a .out)) (omega (arith, o .if1 .left)) _ (c .before .before .copy .ensures .1)
+    written (a .v) _ _ (f .0) (f .1) (f .2) (now (a .out)) (omega (arith, o .if1 .left)) _ (copied .copy .ensures .1)
 
 pub write-spec : {M : Type 1} → statement M
 write-spec =

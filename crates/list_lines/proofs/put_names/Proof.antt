@@ -11,6 +11,16 @@ use Rattle.list_lines.specs.ListLine.{nameLines}
 use Rattle.list_lines.proofs.put_names.Statement.{statement}
 use Rattle.list_lines.proofs.put_names.Tie as tie
 
+-- the way back through the lines: from the reference to the signer, to the country, and from there to the version
+abbrev put-signer : tie.After-put-named3 → tie.After-put-named2
+put-signer c = c .before .before .before .before .before
+
+abbrev put-country : tie.After-put-named2 → tie.After-put-named
+put-country c = c .before .before .before .before .before
+
+abbrev put-version : tie.After-country → tie.After-put-counted
+put-version c = c .before .before .before .before .before
+
 slice-aggregate-put-counted : tie.Need-slice-aggregate-put-counted
 slice-aggregate-put-counted c = search needs
 
@@ -45,9 +55,9 @@ returns : tie.Need-returns
 unfolding nameLines
 returns c =
     let reference = c .before .before in
-    let signer = reference .before .before .before .before .before in
-    let country = signer .before .before .before .before .before in
-    let version = country .before .before .before .before .before .before in
+    let signer = put-signer reference in
+    let country = put-country signer in
+    let version = put-version (country .before) in
     let code = version .before .before .before .before .before .args .t4 in
     let three = slice-aggregate-put-named-2 (country .before) in
     let short : length code ≤ 3 = omega arith in

@@ -7,6 +7,13 @@ use Rattle.listing.specs.Listed.Laws.{whole, enough}
 use Rattle.listing.proofs.list.Statement.{statement}
 use Rattle.listing.proofs.list.Tie as tie
 
+-- the way back: from the listing about to be put to where the seal was read, and to its known bytes
+abbrev seal-read : tie.After-put-listing-arg → tie.After-read
+seal-read c = c .before .before .before .before .before
+
+abbrev known : tie.After-read → tie.After-shared-slice-known
+known c = c .before .before .before
+
 slice-aggregate-read : tie.Need-slice-aggregate-read
 slice-aggregate-read c = search needs
 
@@ -28,12 +35,12 @@ put-listing-requires c κs = search needs
 returns : tie.Need-returns
 returns c =
     let put = c .put-listing in
-    let read = c .before .before .before .before .before .before .read in
-    let known = c .before .before .before .before .before .before .before .before .before in
-    let s = known .before in
+    let on = seal-read (c .before) in
+    let read = on .read in
+    let s = known on .before in
     let seal = now (s .args .seal) in
     let held =
-    whole seal (λ i. known .shared-slice-known .given i .fits) _ _ _ _ (read .result) (omega (arith, read .ok))
+    whole seal (λ i. known on .shared-slice-known .given i .fits) _ _ _ _ (read .result) (omega (arith, read .ok))
     _ _ (omega arith) (omega arith)
     (read .ensures .0) (read .ensures .1 .0) (read .ensures .1 .1)
     (now (s .args .out)) _ (put .result) (omega (arith, s .good)) (put .ensures) in

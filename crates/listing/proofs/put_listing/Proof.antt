@@ -4,9 +4,14 @@ use borrow.Author.Needs.{needs}
 use borrow.Author.Tests.{eq-eqb, ne-eqb}
 use mathlib.Core.Path.{_≡_}
 use mathlib.Core.Bool.{true, false}
+use Prim.Native.Nat.{ℕ}
 use lib.Dec.{eqb}
 use Rattle.listing.proofs.put_listing.Statement.{statement}
 use Rattle.listing.proofs.put_listing.Tie as tie
+
+-- the number of the reading, from where it is tested
+abbrev number : tie.After-struct-known → ℕ
+number c = c .before .before .before .before .args .reading .number
 
 put-accepted-requires : tie.Need-put-accepted-requires
 put-accepted-requires c κs = search needs
@@ -17,8 +22,7 @@ same-length c = search needs
 returns : tie.Need-returns
 returns c =
     let call = c .before .before in
-    let zero : eqb (call .before .before .before .before .before .before .before .args .reading .number) 0 ≡ true =
-    eq-eqb _ _ (call .before .before .if1 .taken) in
+    let zero : eqb (number (call .before .before .before)) 0 ≡ true = eq-eqb _ _ (call .before .before .if1 .taken) in
     rw zero (call .put-accepted .ensures)
 
 put-refused-requires : tie.Need-put-refused-requires
@@ -30,8 +34,7 @@ same-length-2 c = search needs
 returns-2 : tie.Need-returns-2
 returns-2 c =
     let call = c .before .before in
-    let other : eqb (call .before .before .before .before .before .before .before .args .reading .number) 0 ≡ false =
-    ne-eqb _ _ (call .before .before .if1 .left) in
+    let other : eqb (number (call .before .before .before)) 0 ≡ false = ne-eqb _ _ (call .before .before .if1 .left) in
     rw other (call .put-refused .ensures)
 
 pub put-listing-spec : {M : Type 1} → statement M

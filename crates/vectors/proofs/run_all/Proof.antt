@@ -15,6 +15,10 @@ Inv-loop calls cases out₀ from₀ to₀ out from to = (length out ≡ length o
 abbrev μ-loop : tie.MeasureT-loop
 μ-loop calls cases out₀ from₀ to₀ out from to = length cases - from
 
+-- the way back from a line that was run to its turn of the loop
+abbrev on-loop : tie.After-run-line Inv-loop μ-loop → tie.At-loop Inv-loop μ-loop
+on-loop c = c .before .before .before .before .before
+
 loop-holds : tie.Need-loop-holds Inv-loop μ-loop
 loop-holds c = (refl, omega arith)
 
@@ -40,8 +44,7 @@ loop-less : tie.Need-loop-less Inv-loop μ-loop
 loop-less c = omega arith
 
 loop-again : tie.Need-loop-again Inv-loop μ-loop
-loop-again c =
-    (c .before .before .run-line .kept .1 .1 .0 ∙ c .before .before .before .before .before .before .before .loop .inv .0, omega arith)
+loop-again c = let ran = c .before .before in (ran .run-line .kept .1 .1 .0 ∙ on-loop ran .loop .inv .0, omega arith)
 
 same-length : tie.Need-same-length Inv-loop μ-loop
 same-length c = c .before .loop .inv .0

@@ -10,6 +10,16 @@ use Rattle.case_file.specs.Line.Laws.{put-none, put-more}
 use Rattle.case_file.proofs.fill.put_written.Statement.{statement}
 use Rattle.case_file.proofs.fill.put_written.Tie as tie
 
+-- the way back from where the bytes are put: to the space before them, to the tests that there are some, to the entry
+abbrev put-space : tie.After-put-bytes-arg2 → tie.After-put
+put-space c = c .before .before .before .before
+
+abbrev some-fit : tie.After-put → tie.Else2
+some-fit c = c .before .before
+
+abbrev start : tie.Else2 → tie.Start
+start c = c .before .before .before .before
+
 returns : tie.Need-returns
 returns c = rw (eq-eqb _ _ (c .if1 .taken)) (put-none _ _)
 
@@ -32,8 +42,7 @@ put-requires c κs = search needs
 
 slice-aggregate-put-bytes : tie.Need-slice-aggregate-put-bytes
 slice-aggregate-put-bytes c =
-    let start = c .before .before .before .before .before .before .before .before .before .before in
-    sym (length-take-le (start .args .count) (now (start .args .buffer)) (omega arith))
+    let entry = start (some-fit (put-space c)) in sym (length-take-le (entry .args .count) (now (entry .args .buffer)) (omega arith))
 
 put-bytes-requires : tie.Need-put-bytes-requires
 put-bytes-requires c κs = search needs
@@ -44,8 +53,8 @@ same-length-2 c = search needs
 returns-3 : tie.Need-returns-3
 returns-3 c =
     let bytes = c .before .before in
-    let space = bytes .before .before .before .before .before in
-    let some = space .before .before in
+    let space = put-space (bytes .before) in
+    let some = some-fit space in
     rw (ne-eqb _ _ (some .before .if1 .left), le-ltb _ _ (some .if2 .left))
     (put-more _ _ _ _ _ _ _ _ (space .put .ensures) (space .put .kept .0) (bytes .put-bytes .ensures))
 

@@ -11,6 +11,19 @@ use Rattle.case_file.specs.Line.Laws.{put-more, to-end}
 use Rattle.case_file.proofs.line.put_bytes.Statement.{statement}
 use Rattle.case_file.proofs.line.put_bytes.Tie as tie
 
+-- the way back through the parts of many bytes: from the sum to the word before it, the last bytes, the dots and the first bytes
+abbrev put-word : tie.After-put-number → tie.After-put-text2
+put-word c = c .before .before .before .before .before
+
+abbrev put-last : tie.After-put-text2 → tie.After-put-hex3
+put-last c = c .before .before .before .before .before
+
+abbrev put-dots : tie.After-put-hex3 → tie.After-put-text
+put-dots c = c .before .before .before .before .before
+
+abbrev put-first : tie.After-put-text → tie.After-put-hex2
+put-first c = c .before .before .before .before .before
+
 put-hex-requires : tie.Need-put-hex-requires
 put-hex-requires c κs = search needs
 
@@ -67,12 +80,10 @@ returns-2 : tie.Need-returns-2
 unfolding shown
 returns-2 c =
     let sum = c .before .before in
-    let word = c .before .before .before .before .before .before .before in
-    let last = c .before .before .before .before .before .before .before .before .before .before .before .before in
-    let dots = c .before .before .before .before .before .before .before .before .before .before .before .before .before .before
-    .before .before .before in
-    let first = c .before .before .before .before .before .before .before .before .before .before .before .before .before .before
-    .before .before .before .before .before .before .before .before in
+    let word = put-word sum in
+    let last = put-last word in
+    let dots = put-dots last in
+    let first = put-first dots in
     rw (lt-leb _ _ (first .before .before .before .if1 .left), ← sum .before .checksum .ensures)
     (put-more _ _ _ _ _ _ _ _ (first .put-hex2 .ensures) (first .put-hex2 .kept .0)
     (put-more _ _ _ _ _ _ _ _ (dots .put-text .ensures) (dots .put-text .kept .0)

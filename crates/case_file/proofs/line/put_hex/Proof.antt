@@ -4,6 +4,7 @@ use borrow.Author.Needs.{needs}
 use native.Mathlib.Omega.{arith}
 use mathlib.Core.Path.{_≡_, refl, ap, _∙_}
 use Prim.Native.Nat.{ℕ, _-_, _/_, _%_, _≤_}
+use mathlib.Core.List.{List}
 use denote.Ref.{now}
 use lib.ListN.{length, getD, take}
 use lib.Seq.{take-all}
@@ -19,23 +20,34 @@ Inv-loop out₀ at bytes o₀ i₀ out o i = (i ≤ length bytes) × (length out
 abbrev μ-loop : tie.MeasureT-loop
 μ-loop out₀ at bytes o₀ i₀ out o i = length bytes - i
 
--- the byte of a turn, and its two digits
-abbrev byte : tie.At-loop Inv-loop μ-loop → ℕ
-byte on = getD (now (on .before .before .before .args .bytes)) (on .loop .i) 0
+-- the way back: from the second digit to the first, from the first to the byte, from the byte to this turn of the loop
+abbrev put-first : tie.After-hex-digit2 Inv-loop μ-loop → tie.After-put Inv-loop μ-loop
+put-first c = c .before .before .before .before
 
-digits : (c : tie.After-hex-digit Inv-loop μ-loop) → c .hex-digit .result ≡ hexDigit (byte (c .before .before .before .before .before) / 16)
+abbrev read-byte : tie.After-hex-digit Inv-loop μ-loop → tie.After-wide Inv-loop μ-loop
+read-byte c = c .before .before
+
+abbrev on-loop : tie.After-wide Inv-loop μ-loop → tie.At-loop Inv-loop μ-loop
+on-loop w = w .before .before .before
+
+-- the bytes, the one of a turn, and its two digits
+abbrev all : tie.At-loop Inv-loop μ-loop → List ℕ
+all on = now (on .before .before .before .args .bytes)
+
+abbrev byte : tie.After-wide Inv-loop μ-loop → ℕ
+byte w = getD (all (on-loop w)) (on-loop w .loop .i) 0
+
+digits : (c : tie.After-hex-digit Inv-loop μ-loop) → c .hex-digit .result ≡ hexDigit (byte (read-byte c) / 16)
 digits c =
-    let w = c .before .before in
-    let on = w .before .before .before in
+    let w = read-byte c in
+    let on = on-loop w in
     let small = w .before .shared-slice-known2 .given (on .loop .i) in
-    let e : w .wide .result / 16 % 16 ≡ byte on / 16 = omega (arith, w .wide .ensures, small) in
+    let e : w .wide .result / 16 % 16 ≡ byte w / 16 = omega (arith, w .wide .ensures, small) in
     c .hex-digit .ensures ∙ ap (λ n. hexDigit n) e
 
 last : (c : tie.After-hex-digit2 Inv-loop μ-loop) →
-    c .hex-digit2 .result ≡ hexDigit (byte (c .before .before .before .before .before .before .before .before .before .before) % 16)
-last c =
-    let w = c .before .before .before .before .before .before .before in
-    c .hex-digit2 .ensures ∙ ap (λ n. hexDigit (n % 16)) (w .wide .ensures)
+    c .hex-digit2 .result ≡ hexDigit (byte (read-byte (put-first c .before)) % 16)
+last c = let w = read-byte (put-first c .before) in c .hex-digit2 .ensures ∙ ap (λ n. hexDigit (n % 16)) (w .wide .ensures)
 
 loop-holds : tie.Need-loop-holds Inv-loop μ-loop
 unfolding hexOf
@@ -68,13 +80,12 @@ loop-less c = omega arith
 loop-again : tie.Need-loop-again Inv-loop μ-loop
 loop-again c =
     let low = c .before .before in
-    let high = low .before .before .before .before .before in
-    let on = high .before .before .before .before .before .before in
-    let bytes = now (on .before .before .before .args .bytes) in
+    let high = put-first (low .before) in
+    let on = on-loop (read-byte (high .before)) in
     let d = digits (high .before) in (
       omega arith,
       low .put2 .kept .0 ∙ high .put .kept .0 ∙ on .loop .inv .1,
-      hex-turn bytes _ _ (on .loop .i) (omega arith) _ _ (on .loop .inv .1) _ _ d (last (low .before)) _ _ (high .put .kept .0) _ _
+      hex-turn (all on) _ _ (on .loop .i) (omega arith) _ _ (on .loop .inv .1) _ _ d (last (low .before)) _ _ (high .put .kept .0) _ _
           (on .loop .inv .2) (high .put .ensures) (low .put2 .ensures),
     )
 
@@ -82,9 +93,7 @@ same-length : tie.Need-same-length Inv-loop μ-loop
 same-length c = c .before .loop .inv .1
 
 returns : tie.Need-returns Inv-loop μ-loop
-returns c =
-    let h : length (now (c .before .before .before .before .args .bytes)) ≤ c .before .loop .i = omega arith in
-    rw take-all at (c .before .loop .inv .2)
+returns c = let h : length (all (c .before)) ≤ c .before .loop .i = omega arith in rw take-all at (c .before .loop .inv .2)
 
 pub put-hex-spec : {M : Type 1} → statement M
 put-hex-spec =

@@ -5,7 +5,7 @@ use mathlib.Core.Path.{_≡_, _∙_, refl, ap, sym}
 use Prim.Native.Nat.{ℕ, _+_, _≤_}
 use denote.Ref.{now}
 use native.Mathlib.Nat.{zero-add}
-use mathlib.Core.List.{[], _∷_, _++_}
+use mathlib.Core.List.{List, [], _∷_, _++_}
 use lib.ListN.{length}
 use Rattle.format.specs.Answers.Laws.{refuses, gives}
 use Rattle.format.specs.Buffer.{over}
@@ -20,77 +20,84 @@ use borrow.Author.Needs.{needs}
 use Rattle.ecdsa_to_der.proofs.der_form.put_pair.Statement.{statement}
 use Rattle.ecdsa_to_der.proofs.der_form.put_pair.Tie as tie
 
+-- the way back from s about to be put: to r, to the head, to the room for all, to the sizes, to the digits of r, to the entry
+abbrev r-put : tie.After-put-integer-arg2 → tie.After-put-integer
+r-put c = c .before .before .before
+
+abbrev head-put : tie.After-put-integer → tie.After-put-head
+head-put c = c .before .before .before .before
+
+abbrev has-room : tie.After-put-head → tie.Else2
+has-room c = c .before .before
+
+abbrev sizes : tie.Else2 → tie.After-size-from2
+sizes c = c .before .before .before
+
+abbrev r-digits : tie.After-size-from2 → tie.After-start-of
+r-digits on = on .before .before .before
+
+abbrev start : tie.After-size-from2 → tie.Start
+start on = r-digits on .before .before .before .before
+
+abbrev from-r : tie.After-put-integer → tie.After-size-from2
+from-r c = sizes (has-room (head-put c))
+
+-- the buffer of the entry, the size of the content, the head before it, and r as an INTEGER
+abbrev buffer : tie.After-size-from2 → List ℕ
+buffer on = now (start on .args .out)
+
+abbrev size : tie.After-size-from2 → ℕ
+size on = on .before .size-from .result + on .size-from2 .result + 4
+
+abbrev head : tie.After-size-from2 → List ℕ
+head on = 0x30 ∷ form (size on)
+
+abbrev r-integer : tie.After-size-from2 → List ℕ
+r-integer on = integer (contentFrom (now (start on .args .r)) (r-digits on .start-of .result))
+
 -- both numbers, measured
 measured :
-    (c : tie.After-size-from2) →
-    Measured (now (c .before .before .before .before .before .before .before .args .r))
-    (now (c .before .before .before .before .before .before .before .args .s)) (c .before .before .before .start-of .result)
-    (c .before .before .start-of2 .result) (c .before .size-from .result) (c .size-from2 .result)
-measured c =
-    let n = c .before .before .before .before .before .before .before .pre in
+    (on : tie.After-size-from2) →
+    Measured (now (start on .args .r)) (now (start on .args .s)) (r-digits on .start-of .result) (on .before .before .start-of2 .result)
+    (on .before .size-from .result) (on .size-from2 .result)
+measured on =
+    let n = start on .pre in
     record {
-      r-inside = c .before .before .before .start-of .ensures .0;
-      s-inside = c .before .before .start-of2 .ensures .0;
+      r-inside = r-digits on .start-of .ensures .0;
+      s-inside = on .before .before .start-of2 .ensures .0;
       r-small = n .small-r;
       s-small = n .small-s;
-      r-form = c .before .before .before .start-of .ensures .1;
-      s-form = c .before .before .start-of2 .ensures .1;
-      r-is = c .before .size-from .ensures;
-      s-is = c .size-from2 .ensures;
+      r-form = r-digits on .start-of .ensures .1;
+      s-form = on .before .before .start-of2 .ensures .1;
+      r-is = on .before .size-from .ensures;
+      s-is = on .size-from2 .ensures;
     }
 
 -- how long the whole is, and that it fits
-fits :
-    (c : tie.Else2) →
-    c .before .head-of .result + (c .before .before .before .before .size-from .result + c .before .before .before .size-from2 .result + 4)
-    ≤ length (now (c .before .before .before .before .before .before .before .before .before .before .args .out))
+fits : (c : tie.Else2) → c .before .head-of .result + size (sizes c) ≤ length (buffer (sizes c))
 fits c = c .if2 .left
 
 -- the head stands in the buffer
 head-held :
     (c : tie.After-put-head) →
-    let on =
-    c .before .before .before .before .before in Held (now (on .before .before .before .before .before .before .before .args .out))
-    (c .put-head .last .1 .0) (c .before .before .before .head-of .result)
-    (0x30 ∷ form (on .before .size-from .result + on .size-from2 .result + 4))
+    Held (buffer (sizes (has-room c))) (c .put-head .last .1 .0) (has-room c .before .head-of .result) (head (sizes (has-room c)))
 head-held c =
-    let out = now (c .before .before .before .before .before .before .before .before .before .before .before .before .args .out) in
-    held-more out out 0 [] (held-start out) _ _ _ (c .put-head .ensures) (zero-add _ ∙ sym (c .before .before .before .head-of .ensures))
-    (omega (arith, fits (c .before .before)))
+    let room = has-room c in
+    let out = buffer (sizes room) in
+    held-more out out 0 [] (held-start out) _ _ _ (c .put-head .ensures) (zero-add _ ∙ sym (room .before .head-of .ensures))
+    (omega (arith, fits room))
 
 -- and r behind it
 r-held :
     (c : tie.After-put-integer) →
-    let on =
-    c .before .before .before .before .before .before .before .before .before in Held
-    (now (on .before .before .before .before .before .before .before .args .out)) (c .put-integer .last .1 .1 .0) (c .put-integer .result)
-    ((0x30 ∷ form (on .before .size-from .result + on .size-from2 .result + 4)) ++ integer
-    (contentFrom (now (on .before .before .before .before .before .before .before .args .r))
-    (on .before .before .before .start-of .result)))
+    Held (buffer (from-r c)) (c .put-integer .last .1 .1 .0) (c .put-integer .result) (head (from-r c) ++ r-integer (from-r c))
 r-held c =
-    let on = c .before .before .before .before .before .before .before .before .before in
-    held-more _ _ _ _ (head-held (c .before .before .before .before)) _ _ _ (c .put-integer .ensures .1) (sym (c .put-integer .ensures .0))
-    (omega (
-      arith,
-      c .put-integer .ensures .0,
-      r-length _ _ _ _ _ _ (measured on),
-      fits (c .before .before .before .before .before .before),
-    ))
+    held-more _ _ _ _ (head-held (head-put c)) _ _ _ (c .put-integer .ensures .1) (sym (c .put-integer .ensures .0))
+    (omega (arith, c .put-integer .ensures .0, r-length _ _ _ _ _ _ (measured (from-r c)), fits (has-room (head-put c))))
 
 -- there is room for s behind r
-s-fits :
-    (c : tie.After-put-integer) →
-    c .put-integer .result + (c .before .before .before .before .before .before .before .before .before .size-from2 .result + 2) ≤ length
-    (now
-    (c .before .before .before .before .before .before .before .before .before .before .before .before .before .before
-    .before .before .args .out))
-s-fits c =
-    omega (
-      arith,
-      c .put-integer .ensures .0,
-      r-length _ _ _ _ _ _ (measured (c .before .before .before .before .before .before .before .before .before)),
-      fits (c .before .before .before .before .before .before),
-    )
+s-fits : (c : tie.After-put-integer) → c .put-integer .result + (from-r c .size-from2 .result + 2) ≤ length (buffer (from-r c))
+s-fits c = omega (arith, c .put-integer .ensures .0, r-length _ _ _ _ _ _ (measured (from-r c)), fits (has-room (head-put c)))
 
 start-of-requires : tie.Need-start-of-requires
 start-of-requires c κs = search needs
@@ -117,12 +124,7 @@ head-of-requires : tie.Need-head-of-requires
 head-of-requires c κs = search needs
 
 add-if2 : tie.Need-add-if2
-add-if2 c =
-    omega (
-      arith,
-      c .head-of .ensures,
-      head-most (c .before .before .before .size-from .result + c .before .before .size-from2 .result + 4) (omega arith),
-    )
+add-if2 c = omega (arith, c .head-of .ensures, head-most (size (c .before .before)) (omega arith))
 
 returns-2 : tie.Need-returns-2
 returns-2 c =
@@ -139,10 +141,10 @@ put-integer-requires c κs = search needs
 
 put-integer-requires-2 : tie.Need-put-integer-requires-2
 put-integer-requires-2 c κs =
-    let on = c .before .before .before in
-    let m = measured (on .before .before .before .before .before .before .before .before .before) in
-    let room = s-fits on in
-    let long = held-length _ _ _ _ (r-held on) (omega arith) in
+    let r = r-put c in
+    let m = measured (from-r r) in
+    let room = s-fits r in
+    let long = held-length _ _ _ _ (r-held r) (omega arith) in
     record { inside = m .s-inside; small = m .s-small; room = omega (arith, m .s-is) }
 
 add-t9 : tie.Need-add-t9
@@ -153,25 +155,15 @@ same-length c = search needs
 
 returns-3 : tie.Need-returns-3
 returns-3 c =
-    let on = c .before .before .before .before .before .before in
-    let m = measured (on .before .before .before .before .before .before .before .before .before) in
-    let whole = held-more _ _ _ _ (r-held on) _ _ _ (c .before .before .put-integer2 .ensures .1) refl
-    (omega (arith, s-fits on, s-length _ _ _ _ _ _ m)) in
+    let s = c .before .before in
+    let r = r-put (s .before) in
+    let room = has-room (head-put r) in
+    let m = measured (sizes room) in
+    let whole = held-more _ _ _ _ (r-held r) _ _ _ (s .put-integer2 .ensures .1) refl (omega (arith, s-fits r, s-length _ _ _ _ _ _ m)) in
     gives _ _ _ _ _
     (formed-done _ _ _ (omega (arith, content-size _ _ _ _ _ _ m))
-    (omega (
-      arith,
-      whole-size _ _ _ _ _ _ m,
-      on .before .before .before .before .before .before .before .head-of .ensures,
-      fits (on .before .before .before .before .before .before),
-    )))
-    (ap
-    (λ h.
-    h
-    + (on .before .before .before .before .before .before .before .before .before .before .size-from .result + on .before
-    .before .before .before .before .before .before .before .before .size-from2 .result + 4))
-    (on .before .before .before .before .before .before .before .head-of .ensures)
-    ∙ whole-size _ _ _ _ _ _ m)
+    (omega (arith, whole-size _ _ _ _ _ _ m, room .before .head-of .ensures, fits room)))
+    (ap (λ h. h + size (sizes room)) (room .before .head-of .ensures) ∙ whole-size _ _ _ _ _ _ m)
     (whole .is ∙ ap (over _ 0) (whole-is _ _ _ _ _ _ m))
 
 pub put-pair-spec : {M : Type 1} → statement M

@@ -11,10 +11,15 @@ use Rattle.ecdsa.specs.Strict.Laws.{number-none, number-at}
 use Rattle.ecdsa_to_raw.proofs.raw_form.number_in.Statement.{statement}
 use Rattle.ecdsa_to_raw.proofs.raw_form.number_in.Tie as tie
 
+-- the way back from the element that was found to the known bytes, and to the entry
+abbrev known : tie.After-found → tie.After-shared-slice-known
+known c = c .before .before .before
+
+abbrev start : tie.After-found → tie.Start
+start c = known c .before
+
 -- the element that was found
-integer-at :
-    (c : tie.After-found) →
-    elementIn 0x02 (now (c .before .before .before .before .args .t)) ≡ Body (c .found .given .0 .0) (c .found .given .0 .1 .0)
+integer-at : (c : tie.After-found) → elementIn 0x02 (now (start c .args .t)) ≡ Body (c .found .given .0 .0) (c .found .given .0 .1 .0)
 integer-at c = sym (c .before .before .element-of .ensures) ∙ c .found .given .1
 
 element-of-requires : tie.Need-element-of-requires
@@ -31,17 +36,18 @@ returns c = number-none _ _ (sym (c .before .before .element-of .ensures) ∙ c 
 
 digits-in-requires : tie.Need-digits-in-requires
 digits-in-requires c κs =
-    let on = c .before .before .before .before in
-    let found = element-whole 0x02 (now (on .before .args .t)) (λ i. on .shared-slice-known .given i .fits) _ _ (integer-at (c .before)) in
+    let on = c .before in
+    let found = element-whole 0x02 (now (start on .args .t)) (λ i. known on .shared-slice-known .given i .fits) _ _ (integer-at on) in
     (found .order, found .inside)
 
 returns-2 : tie.Need-returns-2
 returns-2 c =
-    let a = c .before .before .before .before .before .before .args in
-    let from = c .before .before .found .given .0 .0 in
-    let to = c .before .before .found .given .0 .1 .0 in
+    let on = c .before .before in
+    let a = start on .args in
+    let from = on .found .given .0 .0 in
+    let to = on .found .given .0 .1 .0 in
     _∙_ {b = digitsIn (a .n) from to (part from to (now (a .t)))} (c .digits-in .ensures)
-    (number-at (a .n) (now (a .t)) from to (integer-at (c .before .before)))
+    (number-at (a .n) (now (a .t)) from to (integer-at on))
 
 pub number-in-spec : {M : Type 1} → statement M
 number-in-spec =

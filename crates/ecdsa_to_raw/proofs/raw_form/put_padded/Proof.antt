@@ -19,10 +19,17 @@ Inv-loop digits n out₀ at zeros i₀ out i = (i ≤ n - length digits) × (out
 abbrev μ-loop : tie.MeasureT-loop
 μ-loop digits n out₀ at zeros i₀ out i = n - length digits - i
 
+-- the way back: from the digits copied to the loop, and to the entry
+abbrev on-loop : tie.After-copy Inv-loop μ-loop → tie.At-loop Inv-loop μ-loop
+on-loop c = c .before .before .before
+
+abbrev start : tie.At-loop Inv-loop μ-loop → tie.Start Inv-loop μ-loop
+start on = on .before .before .before
+
 -- the buffer keeps its length
-kept : (c : tie.At-loop Inv-loop μ-loop) → length (c .loop .out) ≡ length (now (c .before .before .before .args .out))
+kept : (c : tie.At-loop Inv-loop μ-loop) → length (c .loop .out) ≡ length (now (start c .args .out))
 kept c =
-    let a = c .before .before .before .args in
+    let a = start c .args in
     let many : length (replicate {A = ℕ} (c .loop .i) 0) ≡ c .loop .i = length-replicate (c .loop .i) 0 in
     ap length (c .loop .inv .1) ∙ length-over (now (a .out)) (a .at) (replicate (c .loop .i) 0) (omega arith)
 
@@ -47,7 +54,7 @@ loop-less c = omega arith
 loop-again : tie.Need-loop-again Inv-loop μ-loop
 loop-again c =
     let on = c .before in
-    let a = on .before .before .before .args in (
+    let a = start on .args in (
       omega arith,
       ap (λ o. set o (a .at + on .loop .i) 0) (on .loop .inv .1) ∙ zero-more (now (a .out)) (a .at) (on .loop .i) (omega arith),
     )
@@ -61,12 +68,11 @@ copy-requires c κs = tt
 -- the digits stand after the zeros
 put :
     (c : tie.After-copy Inv-loop μ-loop) →
-    let a =
-    c .before .before .before .before .before .before .args in c .copy .last .1 .0
-    ≡ over (now (a .out)) (a .at) (padded (a .n) (now (a .digits)))
+    let a = start (on-loop c) .args in
+    c .copy .last .1 .0 ≡ over (now (a .out)) (a .at) (padded (a .n) (now (a .digits)))
 put c =
-    let on = c .before .before .before in
-    let a = on .before .before .before .args in
+    let on = on-loop c in
+    let a = start on .args in
     c .copy .ensures .1
     ∙ sym (copied-all (now (a .digits)) (on .loop .out) (a .at + (a .n - length (now (a .digits)))) (omega (arith, kept on)))
     ∙ padded-put (now (a .out)) (now (a .digits)) (a .n) (a .at) (on .loop .i) (on .loop .out) (omega arith) (omega arith) (omega arith)
@@ -74,7 +80,7 @@ put c =
 
 same-length : tie.Need-same-length Inv-loop μ-loop
 same-length c =
-    let a = c .before .before .before .before .before .before .before .before .args in
+    let a = start (on-loop (c .before .before)) .args in
     ap length (put (c .before .before))
     ∙ length-over (now (a .out)) (a .at) (padded (a .n) (now (a .digits)))
     (omega (arith, length-padded (a .n) (now (a .digits)) (omega arith)))

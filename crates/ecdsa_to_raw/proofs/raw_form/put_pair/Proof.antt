@@ -12,14 +12,22 @@ use Rattle.ecdsa_to_raw.specs.Rawed.{rawed, rawed-none, pair-second, num
 use Rattle.ecdsa_to_raw.proofs.raw_form.put_pair.Statement.{statement}
 use Rattle.ecdsa_to_raw.proofs.raw_form.put_pair.Tie as tie
 
+-- the way back: from the rest handed on to the digits of r, from those to where r was read, and to the entry
+abbrev r-digits : tie.After-put-second-arg3 → tie.After-known-told
+r-digits c = c .before .before .before
+
+abbrev r-read : tie.After-known-told → tie.After-number-in
+r-read c = c .before .before .before
+
+abbrev start : tie.After-known-told → tie.Start
+start c = r-read c .before .before .before
+
 -- the digits of r lie inside the sequence
 inside :
     (c : tie.After-known-told) →
-    Inside (c .before .before .before .before .before .before .args .n)
-    (now (c .before .before .before .before .before .before .args .pair)) (c .before .first .given .0 .0)
-    (c .before .first .given .0 .1 .0)
+    Inside (start c .args .n) (now (start c .args .pair)) (c .before .first .given .0 .0) (c .before .first .given .0 .1 .0)
 inside c =
-    let on = c .before .before .before in
+    let on = r-read c in
     number-inside _ _ (λ i. on .before .before .shared-slice-known .given i .fits) _ _
     (sym (on .number-in .ensures) ∙ c .before .first .given .1)
 
@@ -55,20 +63,19 @@ part-put-second-end-2 : tie.Need-part-put-second-end-2
 part-put-second-end-2 c = search needs
 
 put-second-requires : tie.Need-put-second-requires
-put-second-requires c κs =
-    let on = c .before .before .before in
-    (on .before .before .before .before .before .before .pre, number-fits _ _ _ _ (inside on))
+put-second-requires c κs = let on = r-digits c in (start on .pre, number-fits _ _ _ _ (inside on))
 
 same-length : tie.Need-same-length
 same-length c = search needs
 
 returns-2 : tie.Need-returns-2
 returns-2 c =
-    let on = c .before .before .before .before .before .before in
-    let a = on .before .before .before .before .before .before .args in
-    let e = pair-second _ _ _ _ (sym (on .before .before .before .number-in .ensures) ∙ on .before .first .given .1) _ refl in (
-      c .before .before .put-second .ensures .0 ∙ ap (λ r. told (rawed (a .n) r (length (now (a .out))))) e,
-      c .before .before .put-second .ensures .1 ∙ ap (λ r. filled (rawed (a .n) r (length (now (a .out)))) (now (a .out))) e,
+    let put = c .before .before in
+    let on = r-digits (put .before) in
+    let a = start on .args in
+    let e = pair-second _ _ _ _ (sym (r-read on .number-in .ensures) ∙ on .before .first .given .1) _ refl in (
+      put .put-second .ensures .0 ∙ ap (λ r. told (rawed (a .n) r (length (now (a .out))))) e,
+      put .put-second .ensures .1 ∙ ap (λ r. filled (rawed (a .n) r (length (now (a .out)))) (now (a .out))) e,
     )
 
 pub put-pair-spec : {M : Type 1} → statement M

@@ -12,14 +12,22 @@ use Rattle.ecdsa_to_raw.specs.Rawed.{rawed, rawed-none, second-left, sec
 use Rattle.ecdsa_to_raw.proofs.raw_form.put_second.Statement.{statement}
 use Rattle.ecdsa_to_raw.proofs.raw_form.put_second.Tie as tie
 
+-- the way back: from both numbers to the digits of s, from those to where s was read, and to the entry
+abbrev s-digits : tie.After-put-both-arg2 → tie.After-known-told
+s-digits c = c .before .before .before
+
+abbrev s-read : tie.After-known-told → tie.After-number-in
+s-read c = c .before .before .before
+
+abbrev start : tie.After-known-told → tie.Start
+start c = s-read c .before .before .before .before
+
 -- the digits of s lie inside the rest
 inside :
     (c : tie.After-known-told) →
-    Inside (c .before .before .before .before .before .before .before .args .n)
-    (now (c .before .before .before .before .before .before .before .args .rest)) (c .before .second .given .0 .0)
-    (c .before .second .given .0 .1 .0)
+    Inside (start c .args .n) (now (start c .args .rest)) (c .before .second .given .0 .0) (c .before .second .given .0 .1 .0)
 inside c =
-    let on = c .before .before .before in
+    let on = s-read c in
     number-inside _ _ (λ i. on .before .before .shared-slice-known2 .given i .fits) _ _
     (sym (on .number-in .ensures) ∙ c .before .second .given .1)
 
@@ -41,7 +49,7 @@ returns-2 c =
     let on = c .before in
     refuses _ 62 0 _
     (rawed-none _ _ _
-    (second-left _ _ _ _ _ (sym (on .before .before .before .number-in .ensures) ∙ on .before .second .given .1) (c .if1 .taken)))
+    (second-left _ _ _ _ _ (sym (s-read on .number-in .ensures) ∙ on .before .second .given .1) (c .if1 .taken)))
 
 sub-put-both : tie.Need-sub-put-both
 sub-put-both c = inside (c .before) .order
@@ -54,8 +62,8 @@ part-put-both-end c = search needs
 
 put-both-requires : tie.Need-put-both-requires
 put-both-requires c κs =
-    let on = c .before .before .before in
-    let asked = on .before .before .before .before .before .before .before .pre in
+    let on = s-digits c in
+    let asked = start on .pre in
     (asked .0, asked .1, number-fits _ _ _ _ (inside on))
 
 same-length : tie.Need-same-length
@@ -63,13 +71,14 @@ same-length c = search needs
 
 returns-3 : tie.Need-returns-3
 returns-3 c =
-    let at = c .before .before .before .before .before in
-    let on = at .before in
-    let a = on .before .before .before .before .before .before .before .args in
-    let read = sym (on .before .before .before .number-in .ensures) ∙ on .before .second .given .1 in
-    let e = second-is _ _ _ _ (padded (a .n) (now (a .r))) read (at .if1 .left) in (
-      c .before .before .put-both .ensures .0 ∙ ap (λ r. told (rawed (a .n) r (length (now (a .out))))) e,
-      c .before .before .put-both .ensures .1 ∙ ap (λ r. filled (rawed (a .n) r (length (now (a .out)))) (now (a .out))) e,
+    let put = c .before .before in
+    let all = put .before .before .before in
+    let on = s-digits (put .before) in
+    let a = start on .args in
+    let read = sym (s-read on .number-in .ensures) ∙ on .before .second .given .1 in
+    let e = second-is _ _ _ _ (padded (a .n) (now (a .r))) read (all .if1 .left) in (
+      put .put-both .ensures .0 ∙ ap (λ r. told (rawed (a .n) r (length (now (a .out))))) e,
+      put .put-both .ensures .1 ∙ ap (λ r. filled (rawed (a .n) r (length (now (a .out)))) (now (a .out))) e,
     )
 
 pub put-second-spec : {M : Type 1} → statement M

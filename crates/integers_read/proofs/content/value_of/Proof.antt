@@ -4,7 +4,8 @@ use native.Mathlib.Omega.{arith}
 use borrow.Author.Tests.{not-true, not-false}
 use mathlib.Core.Path.{_≡_, _∙_, ap, sym, subst}
 use mathlib.Core.Bool.{true}
-use Prim.Native.Nat.{_^_, _<_, min}
+use mathlib.Core.List.{List}
+use Prim.Native.Nat.{ℕ, _^_, _<_, min}
 use denote.Ref.{now}
 use lib.IntN.{pos, negsuc}
 use lib.ListN.{length}
@@ -22,6 +23,10 @@ use borrow.Author.Needs.{needs}
 use Rattle.integers_read.proofs.content.value_of.Statement.{statement}
 use Rattle.integers_read.proofs.content.value_of.Tie as tie
 
+-- the content of the entry, from where its first byte is read
+abbrev content : tie.After-shared-slice-known2 → List ℕ
+content c = now (c .before .before .before .before .before .args .content)
+
 is-strict : (c : tie.Else1) → strict (now (c .before .before .before .args .content)) ≡ true
 is-strict c =
     let o = c .before in
@@ -30,13 +35,10 @@ is-strict c =
 -- the number below the half, and how far one from there on lies below the power
 low :
     (c : tie.After-number) →
-    (c .number .result
-    ≡ val (now (c .before .before .before .before .before .before .before .args .content))
-    (length (now (c .before .before .before .before .before .before .before .args .content))))
-    × (c .number .result < 2 ^ 63)
+    (c .number .result ≡ val (content (c .before .before)) (length (content (c .before .before)))) × (c .number .result < 2 ^ 63)
 low c =
     let o = c .before .before in
-    let s = now (o .before .before .before .before .before .args .content) in
+    let s = content o in
     let all : min (length s) 8 ≡ length s = omega arith in
     let is = c .number .ensures ∙ ap (val s) all in
     (is, subst (λ n. n < 2 ^ 63) (sym is) (low-small s (λ i. o .shared-slice-known2 .given i .fits) (omega arith) (omega arith)))
@@ -44,7 +46,7 @@ low c =
 high : (c : tie.After-flipped) → c .flipped .result < 2 ^ 63
 high c =
     let o = c .before .before in
-    let s = now (o .before .before .before .before .before .args .content) in
+    let s = content o in
     subst (λ n. n < 2 ^ 63) (sym (c .flipped .ensures))
     (high-small s (λ i. o .shared-slice-known2 .given i .fits) (omega arith) (omega arith))
 
@@ -70,11 +72,11 @@ cast-t9 c = let l = low c in pos-fits (c .number .result) (l .1)
 
 returns-3 : tie.Need-returns-3
 returns-3 c =
-    let o = c .before .before .before in
-    let s = now (o .before .before .before .before .args .content) in
+    let o = c .before .before in
+    let s = content o in
     let l = low c in
     ap result (toZ-pos w64 (l .1) ∙ ap pos (l .0) ∙ sym (value-low s (omega arith)))
-    ∙ sym (content-is s (is-strict (o .before)) (omega arith))
+    ∙ sym (content-is s (is-strict (o .before .before)) (omega arith))
 
 flipped-requires : tie.Need-flipped-requires
 flipped-requires c κs = search needs
@@ -90,10 +92,10 @@ sub-t12 c = under-fits (c .flipped .result) (high c)
 
 returns-4 : tie.Need-returns-4
 returns-4 c =
-    let o = c .before .before .before in
-    let s = now (o .before .before .before .before .args .content) in
+    let o = c .before .before in
+    let s = content o in
     ap result (under-back (c .flipped .result) (high c) ∙ ap negsuc (c .flipped .ensures) ∙ sym (value-high s (omega arith)))
-    ∙ sym (content-is s (is-strict (o .before)) (omega arith))
+    ∙ sym (content-is s (is-strict (o .before .before)) (omega arith))
 
 pub value-of-spec : {M : Type 1} → statement M
 value-of-spec =

@@ -11,14 +11,23 @@ use Rattle.lines.specs.Line.Laws.{put-none}
 use Rattle.list_lines.proofs.named.put_some.Statement.{statement}
 use Rattle.list_lines.proofs.named.put_some.Tie as tie
 
+-- the way back to the entry: from the tests, from the rest of the text put down, and from a part of it put down
+abbrev start : tie.After-shared-slice-known → tie.Start
+start c = c .before .before
+
+abbrev from-rest : tie.After-put-text → tie.Start
+from-rest c = start (c .before .before .before .before .before)
+
+abbrev from-part : tie.After-put-text2 → tie.Start
+from-part c = start (c .before .before .before .before .before)
+
 returns : tie.Need-returns
 returns c =
-    let start = c .before .before .before in
-    let text = now (start .args .text) in
-    let from = start .args .from in
+    let a = start (c .before) .args in
+    let text = now (a .text) in
+    let from = a .from in
     let h : length text ≤ from = omega arith in
-    let all : take (start .args .size) (drop from text) ≡ drop from text =
-    take-all (start .args .size) (drop from text) (simp length-drop (omega arith)) in
+    let all : take (a .size) (drop from text) ≡ drop from text = take-all (a .size) (drop from text) (simp length-drop (omega arith)) in
     rw (all ∙ drop-of-length-le text h) (put-none _ _)
 
 sub-put-text : tie.Need-sub-put-text
@@ -38,11 +47,10 @@ same-length c = search needs
 
 returns-2 : tie.Need-returns-2
 returns-2 c =
-    let start = c .before .before .before .before .before .before .before .before .before in
-    let text = now (start .args .text) in
-    let from = start .args .from in
-    let all : take (start .args .size) (drop from text) ≡ drop from text =
-    take-all (start .args .size) (drop from text) (simp length-drop (omega arith)) in
+    let a = from-rest (c .before .before) .args in
+    let text = now (a .text) in
+    let from = a .from in
+    let all : take (a .size) (drop from text) ≡ drop from text = take-all (a .size) (drop from text) (simp length-drop (omega arith)) in
     let rest : take (length text - from) (drop from text) ≡ drop from text =
     take-all (length text - from) (drop from text) (simp length-drop (omega arith)) in
     rw all (rw rest at (c .before .before .put-text .ensures))
@@ -67,9 +75,8 @@ same-length-2 c = search needs
 
 returns-3 : tie.Need-returns-3
 returns-3 c =
-    let start = c .before .before .before .before .before .before .before .before .before in
-    let from = start .args .from in
-    let e : from + start .args .size - from ≡ start .args .size = omega arith in
+    let a = from-part (c .before .before) .args in
+    let e : a .from + a .size - a .from ≡ a .size = omega arith in
     rw e at (c .before .before .put-text2 .ensures)
 
 pub put-some-spec : {M : Type 1} → statement M
