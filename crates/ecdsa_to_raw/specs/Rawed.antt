@@ -16,10 +16,10 @@ use Rattle.format.specs.Buffer.Laws.{over-over, length-over}
 use Rattle.der.specs.Element.{elementIn}
 use Rattle.der.specs.declared.Element.the-variants as found
 use Rattle.ecdsa.specs.Signature.{isSize}
-use Rattle.ecdsa.specs.Strict.{Raw, raw, none, part, numberIn, padded, lastly, pairIn, rawOf, isRaw, bytesIn}
+use Rattle.ecdsa.specs.Strict.{Raw, raw, none, part, numberIn, padded, lastly, pairIn, isRaw, bytesIn}
 use Rattle.ecdsa.specs.Strict.Laws.{Inside, length-part, length-padded, raw-pair}
 use Rattle.ecdsa.specs.Calls.{toRaw}
-use Rattle.ecdsa.specs.declared.Number.the-variants.{Digits, Nothing}
+use Rattle.ecdsa.specs.declared.Number.the-variants.{Digits}
 
 -- 62: nothing was read; 63: no room for n bytes and n more
 unfoldable pub rawed : ℕ → Raw → ℕ → Outcome

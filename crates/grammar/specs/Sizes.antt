@@ -21,8 +21,8 @@ use Rattle.grammar.specs.Legal.{ReferenceSize, LegalHeader, Unused, Lega
 use Rattle.grammar.specs.Theorems.{zones-add-up}
 
 -- "signer and reference: version 4: 2 x ceil((6 + L) / 3) bytes"
-pub names-width : (s r : List ℕ) → length s ≡ 4 → length (names four s r) ≡ 2 * ((6 + length r + 2) / 3)
-names-width s r hs =
+pub length-names : (s r : List ℕ) → length s ≡ 4 → length (names four s r) ≡ 2 * ((6 + length r + 2) / 3)
+length-names s r hs =
     let e = length-publish (s ++ hexDigits (length r) ++ r) in
     let l = length-append (s ++ hexDigits (length r)) r in
     let m = length-append s (hexDigits (length r)) in
@@ -38,11 +38,11 @@ names-size three s r hs hr =
     let e = length-publish (s ++ r) in
     let l = length-append s r in
     (omega arith, omega arith)
-names-size four s r hs hr = let e = names-width s r hs in (omega arith, omega arith)
+names-size four s r hs hr = let e = length-names s r hs in (omega arith, omega arith)
 
-header-length : (h : Header) → LegalHeader h → length (headerZone h) ≡ 12 + length (names (h .version) (h .signer) (h .reference))
+length-header : (h : Header) → LegalHeader h → length (headerZone h) ≡ 12 + length (names (h .version) (h .signer) (h .reference))
 unfolding headerZone
-header-length h l =
+length-header h l =
     let country : length (c40 (map carried (h .country))) ≡ 2 =
     length-publish (map carried (h .country)) ∙ ap width (length-map (h .country) carried ∙ l .country .size) in
     simp (length-append, country, length-date) (omega arith)
@@ -50,14 +50,14 @@ header-length h l =
 -- "header: version 3: 18 bytes; version 4: 18 to 186"
 pub header-size : (h : Header) → LegalHeader h → (18 ≤ length (headerZone h)) × (length (headerZone h) ≤ 186)
 header-size h l =
-    let e = header-length h l in
+    let e = length-header h l in
     let n = names-size (h .version) (h .signer) (h .reference) (l .signer .size) (l .size) in
     (omega arith, omega arith)
 
 pub header-three : (h : Header) → LegalHeader h → h .version ≡ three → length (headerZone h) ≡ 18
 header-three h l v =
     let size : length (h .reference) ≡ 5 = subst (λ w. ReferenceSize w (length (h .reference))) v (l .size) in
-    header-length h l
+    length-header h l
     ∙ ap (λ w. 12 + length (names w (h .signer) (h .reference))) v
     ∙ ap (λ n. 12 + n) (length-publish (h .signer ++ h .reference))
     ∙ omega (arith, length-append (h .signer) (h .reference), l .signer .size)

@@ -18,7 +18,7 @@ use Rattle.verdict.specs.Judge.Complete.{reportOf, size-small}
 use Rattle.verdict.specs.Judge.Features.{rowsOf, feature-parts}
 use Rattle.verdict.specs.Judge.Listed.{FromList, from-list}
 use Rattle.verdict.specs.Judge.Seals.{accepted-only}
-use Rattle.lines.specs.Line.{decimalOf, ascii, _then_}
+use Rattle.lines.specs.Line.{decimalOf, _then_}
 use Rattle.list_lines.specs.ListLine.{line, day}
 use Rattle.list_lines.specs.LineSize.{decimal-size, day-size}
 use Rattle.listing.specs.Listed.{part, feature, featureLines, listed}

@@ -42,8 +42,9 @@ use Rattle.writer.specs.Legal.{Lent, Sound, written-legal, legal-written}
 use Rattle.writer.specs.Theorems as writer
 use Rattle.seal.specs.Again.{againFrom}
 use Rattle.seal.specs.Again.Laws.{again-held}
-use Rattle.seal.specs.Conditions.Laws.{zero-accepted, signer-long, again-writes, header-given, text-held, features-given, back-reads}
-use Rattle.seal.specs.Conditions.Laws.{back-content, same-text, same-header, refusal-of, verdict-listed, zero-judged, signed-first}
+use Rattle.seal.specs.Conditions.Laws.{zero-accepted, length-signer, again-writes, header-given, text-held, features-given}
+use Rattle.seal.specs.Conditions.Laws.{back-reads, back-content, same-text, same-header, refusal-of, verdict-listed}
+use Rattle.seal.specs.Conditions.Laws.{zero-judged, signed-first}
 
 -- What `read` gives for a seal and a lent table and text: its answer, and what table and text hold afterwards.
 abbrev pub answer : List ℕ → List ℕ → List ℕ → Reading
@@ -149,7 +150,7 @@ read-writes s bytes rows names z room fits =
     let a = zero-accepted s (length rows) (length names) z in
     let j = given-accepted (judge s) (length rows) (length names) (a .report) (a .reads) in
     ap (λ v. writing (againFrom s (answerOf v) (then (rowsIn v) rows) (then (textIn v) names)) room) (a .reads)
-    ∙ ap (λ g. writing g room) (again-held s (a .report) rows names (signer-long s bytes (a .report) j))
+    ∙ ap (λ g. writing g room) (again-held s (a .report) rows names (length-signer s bytes (a .report) j))
     ∙ again-writes s bytes (a .report) j room fits
 
 -- The writer is done exactly when a content is given and legal, the call's shape is sound and there is room; what it

@@ -34,8 +34,8 @@ use Rattle.write_size.specs.SealSize.{rowsSize, namesSize, sealSize}
 use Rattle.write_judge.specs.Needs.{Named, Headed, front, rest, spelled}
 
 -- the characters of version 4's names
-pub spelled-long : (text : List ℕ) → 4 ≤ length text → length (spelled text) ≡ length text + 2
-spelled-long text h =
+pub length-spelled : (text : List ℕ) → 4 ≤ length text → length (spelled text) ≡ length text + 2
+length-spelled text h =
     let first : length (take 4 text) ≡ 4 = length-take-le 4 text h in
     let n = length (drop 4 text) in
     omega (
@@ -79,25 +79,29 @@ headed-named v h t d =
 code-size : (t : List ℕ) → length (c40 (map carried (threeOf t))) ≡ 2
 code-size t = length-publish (map carried (threeOf t))
 
-names-size : (v : Version) (t : List ℕ) → isTextSize v (length t) ≡ true → length (names v (take 4 t) (drop 4 t)) ≡ namesSize v (length t)
-names-size three t s =
+length-names : (v : Version) (t : List ℕ) → isTextSize v (length t) ≡ true → length (names v (take 4 t) (drop 4 t)) ≡ namesSize v (length t)
+length-names three t s =
     let nine = size-three three (length t) refl s in
     let six : length (c40 t) ≡ 6 = omega (arith, length-publish t) in
     ap length (names-three three t refl) ∙ six
-names-size four t s =
+length-names four t s =
     let least = size-four four (length t) refl s in
     let long : length (c40 (spelled t)) ≡ (length t + 4) / 3 * 2 =
-    omega (arith, length-publish (spelled t), spelled-long t (omega arith)) in
+    omega (arith, length-publish (spelled t), length-spelled t (omega arith)) in
     ap length (names-four four t refl) ∙ long
 
-pub front-size : (v : Version) (h : Header) (t : List ℕ) → Headed v h t → length (front v h t) ≡ 4 + namesSize v (length t)
-front-size v h t d =
+pub length-front : (v : Version) (h : Header) (t : List ℕ) → Headed v h t → length (front v h t) ≡ 4 + namesSize v (length t)
+length-front v h t d =
     let n = names v (take 4 t) (drop 4 t) in
-    omega
-    (arith, length-append (c40 (map carried (threeOf (h .country)))) n, code-size (h .country), names-size v t (headed-named v h t d .size))
+    omega (
+      arith,
+      length-append (c40 (map carried (threeOf (h .country)))) n,
+      code-size (h .country),
+      length-names v t (headed-named v h t d .size),
+    )
 
-pub rest-size : (h : Header) → length (rest h) ≡ 8
-rest-size h =
+pub length-rest : (h : Header) → length (rest h) ≡ 8
+length-rest h =
     let last : List ℕ = h .definition ∷ h .category ∷ [] in
     omega (
       arith,
@@ -153,8 +157,8 @@ module _ (v : Version) (g : Given) (h : Headed v (g .header) (g .text)) (table :
       let rows = rowsOf (g .table) in
       rows-inside n [] rows (both-true (isWhole (g .table)) (areRows n [] rows) table .1)
 
-  pub seal-size : length (publish (contentAs g v)) ≡ sealSize v (length (g .text)) (rowsOf (g .table)) (length (g .signature))
-  seal-size =
+  pub length-seal : length (publish (contentAs g v)) ≡ sealSize v (length (g .text)) (rowsOf (g .table)) (length (g .signature))
+  length-seal =
       let a = front v (g .header) (g .text) in
       let b = rest (g .header) in
       let z = messageZone v (map (featureOf (g .values)) (rowsOf (g .table))) in
@@ -166,7 +170,7 @@ module _ (v : Version) (g : Given) (h : Headed v (g .header) (g .text)) (table :
         length-append b (z ++ s),
         length-append z s,
         length-append (form (length (g .signature))) (g .signature),
-        front-size v (g .header) (g .text) h,
-        rest-size (g .header),
+        length-front v (g .header) (g .text) h,
+        length-rest (g .header),
         zone-size v (g .values) (rowsOf (g .table)) inside,
       )

@@ -14,7 +14,7 @@ use Rattle.c40.specs.Text.{Text, publish as c40}
 use Rattle.dates.specs.Days.{Day, numberOf, publish as date}
 use Rattle.dates.specs.Days.Laws.{number-below}
 use Rattle.dates.specs.declared.Date.{Date}
-use Rattle.grammar.specs.Content.{Version, three, four}
+use Rattle.grammar.specs.Content.{Version, four}
 use Rattle.grammar.specs.Legal.{ValueSize}
 use Rattle.grammar.specs.Publish.{hexDigits, names, lengthOf, feature, messageZone}
 use Rattle.grammar.specs.Parts.{six-ahead}
@@ -68,27 +68,27 @@ pub put-three :
 put-three out at x y z bytes e room = let n = ap length e in (omega arith, over-three out at x y z (omega arith) ∙ ap (over out at) (sym e))
 
 -- a feature: its tag, its length, its value
-feature-long :
+length-feature :
     (v : Version) (tag : ℕ) (value : List ℕ) →
     length (feature v (record { tag = tag; value = value })) ≡ 1 + length (lengthOf v (length value)) + length value
-feature-long v tag value = omega (arith, length-append (lengthOf v (length value)) value)
+length-feature v tag value = omega (arith, length-append (lengthOf v (length value)) value)
 
 module _ (v : Version) (tag : ℕ) (value out : List ℕ) (at : ℕ) (room : Room out at (feature v (record { tag = tag; value = value }))) where
   pub feature-room : Room (set out at tag) (at + 1) (lengthOf v (length value))
-  feature-room = omega (arith, feature-long v tag value, length-set out at tag)
+  feature-room = omega (arith, length-feature v tag value, length-set out at tag)
 
   module _ (out1 : List ℕ) (next : ℕ) (reach : next ≡ at + 1 + length (lengthOf v (length value)))
       (first : out1 ≡ over (set out at tag) (at + 1) (lengthOf v (length value))) where
     tag-form : out1 ≡ over out at (tag ∷ lengthOf v (length value))
     tag-form =
         let form = lengthOf v (length value) in
-        first ∙ ap (λ o. over o (at + 1) form) (set-over out at tag (omega (arith, feature-long v tag value)))
-        ∙ over-over out at (tag ∷ []) form (omega (arith, feature-long v tag value))
+        first ∙ ap (λ o. over o (at + 1) form) (set-over out at tag (omega (arith, length-feature v tag value)))
+        ∙ over-over out at (tag ∷ []) form (omega (arith, length-feature v tag value))
 
     -- there is room for the value
     pub value-room : Room out1 next value
     value-room =
-        let long = feature-long v tag value in
+        let long = length-feature v tag value in
         let same : length out1 ≡ length out = ap length tag-form ∙ length-over out at (tag ∷ lengthOf v (length value)) (omega arith) in
         omega arith
 
@@ -100,7 +100,7 @@ module _ (v : Version) (tag : ℕ) (value out : List ℕ) (at : ℕ) (room : Roo
         × (out2 ≡ over out at (feature v (record { tag = tag; value = value })))
     put-feature end out2 e2 o2 =
         let form = lengthOf v (length value) in
-        let long = feature-long v tag value in
+        let long = length-feature v tag value in
         let sum : next ≡ at + length (tag ∷ form) = omega arith in (
           omega arith,
           o2
@@ -121,8 +121,8 @@ module _ (v : Version) (t out : List ℕ) (at : ℕ) (n : Named v t) (other : v 
   six-is : codes ≡ take 4 t ++ hexDigits (length (drop 4 t))
   six-is = six-spelled t (omega (arith, four-size .0)) (four-size .1)
 
-  six-long : length (take 4 t ++ hexDigits (length (drop 4 t))) ≡ 6
-  six-long =
+  length-six : length (take 4 t ++ hexDigits (length (drop 4 t))) ≡ 6
+  length-six =
       let k = length (drop 4 t) in
       omega (arith, length-append (take 4 t) (hexDigits k), length-take-le 4 t (omega (arith, four-size .0)))
 
@@ -130,10 +130,10 @@ module _ (v : Version) (t out : List ℕ) (at : ℕ) (n : Named v t) (other : v 
   both-parts : names v (take 4 t) (drop 4 t) ≡ c40 codes ++ c40 (drop 4 t)
   both-parts =
       let u = drop 4 t in
-      names-four v t other ∙ six-ahead (take 4 t ++ hexDigits (length u)) u six-long ∙ ap (λ l. c40 l ++ c40 u) (sym six-is)
+      names-four v t other ∙ six-ahead (take 4 t ++ hexDigits (length u)) u length-six ∙ ap (λ l. c40 l ++ c40 u) (sym six-is)
 
-  both-long : length (names v (take 4 t) (drop 4 t)) ≡ length (c40 codes) + length (c40 (drop 4 t))
-  both-long = ap length both-parts ∙ length-append (c40 codes) (c40 (drop 4 t))
+  length-both : length (names v (take 4 t) (drop 4 t)) ≡ length (c40 codes) + length (c40 (drop 4 t))
+  length-both = ap length both-parts ∙ length-append (c40 codes) (c40 (drop 4 t))
 
   six-text-put : (next : ℕ) (out1 : List ℕ) →
       next ≡ reached (coded codes) (length out) at →
@@ -142,7 +142,7 @@ module _ (v : Version) (t out : List ℕ) (at : ℕ) (n : Named v t) (other : v 
   six-text-put next out1 =
       text-put codes out at next out1
       (subst Text (sym six-is) (six-text v t n (omega (arith, four-size .1, length-drop 4 t))))
-      (omega (arith, both-long, room))
+      (omega (arith, length-both, room))
 
   pub names-put :
       (next : ℕ) (out1 : List ℕ) →
@@ -157,17 +157,17 @@ module _ (v : Version) (t out : List ℕ) (at : ℕ) (n : Named v t) (other : v 
   names-put next out1 en eo left is-left to after et ea =
       let l = c40 (drop 4 t) in
       let six = six-text-put next out1 en eo in
-      let same : length out1 ≡ length out = ap length (six .1) ∙ length-over out at (c40 codes) (omega (arith, both-long, room)) in
+      let same : length out1 ≡ length out = ap length (six .1) ∙ length-over out at (c40 codes) (omega (arith, length-both, room)) in
       let long = ap (λ x. length (c40 x)) is-left in
       let last =
       text-put left out1 next to after (subst Text (sym is-left) (reference-text v t n))
-      (omega (arith, long, both-long, room, six .0, same)) et ea in (
-        omega (arith, last .0, long, both-long, six .0),
+      (omega (arith, long, length-both, room, six .0, same)) et ea in (
+        omega (arith, last .0, long, length-both, six .0),
         last .1
             ∙ ap (λ x. over out1 next (c40 x)) is-left
             ∙ ap (λ o. over o next l) (six .1)
             ∙ ap (λ k. over (over out at (c40 codes)) k l) (six .0)
-            ∙ over-over out at (c40 codes) l (omega (arith, both-long, room))
+            ∙ over-over out at (c40 codes) l (omega (arith, length-both, room))
             ∙ ap (over out at) (sym both-parts),
       )
 

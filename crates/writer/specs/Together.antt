@@ -1,49 +1,41 @@
 -- Laws of the whole seal: what its judged parts say, its size as a sum, and its parts put down one after another.
 -- Assumes nothing.
 use mathlib.Core.Path.{_≡_, refl, ap, sym, subst, _∙_}
-use mathlib.Core.Bool.{true, false}
-use Prim.Native.Nat.{ℕ, _+_, _*_, _/_, _≤_}
+use mathlib.Core.Bool.{true}
+use Prim.Native.Nat.{ℕ, _+_, _≤_}
 use native.Mathlib.Omega.{arith}
 use native.Mathlib.Nat.{zero-add}
-use borrow.Author.Tests.{leb-true}
-use mathlib.Core.List.{List, [], _∷_, _++_, map, append-assoc}
-use lib.Dec.{eqb, leb}
-use lib.ListN.{length, getD, take, drop, set, length-append, length-drop, length-set}
-use lib.Seq.{length-take-le}
+use mathlib.Core.List.{List, [], _∷_, _++_, map}
+use lib.Dec.{leb}
+use lib.ListN.{length, getD, take, drop, set, length-append, length-set}
 use Rattle.format.specs.Bytes.{All}
-use Rattle.format.specs.Choice.{pick, both}
+use Rattle.format.specs.Choice.{both}
 use Rattle.format.specs.Buffer.{over}
 use Rattle.format.specs.Buffer.Laws.{length-over, over-over, over-two, Held, held-more}
 use Rattle.octets.specs.Copy.{copied, reached}
 use Rattle.c40.specs.Text.{Text, publish as c40}
-use Rattle.c40.specs.Text.Laws.{length-publish}
 use Rattle.dates.specs.Days.{isDay, publish as date}
 use Rattle.dates.specs.Days.Laws.{length-publish as length-date}
-use Rattle.der.specs.Length.{form}
-use Rattle.grammar.specs.Content.{Version, three, four}
+use Rattle.grammar.specs.Content.{Version, four}
 use Rattle.versions.specs.Versions.{versionByte}
-use Rattle.grammar.specs.Publish.{carried, names, lengthOf, feature, headerZone, messageZone, signatureZone, signedBytes, publish}
+use Rattle.grammar.specs.Publish.{carried, names, feature, messageZone, publish}
 use Rattle.format.specs.Choice.Laws.{both-true, within-both}
-use Rattle.fields.specs.Characters.{isSigner, isCountry}
 use Rattle.verdict.specs.Report.{featureOf}
 use Rattle.rows.specs.declared.Row.{Row}
-use Rattle.rows.specs.Rows.{rowsOf, isWhole}
-use Rattle.verdict.specs.Judge.{used}
+use Rattle.rows.specs.Rows.{rowsOf}
 use Rattle.fields.specs.Signature.{isSignature}
 use Rattle.verdict.specs.Judge.Complete.{size-small}
 use Rattle.verdict.specs.Judge.Sound.{size-of}
 use Rattle.fields.specs.declared.Header.{Header}
-use Rattle.write_given.specs.Tests.Laws.{size-three, size-four}
 use Rattle.write_rows.specs.Tests.Laws.{sized-head}
-use Rattle.write_given.specs.Tests.{isTextSize}
-use Rattle.write_rows.specs.Tests.{isRow, areRows, isTable, areSized}
+use Rattle.write_rows.specs.Tests.{areSized}
 use Rattle.write_given.specs.Given.{threeOf, Given, contentAs}
-use Rattle.write_judge.specs.Needs.{Room, Fitting, Named, Headed, Dated, front, rest, Passed}
+use Rattle.write_judge.specs.Needs.{Room, Fitting, Headed, Dated, front, rest, Passed}
 use Rattle.write_judge.specs.Needs.Laws.{country-text}
 use Rattle.write_text.specs.Coded.{coded}
 use Rattle.write_text.specs.Coded.Laws.{text-put}
-use Rattle.write_size.specs.SealSize.{rowsSize, namesSize, sealSize}
-use Rattle.write_judge.specs.Size.{headed-country, headed-named, front-size, rest-size, Inside, inside, seal-parts, seal-size}
+use Rattle.write_size.specs.SealSize.{rowsSize}
+use Rattle.write_judge.specs.Size.{headed-country, length-rest, Inside, inside, seal-parts, length-seal}
 
 -- the front put down
 module _ (v : Version) (h : Header) (t out : List ℕ) (d : Headed v h t) (room : Room out 0 (front v h t)) (b : ℕ)
@@ -145,7 +137,7 @@ short-fit v n (r ∷ rows) a h s =
 
 pub passed-fit : (v : Version) (g : Given) → Passed v g → Fitting v (length (g .values)) (rowsOf (g .table))
 passed-fit v g p =
-    let size = seal-size v g (p .header) (p .table) in
+    let size = length-seal v g (p .header) (p .table) in
     short-fit v (length (g .values)) (rowsOf (g .table)) (inside v g (p .header) (p .table)) (omega (arith, p .size)) (p .values)
 
 -- a signature's length
@@ -219,7 +211,7 @@ module _ (v : Version) (g : Given) (out : List ℕ) (room : Room out 0 (publish 
 
     module _ (out2 : List ℕ) (at2 : ℕ) (e2 : at2 ≡ at1 + 8) (o2 : out2 ≡ over out1 at1 (rest (g .header))) where
       eight : at2 ≡ at1 + length (rest (g .header))
-      eight = e2 ∙ ap (λ n. at1 + n) (sym (rest-size (g .header)))
+      eight = e2 ∙ ap (λ n. at1 + n) (sym (length-rest (g .header)))
 
       past-rest : Room out2 at2 (zone ++ mark)
       past-rest = then-room out1 at1 (rest (g .header)) (zone ++ mark) out2 at2 past-front o2 eight

@@ -1,14 +1,14 @@
 -- Laws of the published form: its size, its bytes, and text three characters at a time.
 -- Assumes nothing.
 use mathlib.Core.Path.{_≡_, refl, ap, sym, _∙_}
-use Prim.Native.Nat.{ℕ, _+_, _*_, _/_, _%_, _<_, _≤_}
+use Prim.Native.Nat.{ℕ, _+_, _/_, _%_, _<_, _≤_}
 use native.Mathlib.Omega.{arith}
 use mathlib.Core.List.{List, [], _∷_, _++_, append-nil}
 use lib.ListN.{length, getD, drop, length-append}
 use Rattle.format.specs.Bytes.{Bytes}
 use Rattle.format.specs.Bytes.Laws.{bytes-nil, bytes-cons, bytes-append}
 use Rattle.format.specs.BigEndian.{be}
-use Rattle.format.specs.BigEndian.Laws.{length-be, be-bytes, be-two}
+use Rattle.format.specs.BigEndian.Laws.{length-be, bytes-be, be-two}
 use Rattle.format.specs.Places.{at-place, past-end}
 use Rattle.pairs.specs.Chart.{valueOf}
 use Rattle.pairs.specs.Chart.Laws.{char-below}
@@ -26,16 +26,16 @@ length-publish (a ∷ b ∷ c ∷ t) =
     let ih = length-publish t in
     simp (length-append, length-be 2 (packedOf (valueOf a) (valueOf b) (valueOf c)), ih) (omega arith)
 
-pub publish-bytes : (t : List ℕ) → Text t → Bytes (publish t)
+pub bytes-publish : (t : List ℕ) → Text t → Bytes (publish t)
 unfolding publish triple
-publish-bytes [] h = bytes-nil
-publish-bytes (a ∷ []) h =
+bytes-publish [] h = bytes-nil
+bytes-publish (a ∷ []) h =
     let low = char-below a (h .0) in
     bytes-cons 0xFE ((a + 1) ∷ []) (omega arith) (bytes-cons (a + 1) [] (omega arith) bytes-nil)
-publish-bytes (a ∷ b ∷ []) h = be-bytes 2 (packedOf (valueOf a) (valueOf b) 0)
-publish-bytes (a ∷ b ∷ c ∷ t) h =
+bytes-publish (a ∷ b ∷ []) h = bytes-be 2 (packedOf (valueOf a) (valueOf b) 0)
+bytes-publish (a ∷ b ∷ c ∷ t) h =
     bytes-append (be 2 (packedOf (valueOf a) (valueOf b) (valueOf c))) (publish t)
-    (be-bytes 2 (packedOf (valueOf a) (valueOf b) (valueOf c))) (publish-bytes t (h .1 .1 .1))
+    (bytes-be 2 (packedOf (valueOf a) (valueOf b) (valueOf c))) (bytes-publish t (h .1 .1 .1))
 
 -- the form of what is left, by how much is left
 pub publish-three : (a b c : ℕ) (t : List ℕ) → publish (a ∷ b ∷ c ∷ t) ≡ triple (valueOf a) (valueOf b) (valueOf c) ++ publish t

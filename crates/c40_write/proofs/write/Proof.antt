@@ -2,11 +2,10 @@
 -- Assumes nothing.
 use borrow.Author.Needs.{needs}
 use native.Mathlib.Omega.{arith}
-use mathlib.Core.Path.{_≡_, _∙_, sym, ap}
-use Prim.Native.Nat.{ℕ, _<_, _≤_}
+use mathlib.Core.Path.{_∙_, sym, ap}
+use Prim.Native.Nat.{ℕ}
 use mathlib.Core.List.{List}
 use denote.Ref.{now}
-use lib.ListN.{length}
 use Rattle.format.specs.Answers.{refused}
 use Rattle.format.specs.Answers.Laws.{refuses, gives}
 use Rattle.c40.specs.Text.Laws.{length-publish}

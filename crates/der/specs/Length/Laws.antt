@@ -9,7 +9,7 @@ use lib.ListN.{length, getD, drop}
 use lib.Seq.{drop-cons}
 use Rattle.format.specs.Cut.{Cut}
 use Rattle.format.specs.BigEndian.{val}
-use Rattle.der.specs.Length.{form, least, longForm, readLength}
+use Rattle.der.specs.Length.{least, longForm, readLength}
 use Rattle.der.specs.declared.Fault.the-variants as fault
 use Rattle.der.specs.declared.Length.the-variants as is
 

@@ -124,11 +124,11 @@ module _ (r s : List ℕ) (r-start s-start r-size s-size : ℕ) (m : Measured r 
   s-low : length (contentFrom s s-start) < 0x80
   s-low = content-small s s-start (m .s-small) (m .s-inside)
 
-  pub r-length : length (integer (contentFrom r r-start)) ≡ r-size + 2
-  r-length = ap length (integer-is (contentFrom r r-start) r-low) ∙ omega (arith, m .r-is)
+  pub length-r : length (integer (contentFrom r r-start)) ≡ r-size + 2
+  length-r = ap length (integer-is (contentFrom r r-start) r-low) ∙ omega (arith, m .r-is)
 
-  pub s-length : length (integer (contentFrom s s-start)) ≡ s-size + 2
-  s-length = ap length (integer-is (contentFrom s s-start) s-low) ∙ omega (arith, m .s-is)
+  pub length-s : length (integer (contentFrom s s-start)) ≡ s-size + 2
+  length-s = ap length (integer-is (contentFrom s s-start) s-low) ∙ omega (arith, m .s-is)
 
   pub below : (r-size < 0x80) × (s-size < 0x80)
   below = (omega (arith, r-low, m .r-is), omega (arith, s-low, m .s-is))
@@ -141,7 +141,7 @@ module _ (r s : List ℕ) (r-start s-start r-size s-size : ℕ) (m : Measured r 
       sym
       (ap length same
       ∙ length-append (integer (contentFrom r r-start)) (integer (contentFrom s s-start))
-      ∙ omega (arith, r-length, s-length))
+      ∙ omega (arith, length-r, length-s))
 
   pub whole-size : length (0x30 ∷ form (r-size + s-size + 4)) + (r-size + s-size + 4) ≡ length (signature r s)
   whole-size =

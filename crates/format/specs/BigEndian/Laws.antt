@@ -53,11 +53,11 @@ be-val (suc k) s b h =
     simp (take-suc s k 0, high, low, ih)
 
 -- each element is a byte
-pub be-bytes : (k n : ℕ) → Bytes (be k n)
+pub bytes-be : (k n : ℕ) → Bytes (be k n)
 unfolding be
-be-bytes zero n i = omega arith
-be-bytes (suc k) n i =
-    let ih = be-bytes k (n / 256) in
+bytes-be zero n i = omega arith
+bytes-be (suc k) n i =
+    let ih = bytes-be k (n / 256) in
     let last : Byte (n % 256) = omega arith in
     bytes-append (be k (n / 256)) (n % 256 ∷ []) ih (bytes-cons (n % 256) [] last bytes-nil) i
 

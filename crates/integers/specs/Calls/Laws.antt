@@ -86,15 +86,15 @@ module _ (v : ℤ) (bytes : List ℕ) (start : ℕ) (e : bytes ≡ be 8 (word v)
       ∙ integer-short (drop start bytes) (omega (arith, start-size))
       ∙ ap (λ n. 0x02 ∷ n ∷ drop start bytes) start-size
 
-  pub integer-size : length (integerOf v) ≡ 8 - start + 2
-  integer-size = ap length integer-from ∙ omega (arith, start-size)
+  pub length-integer : length (integerOf v) ≡ 8 - start + 2
+  length-integer = ap length integer-from ∙ omega (arith, start-size)
 
   -- where it fits, in a buffer: the tag, the size, and the content copied behind them
   module _ (out : List ℕ) where
     pub no-room :
         length out < 8 - start + 2 →
         (record { number = 63; place = 0; count = 0 } ≡ told (writing v (length out))) × (out ≡ filled (writing v (length out)) out)
-    no-room l = refuses (writing v (length out)) 63 0 out (writing-not v (length out) (omega (arith, integer-size)))
+    no-room l = refuses (writing v (length out)) 63 0 out (writing-not v (length out) (omega (arith, length-integer)))
 
     module _ (l : 8 - start + 2 ≤ length out) (after : List ℕ)
         (g : after ≡ copied (take (8 - start) (drop start bytes)) (set (set out 0 0x02) 1 (8 - start)) 2) where
@@ -111,11 +111,11 @@ module _ (v : ℤ) (bytes : List ℕ) (start : ℕ) (e : bytes ≡ be 8 (word v)
           ∙ ap (over out 0) (sym integer-from)
 
       pub written-size : length after ≡ length out
-      written-size = ap length put ∙ length-over out 0 (integerOf v) (omega (arith, integer-size))
+      written-size = ap length put ∙ length-over out 0 (integerOf v) (omega (arith, length-integer))
 
       pub written :
           (record { number = 0; place = 0; count = 8 - start + 2 } ≡ told (writing v (length out)))
           × (after ≡ filled (writing v (length out)) out)
       written =
-          gives (writing v (length out)) (integerOf v) (8 - start + 2) out after (writing-done v (length out) (omega (arith, integer-size)))
-          (sym integer-size) put
+          gives (writing v (length out)) (integerOf v) (8 - start + 2) out after
+          (writing-done v (length out) (omega (arith, length-integer))) (sym length-integer) put

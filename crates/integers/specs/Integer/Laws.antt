@@ -89,8 +89,8 @@ shortest-size = by-shortest (λ s t. length t ≤ length s) (omega arith) (λ s 
 pub shortest-some : (s : List ℕ) → 0 < length s → 0 < length (shortest s)
 shortest-some = by-shortest (λ s t. 0 < length s → 0 < length t) (λ h. h) (λ s e h. h) (λ x y s t e ih h. ih (omega arith))
 
-pub shortest-bytes : (s : List ℕ) → Bytes s → Bytes (shortest s)
-shortest-bytes = by-shortest (λ s t. Bytes s → Bytes t) (λ b. b) (λ s e b. b) (λ x y s t e ih b. ih (λ i. b (suc i)))
+pub bytes-shortest : (s : List ℕ) → Bytes s → Bytes (shortest s)
+bytes-shortest = by-shortest (λ s t. Bytes s → Bytes t) (λ b. b) (λ s e b. b) (λ x y s t e ih b. ih (λ i. b (suc i)))
 
 pub strict-some : (s : List ℕ) → strict s ≡ true → 0 < length s
 unfolding strict

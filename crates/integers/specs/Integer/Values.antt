@@ -15,7 +15,7 @@ use mir.Val.{SFits}
 use Rattle.format.specs.Bytes.{Bytes}
 use Rattle.format.specs.Choice.Laws.{by-test}
 use Rattle.format.specs.BigEndian.{be, val}
-use Rattle.format.specs.BigEndian.Laws.{length-be, val-be, be-val, val-below, be-bytes}
+use Rattle.format.specs.BigEndian.Laws.{length-be, val-be, be-val, val-below, bytes-be}
 use Rattle.der.specs.Content.{shortest, strict}
 use Rattle.integers.specs.Integer.{word, valueOf}
 use Rattle.der.specs.Content.Laws.{strict-shortest}
@@ -78,7 +78,7 @@ value-be v f = go v f
         let w = 2 ^ 64 - suc k in
         let is : val (be 8 w) 8 ≡ w = val-be 8 w (omega arith) in
         let e : 256 ^ 8 - suc (val (be 8 w) 8) ≡ k = omega (arith, f .sfits) in
-        value-high (be 8 w) (top-high (be 8 w) (be-bytes 8 w) (eight w) (omega (arith, f .sfits)))
+        value-high (be 8 w) (top-high (be 8 w) (bytes-be 8 w) (eight w) (omega (arith, f .sfits)))
         ∙ ap negsuc (ap (λ n. 256 ^ n - suc (val (be 8 w) n)) (eight w) ∙ e)
 
 pub word-value : (s : List ℕ) → Bytes s → length s ≡ 8 → be 8 (word (valueOf s)) ≡ s

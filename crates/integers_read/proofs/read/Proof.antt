@@ -2,7 +2,6 @@
 -- Assumes nothing.
 use native.Mathlib.Omega.{arith}
 use mathlib.Core.Path.{_≡_, _∙_, sym}
-use Prim.Native.Nat.{_≤_}
 use denote.Ref.{now}
 use Rattle.der.specs.Element.{elementIn}
 use Rattle.der.specs.declared.Element.the-variants.{Body}

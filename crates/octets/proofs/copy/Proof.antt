@@ -1,6 +1,5 @@
 -- `octets::copy` meets its contract. The loop's invariant: the first i bytes stand in `out`.
 -- Assumes nothing.
-use borrow.Author.Needs.{needs}
 use native.Mathlib.Omega.{arith}
 use mathlib.Core.Path.{_≡_, _∙_, ap, sym}
 use Prim.Native.Nat.{_+_, _-_, _≤_}

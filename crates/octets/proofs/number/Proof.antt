@@ -5,9 +5,9 @@ use native.Mathlib.Omega.{arith}
 use native.Mathlib.Nat.{pow-le-pow-right}
 use mathlib.Core.Path.{_≡_, _∙_, refl, ap}
 use lib.Dec.{lit≤}
-use Prim.Native.Nat.{ℕ, _+_, _*_, _-_, _^_, _<_, _≤_, min}
+use Prim.Native.Nat.{_-_, _^_, _<_, _≤_}
 use denote.Ref.{now}
-use lib.ListN.{length, getD}
+use lib.ListN.{length}
 use Rattle.format.specs.BigEndian.{val}
 use Rattle.format.specs.BigEndian.Laws.{val-below, val-more}
 use Rattle.octets.proofs.number.Statement.{statement}

@@ -6,7 +6,7 @@ use Prim.Native.Nat.{ℕ}
 use mathlib.Core.List.{List, []}
 use denote.Ref.{now}
 use Rattle.causes.specs.declared.Item.the-variants as item
-use Rattle.verdict.specs.Items.{is, not, mark, version, country, names}
+use Rattle.verdict.specs.Items.{is, mark, version, country, names}
 use Rattle.read_items.specs.Meaning.{stepOf, editionOf, refused, whyOf, through}
 use Rattle.read_names.specs.Meaning.{namesOf, measured, textOver}
 use Rattle.read_names.specs.declared.Names.the-variants as read

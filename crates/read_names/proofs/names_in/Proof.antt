@@ -9,10 +9,10 @@ use lib.ListN.{length, take, drop, getD, length-append, length-drop}
 use lib.Seq.{length-take-le}
 use Rattle.format.specs.Hex.Laws.{value-most}
 use Rattle.causes.specs.declared.Item.the-variants as item
-use Rattle.verdict.specs.Items.{names, field, inNine, inSix, inReference}
+use Rattle.verdict.specs.Items.{names, field, inNine, inSix}
 use Rattle.read_items.specs.Meaning.{stepOf, refused, through}
 use Rattle.read_names.specs.Meaning.{measured}
-use Rattle.read_names.specs.Meaning.Named.{names-three, names-three-not, names-six-not, Six, six-there, part-long, names-four}
+use Rattle.read_names.specs.Meaning.Named.{names-three, names-three-not, names-six-not, Six, six-there, length-part, names-four}
 use Rattle.read_names.specs.Meaning.Named.{names-four-not}
 use Rattle.read_names.proofs.names_in.Statement.{statement}
 use Rattle.read_names.proofs.names_in.Tie as tie
@@ -76,24 +76,24 @@ abbrev reference-past : tie.After-known-told3 → tie.After-field3
 reference-past c = c .before .before .before .before .before
 
 -- nine characters, and six, are asked for
-nine-long : (on : tie.After-enum-told) → length (take 9 (three on .args .text .now)) ≡ 9
-nine-long on = length-take-le 9 (three on .args .text .now) (omega arith)
+length-nine : (on : tie.After-enum-told) → length (take 9 (three on .args .text .now)) ≡ 9
+length-nine on = length-take-le 9 (three on .args .text .now) (omega arith)
 
-six-long : (on : tie.After-enum-told3) → length (take 6 (four on .args .text .now)) ≡ 6
-six-long on = length-take-le 6 (four on .args .text .now) (omega arith)
+length-six : (on : tie.After-enum-told3) → length (take 6 (four on .args .text .now)) ≡ 6
+length-six on = length-take-le 6 (four on .args .text .now) (omega arith)
 
 slice-aggregate-field : tie.Need-slice-aggregate-field
-slice-aggregate-field c = sym (nine-long (c .before))
+slice-aggregate-field c = sym (length-nine (c .before))
 
 field-requires : tie.Need-field-requires
-field-requires c κs = nine-long (c .before)
+field-requires c κs = length-nine (c .before)
 
 nine-read : (on : tie.After-field) →
     let args = start-three on .args in
     stepOf (nine on) (on .field .result) ≡ field 9 inNine (args .at .place) (args .seal .now)
 nine-read on =
     let args = start-three on .args in
-    on .field .ensures ∙ ap (λ k. field k inNine (args .at .place) (args .seal .now)) (nine-long (on .before .before))
+    on .field .ensures ∙ ap (λ k. field k inNine (args .at .place) (args .seal .now)) (length-nine (on .before .before))
 
 returns : tie.Need-returns
 returns c =
@@ -110,23 +110,23 @@ returns-2 c =
     let on = nine-past c in
     let args = start-three on .args in
     let n = c .before .nine .given .0 .0 in
-    let long : length (nine on) ≡ 9 = omega (arith, nine-long (on .before .before)) in
+    let long : length (nine on) ≡ 9 = omega (arith, length-nine (on .before .before)) in
     names-three (args .at .place) (n .place) (args .seal .now) (nine on) (drop 9 (args .text .now)) long
     (sym (ap (stepOf (nine on)) (c .before .nine .given .1)) ∙ nine-read on)
     ∙ ap (λ v. through measured (names v (args .at .place) (args .seal .now))) (sym (on .before .before .enum-told .given .1))
 
 slice-aggregate-field-2 : tie.Need-slice-aggregate-field-2
-slice-aggregate-field-2 c = sym (six-long (c .before))
+slice-aggregate-field-2 c = sym (length-six (c .before))
 
 field-requires-2 : tie.Need-field-requires-2
-field-requires-2 c κs = six-long (c .before)
+field-requires-2 c κs = length-six (c .before)
 
 six-read-as : (on : tie.After-field2) →
     let args = start-four on .args in
     stepOf (six on) (on .field2 .result) ≡ field 6 inSix (args .at .place) (args .seal .now)
 six-read-as on =
     let args = start-four on .args in
-    on .field2 .ensures ∙ ap (λ k. field k inSix (args .at .place) (args .seal .now)) (six-long (on .before .before))
+    on .field2 .ensures ∙ ap (λ k. field k inSix (args .at .place) (args .seal .now)) (length-six (on .before .before))
 
 returns-3 : tie.Need-returns-3
 returns-3 c =
@@ -153,7 +153,7 @@ six-read : (c : tie.After-hex-value2) →
 six-read c =
     let on = first-field c in
     let args = start-four on .args in
-    let long : length (six on) ≡ 6 = omega (arith, six-long (on .before .before)) in
+    let long : length (six on) ≡ 6 = omega (arith, length-six (on .before .before)) in
     six-there (args .at .place) (args .seal .now) (six on) (drop 6 (args .text .now)) (after c)
     (c .before .before .hex-value .result) (c .hex-value2 .result) long
     (sym (ap (stepOf (six on)) (from-digits c .six .given .1)) ∙ six-read-as on) (c .before .before .hex-value .ensures)
@@ -181,7 +181,7 @@ room c =
     omega (arith, length-append (six on) (drop 6 text))
 
 part-size : (c : tie.After-hex-value2) → length (take (4 + size c - 4) (drop 4 (held c))) ≡ size c
-part-size c = part-long (held c) (size c) (room c)
+part-size c = length-part (held c) (size c) (room c)
 
 part-field-end : tie.Need-part-field-end
 unfolding held

@@ -14,7 +14,7 @@ use Rattle.c40.specs.Decode.{decode}
 use Rattle.causes.specs.declared.Rule.{Rule}
 use Rattle.causes.specs.declared.Rule.the-variants as rule
 use Rattle.verdict.specs.Items.{Item, Exact, exact, wrongAt, is, not, pass, whole, exactly, judgedBy, fieldIn, field}
-use Rattle.verdict.specs.Items.Sound.{taken-size}
+use Rattle.verdict.specs.Items.Sound.{length-taken}
 use Rattle.read_items.specs.Meaning.Laws.{whole-is, whole-none, past-whole}
 use Rattle.read_items.specs.Meaning.{wholeOf, past}
 use Rattle.read_names.specs.Meaning.{anyText}
@@ -38,7 +38,7 @@ module _ (k size at : ℕ) (s : List ℕ) (wide : size ≡ width k) (r : Whole) 
 pub field-wide : (k at n : ℕ) (s : List ℕ) → (n ≡ at + width k) × (at + width k ≤ length s) → length (take (n - at) (drop at s)) ≡ width k
 field-wide k at n s there =
     let e : n - at ≡ width k = omega (arith, there .0) in
-    ap (λ m. length (take m (drop at s))) e ∙ taken-size (width k) at s (there .1)
+    ap (λ m. length (take m (drop at s))) e ∙ length-taken (width k) at s (there .1)
 
 -- a field whose bytes are there, by what they carry
 module _ (k at n : ℕ) (s : List ℕ) (there : (n ≡ at + width k) × (at + width k ≤ length s)) where

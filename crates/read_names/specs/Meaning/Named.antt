@@ -112,8 +112,8 @@ six-there at s x rest m h l long read high low =
     }
 
 -- the part of a text that the reference is put into
-pub part-long : (t : List ℕ) (size : ℕ) → 4 + size ≤ length t → length (take (4 + size - 4) (drop 4 t)) ≡ size
-part-long t size h =
+pub length-part : (t : List ℕ) (size : ℕ) → 4 + size ≤ length t → length (take (4 + size - 4) (drop 4 t)) ≡ size
+length-part t size h =
     let e : 4 + size - 4 ≡ size = omega arith in
     ap (λ k. length (take k (drop 4 t))) e ∙ length-take-le size (drop 4 t) (omega (arith, length-drop 4 t))
 

@@ -93,11 +93,11 @@ reference-most : (v : Version) (n : ℕ) → ReferenceSize v n → n ≤ 255
 reference-most three n h = omega arith
 reference-most four n h = h .1
 
-pub rows-many : (v : Version) (at : ℕ) (fs : List Feature) → length (rowsOf v at fs) ≡ length fs
+pub length-rows-of : (v : Version) (at : ℕ) (fs : List Feature) → length (rowsOf v at fs) ≡ length fs
 unfolding rowsOf
-rows-many v at [] = refl
-rows-many v at (f ∷ fs) =
-    let ih = rows-many v (at + 1 + length (lengthOf v (length (f .value))) + length (f .value)) fs in
+length-rows-of v at [] = refl
+length-rows-of v at (f ∷ fs) =
+    let ih = length-rows-of v (at + 1 + length (lengthOf v (length (f .value))) + length (f .value)) fs in
     ap suc ih
 
 walk :
@@ -143,7 +143,8 @@ accepted-report s bytes q v r a same-version e =
           (reference-most (c .header .version) (length (c .header .reference)) (l .header .size));
       few =
           subst (λ z. length (z .rows) ≤ 255) (sym same)
-          (subst (λ n. n ≤ 255) (sym (rows-many (c .header .version) (length (headerZone (c .header))) (c .features))) (features-most c l));
+          (subst (λ n. n ≤ 255) (sym (length-rows-of (c .header .version) (length (headerZone (c .header))) (c .features)))
+          (features-most c l));
       walked = walk s r e;
     }
 

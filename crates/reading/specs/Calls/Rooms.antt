@@ -16,7 +16,7 @@ use Rattle.verdict.specs.Judge.Listed.{FromList}
 use Rattle.verdict.specs.Judge.Complete.{reportOf, published-accepted}
 use Rattle.verdict.specs.Judge.Sound.{unaccepted}
 use Rattle.reading.specs.Calls.{answerOf, given, reading}
-use Rattle.reading.specs.Calls.Reads.{rows-many, both-fit}
+use Rattle.reading.specs.Calls.Reads.{length-rows-of, both-fit}
 
 -- enough for a legal content's rows and names
 pub room-enough :
@@ -25,7 +25,7 @@ pub room-enough :
 unfolding reportOf
 room-enough c l numbers room rows names =
     both-fit (publish c) numbers room (reportOf c) (published-accepted c l)
-    (omega (arith, rows-many (c .header .version) (length (headerZone (c .header))) (c .features)))
+    (omega (arith, length-rows-of (c .header .version) (length (headerZone (c .header))) (c .features)))
     names
 
 -- accepted with room is accepted by the verdict

@@ -1,6 +1,6 @@
 -- A seal made anew says what was read, and the call has a sound shape.
 -- Assumes nothing.
-use mathlib.Core.Path.{_≡_, refl, ap, sym, subst, _∙_}
+use mathlib.Core.Path.{_≡_, ap, sym, subst, _∙_}
 use Prim.Native.Nat.{ℕ, _+_, _*_, _≤_}
 use native.Mathlib.Omega.{arith}
 use mathlib.Core.List.{List, [], _∷_, _++_, map, append-nil}
@@ -12,8 +12,7 @@ use Rattle.grammar.specs.Content.{Version, Feature, Content}
 use Rattle.grammar.specs.Publish.{headerZone, messageZone, publish, lengthOf}
 use Rattle.grammar.specs.Theorems.{zones-add-up}
 use Rattle.versions.specs.Versions.Laws.{number-back}
-use Rattle.rows.specs.declared.Row.{Row}
-use Rattle.rows.specs.Rows.{width, table, rowsOf}
+use Rattle.rows.specs.Rows.{width, table}
 use Rattle.rows.specs.Rows.Laws.{rows-of-table, length-table, table-whole}
 use Rattle.verdict.specs.Judge.{Report, accepted}
 use Rattle.verdict.specs.Judge.Complete.{reportOf}

@@ -4,7 +4,7 @@ use mathlib.Core.Path.{_≡_, refl, ap, sym, subst, _∙_}
 use mathlib.Core.Bool.{Bool, true, false}
 use Prim.Native.Nat.{ℕ, _+_, _*_, _≤_}
 use native.Mathlib.Omega.{arith}
-use mathlib.Core.List.{List, [], _∷_, _++_}
+use mathlib.Core.List.{List, _++_}
 use mathlib.Core.Option.{some}
 use lib.Dec.{ltb}
 use lib.ListN.{length, take, drop, take-append-drop, length-drop, length-map}
@@ -67,15 +67,15 @@ pub record IsAccepted (v : Verdict) : Type 0 where
   pub reads : v ≡ accepted report
 
 -- an accepted seal's report has a signer of four characters
-pub signer-long : (s : List ℕ) → Bytes s → (r : Report) → judge s ≡ accepted r → length (r .header .signer) ≡ 4
-signer-long s bytes r j =
+pub length-signer : (s : List ℕ) → Bytes s → (r : Report) → judge s ≡ accepted r → length (r .header .signer) ≡ 4
+length-signer s bytes r j =
     let seal = accepted-only s bytes r j in
     ap (λ z. length (z .header .signer)) (seal .report-is)
     ∙ ap (λ z. length (z .signer)) (report-header (seal .content))
     ∙ seal .legal .header .signer .size
 
-pub country-long : (s : List ℕ) → Bytes s → (r : Report) → judge s ≡ accepted r → length (r .header .country) ≡ 3
-country-long s bytes r j =
+pub length-country : (s : List ℕ) → Bytes s → (r : Report) → judge s ≡ accepted r → length (r .header .country) ≡ 3
+length-country s bytes r j =
     let seal = accepted-only s bytes r j in
     ap (λ z. length (z .header .country)) (seal .report-is)
     ∙ ap (λ z. length (z .country)) (report-header (seal .content))
@@ -93,8 +93,8 @@ pub again-writes :
 again-writes s bytes r j room fits =
     let seal = accepted-only s bytes r j in
     let c = seal .content in
-    let long = signer-long s bytes r j in
-    let three-long = country-long s bytes r j in
+    let long = length-signer s bytes r j in
+    let three-long = length-country s bytes r j in
     let same : contentOf (again s r) ≡ some c = content-again s r long three-long ∙ ap some (seal .reports) in
     legal-written (again s r) room c same (sound-again s r c (seal .form-is) (seal .report-is) long three-long) (seal .legal)
     (subst (λ u. length u ≤ room) (sym (seal .form-is)) fits)

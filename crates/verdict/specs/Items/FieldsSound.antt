@@ -4,7 +4,7 @@ use mathlib.Core.Path.{_≡_, refl, ap, sym, subst, _∙_}
 use mathlib.Core.Logic.{_⊎_, inl, inr, ⊎-elim}
 use mathlib.Core.Bool.{Bool, true, false}
 use mathlib.Core.Option.{Option, none, some, Option·none-ne-some}
-use Prim.Native.Nat.{ℕ, _+_, _-_, _*_, _/_, _%_, _≤_, _<_}
+use Prim.Native.Nat.{ℕ, _+_, _-_, _*_, _/_, _%_, _≤_}
 use native.Mathlib.Omega.{arith}
 use borrow.Author.Tests.{eqb-true, ltb-true}
 use mathlib.Core.List.{List, [], _∷_, _++_, map}
@@ -35,7 +35,7 @@ use Rattle.verdict.specs.Items.{is, exact, wrongAt, exactly, unless, jud
 use Rattle.verdict.specs.Items.{lengthIn, isHex, inSix, inReference, named, after, names}
 use Rattle.verdict.specs.Items.Laws.{whole-read, unread}
 use Rattle.verdict.specs.Items.Fields.{letter-carried, letter-shown}
-use Rattle.verdict.specs.Items.Sound.{Stands, stands-append, steps, steps-on, stands, taken-size, same-value, same-place}
+use Rattle.verdict.specs.Items.Sound.{Stands, stands-append, steps, steps-on, stands, length-taken, same-value, same-place}
 
 -- text that was found is all that was decoded, and has k characters
 record Found (k : ℕ) (d : Decoded) (broken : List ℕ → Option Rule) (at : ℕ) (t : List ℕ) (after : ℕ) : Type 0 where
@@ -82,7 +82,7 @@ field-read k broken at s t after bytes e =
       there = record {
         form-there = stands (width k) at s (w .there) ∙ ap (λ z. z ++ drop (at + width k) s) (sym (r .1))
             ∙ ap (λ n. c40 t ++ drop n s) (f .place);
-        size = sym (f .place) ∙ ap (λ n. at + n) (sym (ap length (r .1) ∙ taken-size (width k) at s (w .there)));
+        size = sym (f .place) ∙ ap (λ n. at + n) (sym (ap length (r .1) ∙ length-taken (width k) at s (w .there)));
       };
     }
 

@@ -30,7 +30,6 @@ use Rattle.versions.specs.Versions.{versionByte, versionOfByte}
 use Rattle.versions.specs.Versions.Laws.{byte-of}
 use Rattle.grammar.specs.Publish.{lengthOf}
 use Rattle.causes.specs.declared.Item.{Item as Name}
-use Rattle.causes.specs.declared.Rule.{Rule}
 use Rattle.causes.specs.declared.Rule.the-variants as rule
 use Rattle.verdict.specs.Items.{Read, Item, Way, is, not, why, next, pass, lengthRule, byte, markIn, versionAt, versionIn, lastIn}
 use Rattle.verdict.specs.Items.{dateIn, plainIn, mark, version, last, date, derOf, derLength, featureLength}
@@ -75,8 +74,8 @@ steps-on name (not rule place) rest b after e = absurd (unread (why name rule) p
 pub stands : (k at : ℕ) (s : List ℕ) → at + k ≤ length s → drop at s ≡ take k (drop at s) ++ drop (at + k) s
 stands k at s h = sym (take-append-drop k (drop at s)) ∙ ap (λ u. take k (drop at s) ++ u) (drop-drop k at s)
 
-pub taken-size : (k at : ℕ) (s : List ℕ) → at + k ≤ length s → length (take k (drop at s)) ≡ k
-taken-size k at s h = length-take-le k (drop at s) (omega (arith, length-drop at s))
+pub length-taken : (k at : ℕ) (s : List ℕ) → at + k ≤ length s → length (take k (drop at s)) ≡ k
+length-taken k at s h = length-take-le k (drop at s) (omega (arith, length-drop at s))
 
 -- the value and place that were read
 pub same-value : {R A : Type 0} (a b : A) (at after : ℕ) → _≡_ {A = Read R A} (is a at) (is b after) → a ≡ b
@@ -102,7 +101,7 @@ byte-read at s f a after e =
     let t = take 1 (drop at s) in
     record {
       x = getD t 0 0;
-      there = stands 1 at s (w .there) ∙ ap (λ u. u ++ drop (at + 1) s) (one t (taken-size 1 at s (w .there)));
+      there = stands 1 at s (w .there) ∙ ap (λ u. u ++ drop (at + 1) s) (one t (length-taken 1 at s (w .there)));
       read = w .read;
     }
 
@@ -151,7 +150,7 @@ pub date-read : (at : ℕ) (s : List ℕ) (d : Date) (after : ℕ) → Bytes s �
 date-read at s d after bytes e =
     let w = whole-read 3 at s (λ b. dateIn at (dateOf (val b 3))) d after e in
     let t = take 3 (drop at s) in
-    let l = taken-size 3 at s (w .there) in
+    let l = length-taken 3 at s (w .there) in
     let p = passed (isDay (dateOf (val t 3))) (is (dateOf (val t 3)) (at + 3)) rule.IsDay at d after (w .read) in
     let same = same-value (dateOf (val t 3)) d (at + 3) after (p .1) in
     let place = same-place (dateOf (val t 3)) d (at + 3) after (p .1) in

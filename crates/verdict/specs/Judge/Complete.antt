@@ -27,7 +27,7 @@ use Rattle.causes.specs.declared.Item.the-variants as item
 use Rattle.verdict.specs.Items.{Read, is, not, why, next, whole, mark, version, country, names, date, last, derLength}
 use Rattle.verdict.specs.Items.Laws.{whole-there, der-there, mark-there, version-there, last-there, date-there}
 use Rattle.verdict.specs.Items.Fields.{country-there, names-there}
-use Rattle.verdict.specs.Judge.{Report, accepted, header, features, rawIn, endIn, sizeIn, signature, verdict, reading}
+use Rattle.verdict.specs.Judge.{Report, accepted, header, features, rawIn, endIn, sizeIn, signature, reading}
 use Rattle.fields.specs.Signature.{isSignature}
 use Rattle.verdict.specs.Judge.{judging, judge}
 use Rattle.verdict.specs.Judge.Features.{rowsOf, features-there}

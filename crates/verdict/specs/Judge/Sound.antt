@@ -27,7 +27,7 @@ use Rattle.causes.specs.declared.Rule.the-variants as rule
 use Rattle.causes.specs.declared.Item.the-variants as item
 use Rattle.verdict.specs.Items.{Item, Way, is, not, why, next, pass, whole, mark, version, country, names, date, last, derLength}
 use Rattle.verdict.specs.Items.{Names, featureLength}
-use Rattle.verdict.specs.Items.Sound.{Stands, stands-append, steps, steps-on, stands, taken-size, same-value, same-place, passed}
+use Rattle.verdict.specs.Items.Sound.{Stands, stands-append, steps, steps-on, stands, length-taken, same-value, same-place, passed}
 use Rattle.verdict.specs.Items.Sound.{mark-read, version-read, last-read, date-read, der-read, feature-length-read, byte-read}
 use Rattle.verdict.specs.Items.Laws.{unread, whole-read}
 use Rattle.verdict.specs.Items.FieldsSound.{country-read, names-read}
@@ -205,7 +205,7 @@ row-read v x at s r after all e =
     let j = steps-on item.Value (whole n m s (valueIn x n m)) is r after (k .goes-on) in
     let w = whole-read n m s (valueIn x n m) (j .value) (j .at) (j .read) in
     let b = take n (drop m s) in
-    let many : length b ≡ n = taken-size n m s (w .there) in
+    let many : length b ≡ n = length-taken n m s (w .there) in
     let q : Row = record { tag = x; place = m; size = n } in
     let same = same-value q (j .value) (m + n) (j .at) (w .read) ∙ same-value (j .value) r (j .at) after (j .goes-on) in
     let place = same-place q (j .value) (m + n) (j .at) (w .read) ∙ same-place (j .value) r (j .at) after (j .goes-on) in
@@ -318,7 +318,7 @@ signature-read at s n start all e =
     let w = whole-read m k s (rawIn m k) (j .value) (j .at) (j .read) in
     let end : k + m ≡ j .at = same-place m (j .value) (k + m) (j .at) (w .read) in
     let z = take m (drop k s) in
-    let many : length z ≡ m = taken-size m k s (w .there) in
+    let many : length z ≡ m = length-taken m k s (w .there) in
     by-test (ltb (j .at) (length s))
     (λ t.
     absurd

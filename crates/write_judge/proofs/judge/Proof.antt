@@ -19,7 +19,7 @@ use Rattle.write_rows.specs.Tests.{isTable, areValues}
 use Rattle.write_given.specs.Given.{Given, given, contentAs}
 use Rattle.write_judge.specs.Calls.Laws.{writing-version, writing-names, writing-days, writing-last, writing-rows, writing-values}
 use Rattle.write_judge.specs.Calls.Laws.{writing-signature, writing-long, writing-no-room, writing-done}
-use Rattle.write_judge.specs.Size.{seal-size}
+use Rattle.write_judge.specs.Size.{length-seal}
 use Rattle.write_judge.proofs.judge.Statement.{statement}
 use Rattle.write_judge.proofs.judge.Tie as tie
 
@@ -110,7 +110,7 @@ measured c =
     let e = rows (values (c .before)) in
     let k = k4 e in
     c .seal-size .ensures
-    ∙ ap (λ n. min n 4097) (sym (seal-size (ver k) (all-of k) (pass-1 (names (days (last e)))) (pass-4 e)))
+    ∙ ap (λ n. min n 4097) (sym (length-seal (ver k) (all-of k) (pass-1 (names (days (last e)))) (pass-4 e)))
 
 from-number-requires : tie.Need-from-number-requires
 from-number-requires c κs = search needs

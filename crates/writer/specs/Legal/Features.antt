@@ -16,7 +16,7 @@ use Rattle.grammar.specs.Legal.{ValueSize, Unused, LegalFeatures}
 use Rattle.verdict.specs.Report.{featureOf}
 use Rattle.rows.specs.declared.Row.{Row}
 use Rattle.verdict.specs.Judge.{used}
-use Rattle.verdict.specs.Items.Sound.{taken-size}
+use Rattle.verdict.specs.Items.Sound.{length-taken}
 use Rattle.write_rows.specs.Tests.{isRow, areRows, areSized}
 use Rattle.write_rows.specs.Tests.Laws.{sized-head, sized-cons, sized-none}
 
@@ -60,8 +60,8 @@ row-passes n before r h u i =
 
 module _ (values : List ℕ) where
   -- a value inside has its row's size
-  value-size : (r : Row) → Inside (length values) r → length (featureOf values r .value) ≡ r .size
-  value-size r h = taken-size (r .size) (r .place) values h
+  length-value : (r : Row) → Inside (length values) r → length (featureOf values r .value) ≡ r .size
+  length-value r h = length-taken (r .size) (r .place) values h
 
   pub rows-legal :
       (v : Version) (before rows : List Row) →
@@ -80,7 +80,7 @@ module _ (values : List ℕ) where
         (
           q .0,
           q .1 .0,
-          subst (ValueSize v) (sym (value-size r (q .1 .1))) (t .0),
+          subst (ValueSize v) (sym (length-value r (q .1 .1))) (t .0),
           bytes-take (r .size) (drop (r .place) values) (bytes-drop (r .place) values bytes),
           ih .0,
         ),
@@ -98,5 +98,5 @@ module _ (values : List ℕ) where
       let n = length values in
       let ih = legal-rows v (r ∷ before) rows (l .4) (i .1) in (
         both-are (isRow n before r) (areRows n (r ∷ before) rows) (row-passes n before r (l .0) (l .1) (i .0)) (ih .0),
-        sized-cons v r rows (subst (ValueSize v) (value-size r (i .0)) (l .2)) (ih .1),
+        sized-cons v r rows (subst (ValueSize v) (length-value r (i .0)) (l .2)) (ih .1),
       )

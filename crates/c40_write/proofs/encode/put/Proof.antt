@@ -5,7 +5,7 @@ use borrow.Author.Needs.{needs}
 use native.Mathlib.Omega.{arith}
 use mathlib.Core.Path.{_≡_, _∙_, refl, ap, sym}
 use Prim.Native.Nat.{ℕ, _+_, _*_, _-_, _/_, _%_, _<_, _≤_}
-use mathlib.Core.List.{List, [], _∷_, _++_, append-assoc, append-nil}
+use mathlib.Core.List.{List, [], _++_, append-assoc, append-nil}
 use denote.Ref.{now}
 use lib.ListN.{length, getD, drop}
 use Rattle.format.specs.BigEndian.{be}
@@ -15,7 +15,7 @@ use Rattle.format.specs.Buffer.{over}
 use Rattle.format.specs.Buffer.Laws.{Held, held-start, held-more, held-length}
 use Rattle.pairs.specs.Chart.{InChart}
 use Rattle.pairs.specs.Chart.Laws.{char-below}
-use Rattle.c40.specs.Text.{publish, width}
+use Rattle.c40.specs.Text.{publish}
 use Rattle.c40.specs.Text.Laws.{left-three, left-two, left-one, left-none}
 use Rattle.c40_write.proofs.encode.put.Statement.{statement}
 use Rattle.c40_write.proofs.encode.put.Tie as tie

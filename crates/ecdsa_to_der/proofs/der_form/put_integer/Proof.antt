@@ -1,10 +1,10 @@
 -- `der_form::put_integer` meets its contract: tag, size, where needed a zero, and the digits, one after another.
 -- Assumes nothing.
 use native.Mathlib.Omega.{arith}
-use mathlib.Core.Path.{_≡_, _∙_, ap}
-use Prim.Native.Nat.{ℕ, _+_, _-_}
+use mathlib.Core.Path.{_∙_}
+use Prim.Native.Nat.{_-_}
 use denote.Ref.{now}
-use lib.ListN.{length, drop, set, length-set, length-drop}
+use lib.ListN.{length, drop, length-set, length-drop}
 use lib.Seq.{take-all}
 use Rattle.ecdsa.specs.Signature.Laws.{size-high}
 use Rattle.ecdsa_to_der.specs.Places.Laws.{content-small, put-low, place-low, put-high, place-high}

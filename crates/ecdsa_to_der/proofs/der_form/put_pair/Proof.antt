@@ -1,7 +1,7 @@
 -- `der_form::put_pair` meets its contract: head, r and s are put down one after another, and are the whole.
 -- Assumes nothing.
 use native.Mathlib.Omega.{arith}
-use mathlib.Core.Path.{_≡_, _∙_, refl, ap, sym}
+use mathlib.Core.Path.{_∙_, refl, ap, sym}
 use Prim.Native.Nat.{ℕ, _+_, _≤_}
 use denote.Ref.{now}
 use native.Mathlib.Nat.{zero-add}
@@ -14,7 +14,7 @@ use Rattle.der.specs.Length.{form}
 use Rattle.der.specs.Content.{integer}
 use Rattle.ecdsa.specs.Signature.{contentFrom}
 use Rattle.ecdsa.specs.Signature.Laws.{head-most}
-use Rattle.ecdsa_to_der.specs.Places.Laws.{Measured, below, content-size, whole-size, whole-is, r-length, s-length}
+use Rattle.ecdsa_to_der.specs.Places.Laws.{Measured, below, content-size, whole-size, whole-is, length-r, length-s}
 use Rattle.ecdsa.specs.Calls.Laws.{formed-long, formed-no-room, formed-done}
 use borrow.Author.Needs.{needs}
 use Rattle.ecdsa_to_der.proofs.der_form.put_pair.Statement.{statement}
@@ -93,11 +93,11 @@ r-held :
     Held (buffer (from-r c)) (c .put-integer .last .1 .1 .0) (c .put-integer .result) (head (from-r c) ++ r-integer (from-r c))
 r-held c =
     held-more _ _ _ _ (head-held (head-put c)) _ _ _ (c .put-integer .ensures .1) (sym (c .put-integer .ensures .0))
-    (omega (arith, c .put-integer .ensures .0, r-length _ _ _ _ _ _ (measured (from-r c)), fits (has-room (head-put c))))
+    (omega (arith, c .put-integer .ensures .0, length-r _ _ _ _ _ _ (measured (from-r c)), fits (has-room (head-put c))))
 
 -- there is room for s behind r
 s-fits : (c : tie.After-put-integer) → c .put-integer .result + (from-r c .size-from2 .result + 2) ≤ length (buffer (from-r c))
-s-fits c = omega (arith, c .put-integer .ensures .0, r-length _ _ _ _ _ _ (measured (from-r c)), fits (has-room (head-put c)))
+s-fits c = omega (arith, c .put-integer .ensures .0, length-r _ _ _ _ _ _ (measured (from-r c)), fits (has-room (head-put c)))
 
 start-of-requires : tie.Need-start-of-requires
 start-of-requires c κs = search needs
@@ -159,7 +159,7 @@ returns-3 c =
     let r = r-put (s .before) in
     let room = has-room (head-put r) in
     let m = measured (sizes room) in
-    let whole = held-more _ _ _ _ (r-held r) _ _ _ (s .put-integer2 .ensures .1) refl (omega (arith, s-fits r, s-length _ _ _ _ _ _ m)) in
+    let whole = held-more _ _ _ _ (r-held r) _ _ _ (s .put-integer2 .ensures .1) refl (omega (arith, s-fits r, length-s _ _ _ _ _ _ m)) in
     gives _ _ _ _ _
     (formed-done _ _ _ (omega (arith, content-size _ _ _ _ _ _ m))
     (omega (arith, whole-size _ _ _ _ _ _ m, room .before .head-of .ensures, fits room)))

@@ -1,7 +1,7 @@
 -- `raw_form::put_pair` meets its contract: nothing at the head, or r there and the rest handed on.
 -- Assumes nothing.
 use borrow.Author.Needs.{needs}
-use mathlib.Core.Path.{_≡_, refl, ap, sym, _∙_}
+use mathlib.Core.Path.{refl, ap, sym, _∙_}
 use denote.Ref.{now}
 use lib.ListN.{length}
 use Rattle.format.specs.Answers.{told, filled}

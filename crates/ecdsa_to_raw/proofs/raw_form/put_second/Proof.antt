@@ -1,7 +1,7 @@
 -- `raw_form::put_second` meets its contract: each `return` is one case of `lastly`.
 -- Assumes nothing.
 use borrow.Author.Needs.{needs}
-use mathlib.Core.Path.{_≡_, ap, sym, _∙_}
+use mathlib.Core.Path.{ap, sym, _∙_}
 use denote.Ref.{now}
 use lib.ListN.{length}
 use Rattle.format.specs.Answers.{told, filled}

@@ -2,8 +2,6 @@
 -- Assumes nothing.
 use borrow.Author.Needs.{needs}
 use native.Mathlib.Omega.{arith}
-use mathlib.Core.Path.{ap₂}
-use Prim.Native.Nat.{_+_, _*_}
 use Rattle.pairs.proofs.encode.packed.Statement.{statement}
 use Rattle.pairs.proofs.encode.packed.Tie as tie
 

@@ -1,9 +1,7 @@
 -- `read_names::rules::in_country` meets its contract: the one test.
 -- Assumes nothing.
 use borrow.Author.Needs.{needs}
-use native.Mathlib.Omega.{arith}
 use mathlib.Core.Path.{_≡_, _∙_, ap, sym}
-use lib.ListN.{length}
 use mathlib.Core.Option.{none}
 use Rattle.fields.specs.Characters.{isCountry}
 use Rattle.causes.specs.declared.Rule.the-variants as rule

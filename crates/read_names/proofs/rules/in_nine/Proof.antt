@@ -5,7 +5,7 @@ use native.Mathlib.Omega.{arith}
 use mathlib.Core.Path.{_≡_, _∙_, ap, sym}
 use Prim.Native.Nat.{ℕ}
 use mathlib.Core.List.{List}
-use lib.ListN.{length, take}
+use lib.ListN.{take}
 use Rattle.fields.specs.Characters.{isSigner}
 use Rattle.fields.specs.Characters.Laws.{first-four, rest-of}
 use Rattle.causes.specs.declared.Rule.the-variants as rule

@@ -7,7 +7,7 @@ use mathlib.Core.Path.{_≡_, _∙_, ap, sym}
 use mathlib.Core.Bool.{true}
 use mathlib.Core.List.{List}
 use Prim.Native.Nat.{ℕ, _≤_, _<_}
-use lib.ListN.{length, take, getD}
+use lib.ListN.{take, getD}
 use Rattle.format.specs.Hex.{hexValue}
 use Rattle.format.specs.Hex.Laws.{value-most}
 use Rattle.fields.specs.Characters.{isSigner}
