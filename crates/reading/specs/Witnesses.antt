@@ -1,7 +1,7 @@
 -- Each answer from 1 to 12 is given for some input, so none is dead: an input for each, under one statement.
 -- Assumes nothing.
 use mathlib.Core.Path.{_≡_, refl}
-use Prim.Native.Nat.{ℕ}
+use Prim.Native.Nat.{ℕ, _-_}
 use mathlib.Core.List.{List, [], _∷_, _++_, map}
 use lib.ListN.{take, drop, replicate}
 use Rattle.format.specs.Bytes.{All}
@@ -12,6 +12,7 @@ use Rattle.c40.specs.Decode.{decode}
 use Rattle.dates.specs.Days.{isDay}
 use Rattle.der.specs.Length.{readLength, longForm}
 use Rattle.grammar.specs.Examples.{seal-a}
+use Rattle.rows.specs.Rows.{width}
 use Rattle.verdict.specs.Judge.{refused, header, tag, row, features, signature, reading as readingOf, judging, judge}
 use Rattle.reading.specs.Calls.{reading}
 
@@ -32,7 +33,7 @@ changed at bytes rest = take at seal-a ++ (bytes ++ rest)
 
 -- with room for its row and its text
 abbrev roomy : List ℕ → ℕ → ℕ → Witness
-roomy seal number place = record { seal = seal; numbers = 3; room = 9; number = number; place = place }
+roomy seal number place = record { seal = seal; numbers = width; room = 9; number = number; place = place }
 
 abbrev pub witnesses : List Witness
 witnesses =
@@ -47,8 +48,8 @@ witnesses =
     ∷ roomy (changed 24 (0x0A ∷ []) (drop 25 seal-a)) 9 24
     ∷ roomy (changed 25 (0x39 ∷ []) (drop 26 seal-a)) 10 25
     ∷ roomy (seal-a ++ (0 ∷ [])) 11 82
-    ∷ record { seal = seal-a; numbers = 2; room = 9; number = 12; place = 0 }
-    ∷ record { seal = seal-a; numbers = 3; room = 8; number = 12; place = 0 }
+    ∷ record { seal = seal-a; numbers = width - 1; room = 9; number = 12; place = 0 }
+    ∷ record { seal = seal-a; numbers = width; room = 8; number = 12; place = 0 }
     ∷ []
 
 pub each-is-given : All Given witnesses

@@ -81,7 +81,7 @@ put-requires c κs =
     }
 
 returns-4 : tie.Need-returns-4
-returns-4 c = refuses _ 41 _ _ (reading-wrong _ _ (omega arith) (even (from-wrong c) .if2 .left) _ _ (is-wrong c))
+returns-4 c = refuses _ _ _ _ (reading-wrong _ _ (omega arith) (even (from-wrong c) .if2 .left) _ _ (is-wrong c))
 
 same-length : tie.Need-same-length
 same-length c = search needs

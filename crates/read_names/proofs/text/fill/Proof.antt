@@ -4,13 +4,13 @@ use borrow.Author.Needs.{needs}
 use native.Mathlib.Omega.{arith}
 use mathlib.Core.Path.{_≡_, _∙_, ap}
 use mathlib.Core.Logic.{inl, inr}
-use Prim.Native.Nat.{_-_}
+use Prim.Native.Nat.{ℕ, _-_}
 use mathlib.Core.List.{[], _∷_}
 use types.Run.{OneOf}
 use denote.Enum.Declared.{tagOf}
 use Rattle.c40.specs.declared.Reading.{Reading}
 use Rattle.c40.specs.declared.Reading.the-variants as reading
-use Rattle.c40.specs.Calls.{readingOf}
+use Rattle.pairs.specs.declared.decode.Fault.{Fault}
 use Rattle.c40.proofs.Reading.{the-type}
 use Rattle.verdict.specs.Items.{wrongAt}
 use Rattle.read_names.specs.Meaning.Text.{filled-exactly, filled-less, filled-wrong, filled-more}
@@ -34,16 +34,17 @@ abbrev from-other : tie.At-match-keys3 → tie.After-read
 from-other c = on-read (c .before)
 
 -- each other case is neither done nor a wrong pair
-other : (r : Reading) → OneOf (1 ∷ 2 ∷ 4 ∷ []) (tagOf the-type r) → (readingOf r .number ≡ 0 → ⊥) × (readingOf r .number ≡ 41 → ⊥)
-other (reading.Done count) (inl e) = absurd (omega arith)
-other (reading.Done count) (inr (inl e)) = absurd (omega arith)
-other (reading.Done count) (inr (inr e)) = absurd (omega arith)
-other (reading.WrongPair fault at) (inl e) = absurd (omega arith)
-other (reading.WrongPair fault at) (inr (inl e)) = absurd (omega arith)
-other (reading.WrongPair fault at) (inr (inr e)) = absurd (omega arith)
-other reading.TooLong k = ((λ e. omega arith), (λ e. omega arith))
-other (reading.Odd at) k = ((λ e. omega arith), (λ e. omega arith))
-other reading.NoRoom k = ((λ e. omega arith), (λ e. omega arith))
+other-tag : (n : ℕ) → OneOf (1 ∷ 2 ∷ 4 ∷ []) n → (n ≡ 0 → ⊥) × (n ≡ 3 → ⊥)
+other-tag n (inl e) = ((λ z. omega arith), (λ z. omega arith))
+other-tag n (inr (inl e)) = ((λ z. omega arith), (λ z. omega arith))
+other-tag n (inr (inr e)) = ((λ z. omega arith), (λ z. omega arith))
+
+module _ (r : Reading) (k : OneOf (1 ∷ 2 ∷ 4 ∷ []) (tagOf the-type r)) where
+  not-done : (count : ℕ) → r ≡ reading.Done count → ⊥
+  not-done count e = other-tag (tagOf the-type r) k .0 (ap (tagOf the-type) e)
+
+  not-wrong : (fault : Fault) (at : ℕ) → r ≡ reading.WrongPair fault at → ⊥
+  not-wrong fault at e = other-tag (tagOf the-type r) k .1 (ap (tagOf the-type) e)
 
 sub-last : tie.Need-sub-last
 sub-last c = omega (arith, c .before .before .pre)
@@ -80,7 +81,7 @@ returns-4 c =
     let read = on .read in
     ap (λ k. wrongAt (k - 2)) (entry .pre .0)
     ∙ filled-more (entry .args .bytes .now) (entry .args .text .now) (read .last .1 .0) (entry .pre) (read .result) (read .ensures .0)
-    (read .ensures .1) (other (read .result) (c .match .keys3) .0) (other (read .result) (c .match .keys3) .1)
+    (read .ensures .1) (not-done (read .result) (c .match .keys3)) (not-wrong (read .result) (c .match .keys3))
 
 read-requires : tie.Need-read-requires
 read-requires c κs = search needs
