@@ -7,8 +7,8 @@ use native.Mathlib.Omega.{arith}
 use borrow.Author.Tests.{lt-leb, le-leb, eq-eqb, ne-eqb}
 use mathlib.Core.List.{List, [], _∷_, _++_}
 use lib.Dec.{leb}
-use lib.ListN.{length, take, drop, length-append, length-drop}
-use lib.Seq.{take-all}
+use lib.ListN.{length, take, drop, length-append}
+use Rattle.format.specs.Places.{to-end}
 use Rattle.format.specs.Answers.{Outcome, done, refused}
 use Rattle.format.specs.Order.{test, inOrder}
 use Rattle.format.specs.Buffer.{over}
@@ -39,10 +39,6 @@ module _ (n room : ℕ) where
     unfolding rawed
     rawed-done h = simp (le-leb (2 * n) room h)
 
--- what the code calls the rest from a place on
-pub behind : (k : ℕ) (s : List ℕ) → take (length s - k) (drop k s) ≡ drop k s
-behind k s = take-all (length s - k) (drop k s) (omega (arith, length-drop k s))
-
 -- the call, once the sequence is found that fills s
 pub to-raw-pair :
     (n : ℕ) (s : List ℕ) (room from to : ℕ) →
@@ -54,7 +50,7 @@ pub to-raw-pair :
     rawed n (pairIn n t (numberIn n t)) room ≡ toRaw n s room
 unfolding rawed toRaw
 to-raw-pair n s room from to size e whole t at =
-    let same = raw-pair n s from to e whole t (sym (at ∙ behind from s)) in simp (size, same)
+    let same = raw-pair n s from to e whole t (sym (at ∙ to-end s from)) in simp (size, same)
 
 -- both numbers, by what is read
 module _ (n : ℕ) (t : List ℕ) (a b : ℕ) where
@@ -64,7 +60,7 @@ module _ (n : ℕ) (t : List ℕ) (a b : ℕ) where
       u ≡ take (length t - b) (drop b t) →
       lastly n (padded n (part a b t)) u (numberIn n u) ≡ pairIn n t (numberIn n t)
   pair-second e u at =
-      ap (λ v. lastly n (padded n (part a b t)) v (numberIn n v)) (at ∙ behind b t) ∙ sym (ap (pairIn n t) e)
+      ap (λ v. lastly n (padded n (part a b t)) v (numberIn n v)) (at ∙ to-end t b) ∙ sym (ap (pairIn n t) e)
 
   module _ (r : List ℕ) (e : numberIn n t ≡ Digits a b) where
     pub second-left : (b ≡ length t → ⊥) → lastly n r t (numberIn n t) ≡ none

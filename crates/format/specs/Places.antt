@@ -6,8 +6,8 @@ use native.Mathlib.Omega.{arith}
 use native.Mathlib.Nat.{add-zero}
 use native.Mathlib.Numerals.{add-one}
 use mathlib.Core.List.{List, [], _∷_, _++_}
-use lib.ListN.{length, getD, drop, length-drop, drop-of-length-le}
-use lib.Seq.{drop-cons, drop-drop, drop-at, getD-drop}
+use lib.ListN.{length, getD, take, drop, length-drop, drop-of-length-le}
+use lib.Seq.{take-all, drop-cons, drop-drop, drop-at, getD-drop}
 
 module _ {A : Type 0} (s : List A) where
   -- what stands here
@@ -25,9 +25,21 @@ module _ {A : Type 0} (s : List A) where
   pub left : (at : ℕ) {t : List A} → drop at s ≡ t → length t ≡ length s - at
   left at {t} e = ap length (sym e) ∙ length-drop at s
 
+  -- the part from here to the end
+  pub to-end : (at : ℕ) → take (length s - at) (drop at s) ≡ drop at s
+  to-end at = take-all (length s - at) (drop at s) (omega (arith, length-drop at s))
+
   pub inside : (at : ℕ) {x : A} {t : List A} → drop at s ≡ x ∷ t → at < length s
   inside at {x} {t} e = omega (arith, left at e)
 
   -- past a part
   pub past : (at : ℕ) (p : List A) {t : List A} → drop at s ≡ p ++ t → drop (at + length p) s ≡ t
   past at p {t} e = sym (drop-drop (length p) at s) ∙ ap (drop (length p)) e ∙ drop-at p t (length p) refl
+
+-- the first four
+pub first-four : (t : List ℕ) → 4 ≤ length t → getD t 0 0 ∷ getD t 1 0 ∷ getD t 2 0 ∷ getD t 3 0 ∷ [] ≡ take 4 t
+first-four [] h = absurd (omega arith)
+first-four (a ∷ []) h = absurd (omega arith)
+first-four (a ∷ b ∷ []) h = absurd (omega arith)
+first-four (a ∷ b ∷ c ∷ []) h = absurd (omega arith)
+first-four (a ∷ b ∷ c ∷ d ∷ t) h = refl

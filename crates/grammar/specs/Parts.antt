@@ -120,7 +120,7 @@ unfolding given
 given-back n h = omega (arith, digit-value (n / 16) (omega arith), digit-value (n % 16) (omega arith))
 
 -- six characters in front are two triples in front
-pub six-ahead : (p u : List ℕ) → length p ≡ 6 → c40 (p ++ u) ≡ c40 p ++ c40 u
+six-ahead : (p u : List ℕ) → length p ≡ 6 → c40 (p ++ u) ≡ c40 p ++ c40 u
 six-ahead p u e =
     let a = take 3 p in
     let b = drop 3 p in

@@ -16,8 +16,8 @@ use Rattle.dates.specs.Days.Laws.{number-below}
 use Rattle.dates.specs.declared.Date.{Date}
 use Rattle.grammar.specs.Content.{Version, four}
 use Rattle.grammar.specs.Legal.{ValueSize}
-use Rattle.grammar.specs.Publish.{hexDigits, names, lengthOf, feature, messageZone}
-use Rattle.grammar.specs.Parts.{six-ahead}
+use Rattle.grammar.specs.Publish.{names, lengthOf, feature, messageZone}
+use Rattle.grammar.specs.Parts.{Names, six, six-text, four-form, reference-text}
 use Rattle.verdict.specs.Report.{featureOf}
 use Rattle.rows.specs.declared.Row.{Row}
 use Rattle.rows.specs.Rows.{width, rowAt, rowsOf}
@@ -27,8 +27,8 @@ use Rattle.write_text.specs.Coded.{coded, firstSix}
 use Rattle.write_text.specs.Coded.Laws.{text-put, six-spelled}
 use Rattle.write_judge.specs.Needs.{Room, Named, Measured, Fits, Fitting}
 use Rattle.write_given.specs.Tests.Laws.{size-four}
-use Rattle.write_judge.specs.Size.{names-four, zone-none, zone-cons}
-use Rattle.write_judge.specs.Needs.Laws.{six-text, reference-text}
+use Rattle.write_judge.specs.Size.{zone-none, zone-cons}
+use Rattle.write_judge.specs.Needs.Laws.{named-legal}
 
 -- three bytes of a date
 pub put-date :
@@ -118,19 +118,19 @@ module _ (v : Version) (t out : List ℕ) (at : ℕ) (n : Named v t) (other : v 
   abbrev codes : List ℕ
   codes = firstSix t
 
-  six-is : codes ≡ take 4 t ++ hexDigits (length (drop 4 t))
-  six-is = six-spelled t (omega (arith, four-size .0)) (four-size .1)
+  abbrev given : List ℕ × List ℕ
+  given = (take 4 t, drop 4 t)
 
-  length-six : length (take 4 t ++ hexDigits (length (drop 4 t))) ≡ 6
-  length-six =
-      let k = length (drop 4 t) in
-      omega (arith, length-append (take 4 t) (hexDigits k), length-take-le 4 t (omega (arith, four-size .0)))
+  legal : Names four given
+  legal = subst (λ w. Names w given) other (named-legal v t n)
+
+  six-is : codes ≡ six given
+  six-is = six-spelled t (omega (arith, four-size .0)) (four-size .1)
 
   -- the six characters fill two pairs
   both-parts : names v (take 4 t) (drop 4 t) ≡ c40 codes ++ c40 (drop 4 t)
   both-parts =
-      let u = drop 4 t in
-      names-four v t other ∙ six-ahead (take 4 t ++ hexDigits (length u)) u length-six ∙ ap (λ l. c40 l ++ c40 u) (sym six-is)
+      ap (λ w. names w (take 4 t) (drop 4 t)) other ∙ four-form given legal ∙ ap (λ l. c40 l ++ c40 (drop 4 t)) (sym six-is)
 
   length-both : length (names v (take 4 t) (drop 4 t)) ≡ length (c40 codes) + length (c40 (drop 4 t))
   length-both = ap length both-parts ∙ length-append (c40 codes) (c40 (drop 4 t))
@@ -141,7 +141,7 @@ module _ (v : Version) (t out : List ℕ) (at : ℕ) (n : Named v t) (other : v 
       (next ≡ at + length (c40 codes)) × (out1 ≡ over out at (c40 codes))
   six-text-put next out1 =
       text-put codes out at next out1
-      (subst Text (sym six-is) (six-text v t n (omega (arith, four-size .1, length-drop 4 t))))
+      (subst Text (sym six-is) (six-text given legal .1))
       (omega (arith, length-both, room))
 
   pub names-put :
@@ -160,7 +160,7 @@ module _ (v : Version) (t out : List ℕ) (at : ℕ) (n : Named v t) (other : v 
       let same : length out1 ≡ length out = ap length (six .1) ∙ length-over out at (c40 codes) (omega (arith, length-both, room)) in
       let long = ap (λ x. length (c40 x)) is-left in
       let last =
-      text-put left out1 next to after (subst Text (sym is-left) (reference-text v t n))
+      text-put left out1 next to after (subst Text (sym is-left) (reference-text (drop 4 t) (legal .reference)))
       (omega (arith, long, length-both, room, six .0, same)) et ea in (
         omega (arith, last .0, long, length-both, six .0),
         last .1

@@ -6,15 +6,11 @@ use native.Mathlib.Nat.{suc-mul}
 use mathlib.Core.Path.{_≡_, refl, ap}
 use mathlib.Core.List.{List, [], _∷_, _++_, append-assoc, append-nil}
 use native.Mathlib.Numerals.{add-one}
-use lib.ListN.{length, getD, take, drop, length-drop}
-use lib.Seq.{take-all, take-suc, drop-cons}
+use lib.ListN.{length, getD, take, drop}
+use lib.Seq.{take-suc, drop-cons}
 pub use Rattle.lines.specs.Line.Laws.{within-more, counts, put-none, put-more}
 use Rattle.format.specs.Hex.{hexDigit}
 use Rattle.case_file.specs.Line.{Put, decimalOf, wordsOf, hexOf, weighted}
-
--- what is left from a place on, up to the end
-pub to-end : (s : List ℕ) (k : ℕ) → take (length s - k) (drop k s) ≡ drop k s
-to-end s k = take-all (length s - k) (drop k s) (simp length-drop (omega arith))
 
 pub words-more : (xs : List ℕ) (n : ℕ) → wordsOf (xs ++ (n ∷ [])) ≡ wordsOf xs ++ (32 ∷ decimalOf n)
 unfolding wordsOf

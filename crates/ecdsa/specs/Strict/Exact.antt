@@ -9,6 +9,7 @@ use mathlib.Core.List.{List, [], _∷_, _++_, append-nil}
 use lib.Dec.{eqb}
 use lib.ListN.{length, take, drop, replicate, length-append, length-drop, take-append-drop}
 use lib.Seq.{take-all, take-at, drop-at, take-add, drop-drop, length-take-le}
+use Rattle.format.specs.Places.{to-end}
 use Rattle.format.specs.Bytes.{Bytes}
 use Rattle.format.specs.Bytes.Laws.{bytes-append, bytes-drop, bytes-take, bytes-replicate}
 use Rattle.format.specs.Choice.Laws.{by-test}
@@ -200,8 +201,7 @@ both-sound n s t u a b x y from bytes is at-t f at-u g left =
     let second : unsigned q ≡ u = sym (two .whole) ∙ take-all y u (omega arith) in
     let pair : unsigned p ++ unsigned q ≡ t = ap₂ (λ v w. v ++ w) (sym (one .whole)) (second ∙ sym at-u) ∙ take-append-drop b t in
     let whole = element-whole 0x30 s bytes from (length s) is in
-    let body : take (length s - from) (drop from s) ≡ t =
-    take-all (length s - from) (drop from s) (omega (arith, length-drop from s)) ∙ at-t in
+    let body : take (length s - from) (drop from s) ≡ t = to-end s from ∙ at-t in
     record {
       many = length-append p q ∙ omega (arith, one .many, two .many);
       whole =

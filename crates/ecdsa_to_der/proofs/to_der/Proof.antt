@@ -2,14 +2,14 @@
 -- Assumes nothing.
 use borrow.Author.Tests.{not-true, not-false}
 use native.Mathlib.Omega.{arith}
-use native.Mathlib.Nat.{le-of-eq}
 use mathlib.Core.Path.{_≡_, _∙_, ap, sym}
 use mathlib.Core.Bool.{true}
 use Prim.Native.Nat.{ℕ, _*_, _-_}
 use denote.Ref.{now}
 use mathlib.Core.List.{List}
 use lib.ListN.{length, take, drop, length-drop}
-use lib.Seq.{length-take-le, take-all}
+use lib.Seq.{length-take-le}
+use Rattle.format.specs.Places.{to-end}
 use Rattle.format.specs.Answers.{told, filled}
 use Rattle.format.specs.Answers.Laws.{refuses}
 use Rattle.ecdsa.specs.Signature.{isSize}
@@ -36,15 +36,11 @@ sized c = sym (c .before .is-size .ensures) ∙ not-false _ (c .if1 .left)
 halves : (n : ℕ) (raw : List ℕ) → length raw ≡ 2 * n → (length (take n raw) ≡ n) × (length (drop n raw) ≡ n)
 halves n raw h = (length-take-le n raw (omega arith), length-drop n raw ∙ omega arith)
 
--- the part behind r is s, whole
-rest : (n : ℕ) (raw : List ℕ) → take (length raw - n) (drop n raw) ≡ drop n raw
-rest n raw = take-all (length raw - n) (drop n raw) (le-of-eq (length-drop n raw))
-
 numbers : (n : ℕ) (raw : List ℕ) → isSize n ≡ true → length raw ≡ 2 * n → Numbers (take n raw) (take (length raw - n) (drop n raw))
 numbers n raw e h =
     let b = size-bounds n e in
     let l = halves n raw h in
-    let m = ap length (rest n raw) ∙ l .1 in
+    let m = ap length (to-end raw n) ∙ l .1 in
     record { some-r = omega arith; some-s = omega arith; small-r = omega arith; small-s = omega arith }
 
 is-size-requires : tie.Need-is-size-requires
@@ -85,7 +81,7 @@ returns-3 c =
     let raw = now (a .raw) in
     let out = now (a .out) in
     let e : formed (take (a .n) raw) (take (length raw - a .n) (drop (a .n) raw)) (length out) ≡ toDer (a .n) raw (length out) =
-    ap (λ s. formed (take (a .n) raw) s (length out)) (rest (a .n) raw)
+    ap (λ s. formed (take (a .n) raw) s (length out)) (to-end raw (a .n))
     ∙ sym (to-der-formed (a .n) raw (length out) (sized (on .before)) (on .if2 .left)) in
     (put .put-pair .ensures .0 ∙ ap told e, put .put-pair .ensures .1 ∙ ap (λ o. filled o out) e)
 

@@ -8,7 +8,7 @@ use Prim.Native.Nat.{ℕ, _-_}
 use mathlib.Core.List.{List}
 use denote.Ref.{now}
 use lib.ListN.{length, drop, length-drop}
-use lib.Seq.{take-all}
+use Rattle.format.specs.Places.{to-end}
 use Rattle.format.specs.Bytes.Laws.{bytes-drop}
 use Rattle.der.specs.Length.{readLength}
 use Rattle.der.specs.Length.Exact.{read-is-form}
@@ -28,7 +28,7 @@ whole c = now (known c .before .args .s)
 rest : (c : tie.After-read-length) → c .read-length .result ≡ readLength (drop 1 (whole c))
 rest c =
     let s = whole c in
-    c .read-length .ensures ∙ ap readLength (take-all (length s - 1) (drop 1 s) (omega (arith, length-drop 1 s)))
+    c .read-length .ensures ∙ ap readLength (to-end s 1)
 
 returns : tie.Need-returns
 returns c = element-none _ _ (omega arith)

@@ -4,11 +4,9 @@ use mathlib.Core.Path.{_≡_, refl, ap, sym, _∙_}
 use mathlib.Core.Bool.{true, false}
 use Prim.Native.Nat.{ℕ, _+_, _-_, _≤_, _<_}
 use borrow.Author.Tests.{eq-eqb, ne-eqb}
-use native.Mathlib.Omega.{arith}
 use mathlib.Core.List.{List, [], _∷_}
 use lib.Dec.{eqb}
-use lib.ListN.{length, drop, getD, take, length-drop}
-use lib.Seq.{take-all}
+use lib.ListN.{length, drop, getD}
 use Rattle.format.specs.Choice.{both}
 use Rattle.format.specs.Choice.Laws.{both-true-right, either-absorbed}
 use Rattle.format.specs.Places.{at-place, past-end}
@@ -73,15 +71,3 @@ module _ (t : List ℕ) (i : ℕ) (sofar : Passed t i) where
 
   pub all-end : length t ≤ i → true ≡ all isReference t
   all-end h = sym (sofar ∙ ap (all isReference) (past-end t i h))
-
--- the first four characters
-pub first-four : (t : List ℕ) → 4 ≤ length t → getD t 0 0 ∷ getD t 1 0 ∷ getD t 2 0 ∷ getD t 3 0 ∷ [] ≡ take 4 t
-first-four [] h = absurd (omega arith)
-first-four (a ∷ []) h = absurd (omega arith)
-first-four (a ∷ b ∷ []) h = absurd (omega arith)
-first-four (a ∷ b ∷ c ∷ []) h = absurd (omega arith)
-first-four (a ∷ b ∷ c ∷ d ∷ t) h = refl
-
--- all that stands after the first k
-pub rest-of : (k : ℕ) (t : List ℕ) → take (length t - k) (drop k t) ≡ drop k t
-rest-of k t = take-all (length t - k) (drop k t) (omega (arith, length-drop k t))

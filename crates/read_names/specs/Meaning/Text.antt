@@ -9,7 +9,7 @@ use lib.Dec.{ltb}
 use lib.ListN.{length, drop, length-append, length-drop}
 use Rattle.format.specs.Choice.{pick}
 use Rattle.format.specs.Choice.Laws.{by-test}
-use Rattle.format.specs.Answers.{Answer, done, refused, told, filled}
+use Rattle.format.specs.Answers.{told, filled}
 use Rattle.format.specs.Places.{past-end}
 use Rattle.c40.specs.Decode.{Decoded, text, wrong, decode}
 use Rattle.c40.specs.Calls.{reading, readingOf}

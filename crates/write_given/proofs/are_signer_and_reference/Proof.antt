@@ -9,7 +9,7 @@ use Prim.Native.Nat.{_+_, _≤_}
 use denote.Ref.{now}
 use lib.ListN.{length, take}
 use Rattle.fields.specs.Characters.{isSigner, isReference, all}
-use Rattle.fields.specs.Characters.Laws.{first-four, rest-of}
+use Rattle.format.specs.Places.{first-four, to-end}
 use Rattle.write_given.specs.Tests.Laws.{text-size, text-length, text-signer, text-reference, size-any}
 use Rattle.write_given.specs.Tests.{isTextSize}
 use Rattle.write_given.proofs.are_signer_and_reference.Statement.{statement}
@@ -105,7 +105,7 @@ returns-4 c =
     let on = sized-at d in
     let a = start on .args in
     c .all-reference .ensures
-    ∙ ap (all isReference) (rest-of 4 (now (a .text)))
+    ∙ ap (all isReference) (to-end (now (a .text)) 4)
     ∙ text-reference (a .version) (a .length) (now (a .text)) (size on) (measured (measured-at d))
     (sym (signer d) ∙ not-false _ (e .if3 .left))
 

@@ -2,7 +2,7 @@
 -- Assumes nothing.
 use mathlib.Core.Path.{_≡_, ap, sym, _∙_}
 use mathlib.Core.Bool.{Bool, true, false}
-use Prim.Native.Nat.{ℕ, _+_, _≤_}
+use Prim.Native.Nat.{ℕ, _+_, _≤_, _-_}
 use native.Mathlib.Omega.{arith}
 use borrow.Author.Tests.{eq-eqb, ne-eqb, eqb-true}
 use mathlib.Core.List.{List}
@@ -11,6 +11,7 @@ use lib.ListN.{length, take, drop}
 use Rattle.format.specs.Choice.{both}
 use Rattle.format.specs.Choice.Laws.{within-both}
 use Rattle.grammar.specs.Content.{Version, three, four}
+use Rattle.grammar.specs.Legal.{ReferenceSize}
 use Rattle.fields.specs.Characters.{isReference, all, isCountry, isSigner}
 use Rattle.fields.specs.declared.Header.{Header}
 use Rattle.write_given.specs.Tests.{isTextSize, areNames}
@@ -63,3 +64,8 @@ size-four v n e s = within-both 5 259 n (sym (ap (λ w. isTextSize w n) e) ∙ s
 pub size-any : (v : Version) (n : ℕ) → isTextSize v n ≡ true → (5 ≤ n) × (n ≤ 259)
 size-any three n s = let nine = eqb-true n 9 s in (omega arith, omega arith)
 size-any four n s = within-both 5 259 n s
+
+-- and of its reference
+pub reference-size : (v : Version) (n : ℕ) → isTextSize v n ≡ true → ReferenceSize v (n - 4)
+reference-size three n s = let nine = eqb-true n 9 s in omega arith
+reference-size four n s = let w = within-both 5 259 n s in (omega arith, omega arith)

@@ -7,7 +7,7 @@ use Prim.Native.Nat.{ℕ, _-_}
 use mathlib.Core.List.{List}
 use denote.Ref.{now}
 use lib.ListN.{length, take, drop, length-drop}
-use lib.Seq.{take-all}
+use Rattle.format.specs.Places.{to-end}
 use Rattle.write_text.specs.Coded.Laws.{Texting, texting-start, texting-length, texting-room, texting-last, texting-end, texting-more}
 use Rattle.write_text.proofs.put_pairs.Statement.{statement}
 use Rattle.write_text.proofs.put_pairs.Tie as tie
@@ -40,7 +40,7 @@ last c = c .before .before .before .before
 left :
     (on : tie.At-loop Inv-loop μ-loop) →
     take (length (text on) - on .loop .i) (drop (on .loop .i) (text on)) ≡ drop (on .loop .i) (text on)
-left on = take-all (length (text on) - on .loop .i) (drop (on .loop .i) (text on)) (omega (arith, length-drop (on .loop .i) (text on)))
+left on = to-end (text on) (on .loop .i)
 
 loop-holds : tie.Need-loop-holds Inv-loop μ-loop
 loop-holds c = let s = c .before .before in texting-start (now (s .args .text)) (now (s .args .out)) (s .args .start) (s .pre)

@@ -10,7 +10,7 @@ use Rattle.format.specs.BigEndian.{be}
 use Rattle.format.specs.BigEndian.Laws.{length-be, be-two}
 use Rattle.format.specs.Buffer.{over}
 use Rattle.format.specs.Buffer.Laws.{over-none, length-over, over-over}
-use Rattle.format.specs.Places.{at-place, past-end}
+use Rattle.format.specs.Places.{at-place, past-end, first-four}
 use Rattle.octets.specs.Copy.{copied, reached}
 use Rattle.octets.specs.Copy.Laws.{copied-all, reached-all}
 use Rattle.pairs.specs.Chart.{valueOf}
@@ -182,13 +182,6 @@ text-put t out at to after is-text room e o =
     )
 
 -- the first six characters, by the text's size
-four-first : (t : List ℕ) → 4 ≤ length t → getD t 0 0 ∷ getD t 1 0 ∷ getD t 2 0 ∷ getD t 3 0 ∷ [] ≡ take 4 t
-four-first [] h = absurd (omega arith)
-four-first (a ∷ []) h = absurd (omega arith)
-four-first (a ∷ b ∷ []) h = absurd (omega arith)
-four-first (a ∷ b ∷ c ∷ []) h = absurd (omega arith)
-four-first (a ∷ b ∷ c ∷ d ∷ t) h = refl
-
 module _ (t : List ℕ) where
   six-of : 4 ≤ length t → firstSix t ≡ take 4 t ++ hexDigits ((length t - 4) % 256)
   unfolding firstSix
@@ -205,7 +198,7 @@ module _ (t : List ℕ) where
   six-all h =
       let high : (length t - 4) / 16 % 16 ≡ (length t - 4) % 256 / 16 = omega arith in
       let low : (length t - 4) % 16 ≡ (length t - 4) % 256 % 16 = omega arith in
-      ap (λ f. f ++ (hexDigit ((length t - 4) / 16 % 16) ∷ hexDigit ((length t - 4) % 16) ∷ [])) (four-first t h)
+      ap (λ f. f ++ (hexDigit ((length t - 4) / 16 % 16) ∷ hexDigit ((length t - 4) % 16) ∷ [])) (first-four t h)
       ∙ (λ i. take 4 t ++ (hexDigit (high i) ∷ hexDigit (low i) ∷ []))
       ∙ sym (six-of h)
 

@@ -1,6 +1,6 @@
 -- The tests of 21 against the grammar: country, signer and reference, both ways.
 -- Assumes nothing.
-use mathlib.Core.Path.{_≡_, refl, sym, subst}
+use mathlib.Core.Path.{_≡_, refl, subst}
 use mathlib.Core.Logic.{_⊎_, inl, inr, ⊎-elim}
 use mathlib.Core.Bool.{true}
 use Prim.Native.Nat.{ℕ, _+_, _-_, _≤_}
@@ -9,18 +9,19 @@ use borrow.Author.Tests.{eqb-true, eq-eqb}
 use mathlib.Core.List.{List, [], _∷_}
 use lib.Dec.{eqb}
 use lib.ListN.{length, take, drop, length-drop}
-use lib.Seq.{length-take-le}
 use Rattle.format.specs.Choice.{both, either}
 use Rattle.format.specs.Bytes.{All}
 use Rattle.grammar.specs.Content.{Version, three, four}
 use Rattle.grammar.specs.Legal.{Letter, Filler, Country, Signer, ReferenceCharacter, ReferenceSize}
 use Rattle.grammar.specs.Pins.{filled-three}
 use Rattle.format.specs.Choice.Laws.{both-true, both-are, either-true, either-left, either-right, within-true, within-both}
-use Rattle.fields.specs.Characters.Grammar.{letter, reference-passes, all-pass, signer-passes, reference-of, all-of, signer-of}
+use Rattle.fields.specs.Characters.Grammar.{letter, reference-passes, all-pass, signer-passes}
 use Rattle.fields.specs.Characters.{isLetter, isReference, all, isSigner, isCountry}
 use Rattle.fields.specs.declared.Header.{Header}
 use Rattle.write_given.specs.Tests.{isTextSize, areNames}
 use Rattle.write_given.specs.Given.{threeOf}
+use Rattle.write_judge.specs.Needs.Laws.{named-legal}
+use Rattle.write_judge.specs.Size.{headed-named}
 
 -- a country of three characters
 third-is : (c : ℕ) → either (isLetter c) (eqb c 60) ≡ true → Letter c ⊎ Filler c
@@ -74,10 +75,6 @@ country-passes (a ∷ b ∷ c ∷ []) l =
     (l .letters .1 .0))
 
 -- the size of the text, by the version
-text-size : (v : Version) (n : ℕ) → isTextSize v n ≡ true → (4 ≤ n) × ReferenceSize v (n - 4)
-text-size three n e = let f = eqb-true n 9 e in (omega arith, omega arith)
-text-size four n e = let w = within-both 5 259 n e in (omega arith, (omega arith, omega arith))
-
 text-passes : (v : Version) (n : ℕ) → 4 ≤ n → ReferenceSize v (n - 4) → isTextSize v n ≡ true
 text-passes three n h r = eq-eqb n 9 (omega arith)
 text-passes four n h r = within-true 5 259 n (omega (arith, r .0)) (omega (arith, r .1))
@@ -93,17 +90,14 @@ pub record LegalNames (v : Version) (h : Header) (text : List ℕ) : Type 0 wher
 pub names-legal : (v : Version) (h : Header) (text : List ℕ) → areNames v h text ≡ true → LegalNames v h text
 names-legal v h text e =
     let sized = both (isTextSize v (length text)) (eqb (h .length + 4) (length text)) in
-    let spelt = both (isSigner (take 4 text)) (all isReference (drop 4 text)) in
-    let p = both-true (isCountry 60 (h .country)) (both sized spelt) e in
-    let q = both-true sized spelt (p .1) in
-    let r = both-true (isTextSize v (length text)) (eqb (h .length + 4) (length text)) (q .0) in
-    let s = both-true (isSigner (take 4 text)) (all isReference (drop 4 text)) (q .1) in
-    let n = text-size v (length text) (r .0) in
+    let p = both-true (isCountry 60 (h .country)) _ e in
+    let r = both-true (isTextSize v (length text)) _ (both-true sized _ (p .1) .0) in
+    let n = named-legal v text (headed-named v h text e) in
     record {
       country = country-legal (threeOf (h .country)) refl (p .0);
-      signer = signer-of (take 4 text) (length-take-le 4 text (n .0)) (s .0);
-      reference = all-of ReferenceCharacter isReference reference-of (drop 4 text) (s .1);
-      size = subst (ReferenceSize v) (sym (length-drop 4 text)) (n .1);
+      signer = n .signer;
+      reference = n .reference;
+      size = n .size;
       measured = eqb-true (h .length + 4) (length text) (r .1);
     }
 

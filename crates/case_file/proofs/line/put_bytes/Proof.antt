@@ -7,7 +7,8 @@ use mathlib.Core.Path.{sym}
 use lib.Seq.{length-take-le}
 use denote.Ref.{now}
 use Rattle.case_file.specs.Line.{shown}
-use Rattle.case_file.specs.Line.Laws.{put-more, to-end}
+use Rattle.format.specs.Places.{to-end}
+use Rattle.case_file.specs.Line.Laws.{put-more}
 use Rattle.case_file.proofs.line.put_bytes.Statement.{statement}
 use Rattle.case_file.proofs.line.put_bytes.Tie as tie
 

@@ -4,8 +4,8 @@ use native.Mathlib.Omega.{arith}
 use mathlib.Core.Path.{_∙_}
 use Prim.Native.Nat.{_-_}
 use denote.Ref.{now}
-use lib.ListN.{length, drop, length-set, length-drop}
-use lib.Seq.{take-all}
+use lib.ListN.{length-set}
+use Rattle.format.specs.Places.{to-end}
 use Rattle.ecdsa.specs.Signature.Laws.{size-high}
 use Rattle.ecdsa_to_der.specs.Places.Laws.{content-small, put-low, place-low, put-high, place-high}
 use borrow.Author.Needs.{needs}
@@ -55,8 +55,7 @@ returns c =
     let on = c .before .before .before .before .before in
     let start = on .before .before .before .before .before in
     let a = start .args in
-    let part = take-all (length (now (a .number)) - a .start) (drop (a .start) (now (a .number)))
-    (omega (arith, length-drop (a .start) (now (a .number)))) in
+    let part = to-end (now (a .number)) (a .start) in
     let size = on .before .before .size-from in (
       c .before .before .copy .ensures .0
           ∙ place-low _ _ (now (a .out)) (a .at) (start .pre) (size .result) (size .ensures) (on .if1 .taken) _ part,
@@ -102,8 +101,7 @@ returns-2 c =
     let on = c .before .before .before .before .before in
     let start = on .before .before .before .before .before in
     let a = start .args in
-    let part = take-all (length (now (a .number)) - a .start) (drop (a .start) (now (a .number)))
-    (omega (arith, length-drop (a .start) (now (a .number)))) in
+    let part = to-end (now (a .number)) (a .start) in
     let size = on .before .before .size-from in (
       c .before .before .copy2 .ensures .0
           ∙ place-high _ _ (now (a .out)) (a .at) (start .pre) (size .result) (size .ensures) (on .if1 .left) _ part,

@@ -7,6 +7,7 @@ use Prim.Native.Nat.{_+_, _-_, _≤_}
 use denote.Ref.{now}
 use lib.ListN.{take, drop, length, length-drop, drop-of-length-le}
 use lib.Seq.{take-all}
+use Rattle.format.specs.Places.{to-end}
 use Rattle.lines.specs.Line.Laws.{put-none}
 use Rattle.list_lines.proofs.named.put_some.Statement.{statement}
 use Rattle.list_lines.proofs.named.put_some.Tie as tie
@@ -51,9 +52,7 @@ returns-2 c =
     let text = now (a .text) in
     let from = a .from in
     let all : take (a .size) (drop from text) ≡ drop from text = take-all (a .size) (drop from text) (simp length-drop (omega arith)) in
-    let rest : take (length text - from) (drop from text) ≡ drop from text =
-    take-all (length text - from) (drop from text) (simp length-drop (omega arith)) in
-    rw all (rw rest at (c .before .before .put-text .ensures))
+    rw all (rw (to-end text from) at (c .before .before .put-text .ensures))
 
 add-end : tie.Need-add-end
 add-end c = search needs

@@ -7,7 +7,7 @@ use Prim.Native.Nat.{ℕ}
 use mathlib.Core.List.{List}
 use lib.ListN.{take}
 use Rattle.fields.specs.Characters.{isSigner}
-use Rattle.fields.specs.Characters.Laws.{first-four, rest-of}
+use Rattle.format.specs.Places.{first-four, to-end}
 use Rattle.causes.specs.declared.Rule.the-variants as rule
 use Rattle.verdict.specs.Items.{inReference}
 use Rattle.read_names.specs.Meaning.Rules.{breaks, keeps}
@@ -28,7 +28,7 @@ signer on = on .is-signer .ensures ∙ ap isSigner (first-four (text on) (omega 
 returns : tie.Need-returns
 returns c =
     let test = c .before .before in
-    c .in-reference .ensures ∙ ap inReference (rest-of 4 (text (test .before)))
+    c .in-reference .ensures ∙ ap inReference (to-end (text (test .before)) 4)
     ∙ keeps _ rule.SignerCharacters _ (sym (signer (test .before)) ∙ test .if1 .taken)
 
 returns-2 : tie.Need-returns-2

@@ -11,7 +11,7 @@ use lib.ListN.{take, getD}
 use Rattle.format.specs.Hex.{hexValue}
 use Rattle.format.specs.Hex.Laws.{value-most}
 use Rattle.fields.specs.Characters.{isSigner}
-use Rattle.fields.specs.Characters.Laws.{first-four}
+use Rattle.format.specs.Places.{first-four}
 use Rattle.causes.specs.declared.Rule.the-variants as rule
 use Rattle.read_names.specs.Meaning.Rules.{breaks, six-first, six-second, six-none, six-is}
 use Rattle.read_names.proofs.rules.in_six.Statement.{statement}

@@ -6,8 +6,8 @@ use mathlib.Core.Path.{_≡_, ap, sym, subst, _∙_}
 use Prim.Native.Nat.{ℕ, _+_, _-_, _≤_}
 use denote.Ref.{now}
 use mathlib.Core.List.{List}
-use lib.ListN.{length, take, drop, length-drop}
-use lib.Seq.{take-all}
+use lib.ListN.{length, take, drop}
+use Rattle.format.specs.Places.{to-end}
 use Rattle.format.specs.Buffer.{over}
 use Rattle.octets.specs.Copy.{copied, reached}
 use Rattle.write_given.specs.Tests.Laws.{size-four}
@@ -45,7 +45,7 @@ long c =
 
 -- the part that is lent is the reference
 reference : (c : tie.After-enum-told2) → take (length (text c) - 4) (drop 4 (text c)) ≡ drop 4 (text c)
-reference c = take-all (length (text c) - 4) (drop 4 (text c)) (omega (arith, length-drop 4 (text c)))
+reference c = to-end (text c) 4
 
 enum-told : tie.Need-enum-told
 enum-told c = search needs

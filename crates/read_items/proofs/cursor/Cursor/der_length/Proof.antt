@@ -6,7 +6,7 @@ use mathlib.Core.Path.{_≡_, _∙_, ap, sym}
 use Prim.Native.Nat.{_-_, _≤_}
 use denote.Ref.{now}
 use lib.ListN.{length, drop, length-drop}
-use lib.Seq.{take-all}
+use Rattle.format.specs.Places.{to-end}
 use Rattle.format.specs.Bytes.Laws.{bytes-drop}
 use Rattle.der.specs.Length.{readLength}
 use Rattle.der.specs.Length.Exact.{read-is-form}
@@ -24,7 +24,7 @@ read c =
     let a = c .before .before .before .before .args in
     let s = now (a .seal) in
     let at = a .self .place in
-    c .read-length .ensures ∙ ap readLength (take-all (length s - at) (drop at s) (omega (arith, length-drop at s)))
+    c .read-length .ensures ∙ ap readLength (to-end s at)
 
 returns : tie.Need-returns
 returns c =
