@@ -7,7 +7,7 @@ use native.Mathlib.Omega.{arith}
 use native.Mathlib.Nat.{zero-add}
 use mathlib.Core.List.{List, [], _∷_, _++_, map}
 use lib.Dec.{leb}
-use lib.ListN.{length, getD, take, drop, set, length-append, length-set}
+use lib.ListN.{length, take, drop, set, length-append, length-set}
 use Rattle.format.specs.Bytes.{All}
 use Rattle.format.specs.Choice.{both}
 use Rattle.format.specs.Buffer.{over}
@@ -18,6 +18,7 @@ use Rattle.dates.specs.Days.{isDay, publish as date}
 use Rattle.dates.specs.Days.Laws.{length-publish as length-date}
 use Rattle.grammar.specs.Content.{Version, four}
 use Rattle.versions.specs.Versions.{versionByte}
+use Rattle.grammar.specs.Parts.{country-text}
 use Rattle.grammar.specs.Publish.{carried, names, feature, messageZone, publish}
 use Rattle.format.specs.Choice.Laws.{both-true, within-both}
 use Rattle.verdict.specs.Report.{featureOf}
@@ -31,7 +32,7 @@ use Rattle.write_rows.specs.Tests.Laws.{sized-head}
 use Rattle.write_rows.specs.Tests.{areSized}
 use Rattle.write_given.specs.Given.{threeOf, Given, contentAs}
 use Rattle.write_judge.specs.Needs.{Room, Fitting, Headed, Dated, front, rest, Passed}
-use Rattle.write_judge.specs.Needs.Laws.{country-text}
+use Rattle.writer.specs.Legal.Names.{country-legal}
 use Rattle.write_text.specs.Coded.{coded}
 use Rattle.write_text.specs.Coded.Laws.{text-put}
 use Rattle.write_size.specs.SealSize.{rowsSize}
@@ -42,7 +43,7 @@ module _ (v : Version) (h : Header) (t out : List ℕ) (d : Headed v h t) (room 
     (is-byte : b ≡ versionByte v) where
   front-text : Text (map carried (threeOf (h .country)))
   front-text =
-      country-text (getD (h .country) 0 0) (getD (h .country) 1 0) (getD (h .country) 2 0) (headed-country v h t d)
+      let code = threeOf (h .country) in country-text code (country-legal code refl (headed-country v h t d)) .1
 
   front-room : (code : List ℕ) → map carried (threeOf (h .country)) ≡ code → Room (set (set out 0 0xDC) 1 b) 2 (c40 code)
   front-room code e =
