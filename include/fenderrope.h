@@ -35,7 +35,7 @@ extern "C" {
 #endif
 
 /* The version of this header and its library. */
-#define FR_VERSION "0.1.0"
+#define FR_VERSION "0.2.0"
 
 /* Sizes that hold for every legal seal (document 01, "Sizes"). */
 #define FR_SEAL_MOST 4096      /* bytes of a seal */
@@ -50,8 +50,9 @@ extern "C" {
 #define FR_WORDS_MOST 93       /* bytes of the longest words that fr_words gives */
 
 /*
- * The numbers that a call answers, each with its words, which fr_words gives too. L is header.length, the length of
- * the reference; the five sizes n are 28, 32, 48, 64 and 66.
+ * The numbers that a call answers, each with its words, which fr_words gives too. A number that is retired is not given
+ * out again, and has no name and no words. L is header.length, the length of the reference; the five sizes n are 28, 32,
+ * 48, 64 and 66.
  */
 enum fr_number {
     FR_DONE = 0, /* done */
@@ -96,7 +97,7 @@ enum fr_number {
     FR_RAW_LENGTH = 61,       /* raw length is not 2n */
     FR_NOT_DER = 62,          /* not strict DER, with bytes left over, negative, or too big for n */
     FR_NO_ROOM = 63,          /* no room */
-    FR_DER_TOO_LONG = 64,     /* writing DER: content would pass 255 bytes */
+    /* 64 is retired: no input gives it */
     FR_NOT_INTEGER = 65       /* not one whole DER INTEGER of 1 to 8 bytes */
 };
 
@@ -224,10 +225,7 @@ fr_integer fr_integer_read(const uint8_t *bytes, size_t bytes_length);
 /* The DER INTEGER of a value, 3 to 10 bytes: 0 or 63. */
 fr_filled fr_integer_write(int64_t value, uint8_t *out, size_t out_length);
 
-/*
- * A raw signature as DER; n is the size of r and of s: 0, or the first of 60, 61, 64 and 63 that holds. No input of
- * these sizes gives 64.
- */
+/* A raw signature as DER; n is the size of r and of s: 0, or the first of 60, 61 and 63 that holds. */
 fr_filled fr_signature_to_der(size_t n, const uint8_t *raw, size_t raw_length, uint8_t *out, size_t out_length);
 
 /* A DER signature as 2n raw bytes: 0, or the first of 60, 62 and 63 that holds. */

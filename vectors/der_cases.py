@@ -78,7 +78,7 @@ def to_der(n, raw, room):
     if n not in HASHES or len(raw) != 2 * n:
         return 61 if n in HASHES else 60
     data = element(0x30, b"".join(integer(int.from_bytes(half, "big")) for half in (raw[:n], raw[n:])))
-    assert 8 <= len(data) <= 2 * n + 9 < 255     # so 64 never occurs
+    assert 8 <= len(data) <= 2 * n + 9
     return data if len(data) <= room else 63
 
 

@@ -27,7 +27,6 @@ fr_filled c_signature_to_der(size_t n, const uint8_t *raw, size_t length, uint8_
     if (length != 2 * n) return refused(61);
     size_t r = start_of(raw, n), s = start_of(raw + n, n);
     size_t size = n - r + (raw[r] >= 0x80) + n - s + (raw[n + s] >= 0x80) + 4;
-    if (size > 255) return refused(64);
     size_t head = size < 0x80 ? 2 : 3;
     if (room < head + size) return refused(63);
     out[0] = 0x30;

@@ -49,9 +49,6 @@ pub fn to_der(n: usize, raw: &[u8], out: &mut [u8]) -> Result<usize, Refusal> {
     let (r, s) = raw.split_at(n);
     let (r, s) = (digits(r), digits(s));
     let size = size_of(r) + size_of(s) + 4;
-    if size > 255 {
-        return Err(refusal(64));
-    }
     let head = if size < 0x80 { 2 } else { 3 };
     let out = out.get_mut(..head + size).ok_or(refusal(63))?;
     out[0] = 0x30;

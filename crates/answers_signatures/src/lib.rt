@@ -17,7 +17,6 @@ pub fn der_written(answer: ToDer) -> FrFilled
         ToDer::Done(count) => FrFilled::done(count),
         ToDer::NoSize => FrFilled::refused(60, 0),
         ToDer::WrongLength => FrFilled::refused(61, 0),
-        ToDer::TooLong => FrFilled::refused(64, 0),
         ToDer::NoRoom => FrFilled::refused(63, 0),
     }
 }

@@ -17,7 +17,7 @@ use Rattle.der.specs.Content.{shortest, strict}
 use Rattle.integers.specs.Calls.{reading as readInteger, writing as writeInteger}
 use Rattle.ecdsa.specs.Signature.{isSize}
 use Rattle.ecdsa.specs.Strict.{digitsIn, numberIn, rawOf}
-use Rattle.ecdsa.specs.Calls.{formed, toDer, toRaw}
+use Rattle.ecdsa.specs.Calls.{toDer, toRaw}
 use Rattle.grammar.specs.Publish.{headerZone, messageZone, signatureZone, signedBytes, publish as publishSeal}
 use Rattle.grammar.specs.Legal.{Legal}
 use Rattle.grammar.specs.Examples.{content-a}
@@ -34,6 +34,6 @@ cases = c40-cases ++ number-cases ++ signature-cases ++ seal-cases
 -- each is as document 01 says, and Seal A's content is legal
 pub cases-hold : (map (λ (c : Case). c .found) cases ≡ map (λ (c : Case). c .expected) cases) × Legal content-a
 unfolding inRoom be val theChart valueOf triple publish single values pairOf decode reading known writing isDay date fromNumber form
-    longForm readLength elementIn shortest strict readInteger writeInteger isSize formed toDer digitsIn numberIn rawOf toRaw headerZone
+    longForm readLength elementIn shortest strict readInteger writeInteger isSize toDer digitsIn numberIn rawOf toRaw headerZone
     messageZone signatureZone signedBytes publishSeal
 cases-hold = (refl, seal-a-legal)

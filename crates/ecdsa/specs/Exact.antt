@@ -4,21 +4,20 @@ use mathlib.Core.Path.{_≡_, refl, ap, sym, subst, _∙_}
 use mathlib.Core.Bool.{true}
 use Prim.Native.Nat.{ℕ, _*_, _<_, _≤_}
 use native.Mathlib.Omega.{arith}
-use borrow.Author.Tests.{ltb-true, ltb-false, eqb-true, eqb-false}
+use borrow.Author.Tests.{ltb-true, ltb-false, leb-true, eqb-true}
 use mathlib.Core.List.{List}
-use lib.Dec.{ltb, eqb}
-use lib.ListN.{length, take, drop}
+use lib.Dec.{ltb}
+use lib.ListN.{length}
 use Rattle.format.specs.Bytes.{Bytes}
 use Rattle.format.specs.Choice.Laws.{by-test}
 use Rattle.format.specs.Answers.{done, refused}
-use Rattle.ecdsa.specs.Signature.{isSize, pairOf, derOf}
-use Rattle.ecdsa.specs.Signature.Laws.{size-bounds}
-use Rattle.ecdsa.specs.FormSize.{content-most}
+use Rattle.format.specs.Order.Laws.{done-passed, in-room}
+use Rattle.ecdsa.specs.Signature.{isSize, derOf}
 use Rattle.ecdsa.specs.Strict.{Raw, raw, none, rawOf}
 use Rattle.ecdsa.specs.Strict.ToRaw.{toRaw-no-size, toRaw-not-strict, toRaw-no-room, toRaw-done}
 use Rattle.ecdsa.specs.Strict.Exact.{raw-found, raw-sound}
-use Rattle.ecdsa.specs.Calls.{toDer, toRaw}
-use Rattle.ecdsa.specs.Calls.Laws.{to-der-no-size, to-der-wrong, to-der-formed, formed-no-room, formed-done}
+use Rattle.ecdsa.specs.Calls.{toDerTests, toDer, toRaw}
+use Rattle.ecdsa.specs.Calls.Laws.{to-der-formed}
 
 -- `to_der` answers 0 exactly when n is a size, the length is 2n and there is room; it then writes the DER form
 pub to-der-writes :
@@ -27,43 +26,21 @@ pub to-der-writes :
     length bytes ≡ 2 * n →
     length (derOf n bytes) ≤ room →
     toDer n bytes room ≡ done (derOf n bytes)
-to-der-writes n bytes room size h fits =
-    let b = size-bounds n size in
-    to-der-formed n bytes room size h ∙ formed-done (take n bytes) (drop n bytes) room (omega (arith, content-most n bytes size h)) fits
+to-der-writes n bytes room size h fits = to-der-formed n bytes room size h ∙ in-room 63 (derOf n bytes) room fits
 
 pub to-der-only :
     (n : ℕ) (bytes : List ℕ) (room : ℕ) (s : List ℕ) →
     toDer n bytes room ≡ done s →
     (isSize n ≡ true) × (length bytes ≡ 2 * n) × (derOf n bytes ≡ s) × (length s ≤ room)
+unfolding toDer
 to-der-only n bytes room s e =
-    by-test (isSize n)
-    (λ size.
-    by-test (eqb (length bytes) (2 * n)) (λ h. sized size (eqb-true (length bytes) (2 * n) h))
-    (λ h. absurd (never 61 (omega arith) (to-der-wrong n bytes room size (eqb-false (length bytes) (2 * n) h)))))
-    (λ size. absurd (never 60 (omega arith) (to-der-no-size n bytes room size)))
-  where
-    never : (number : ℕ) → 0 < number → toDer n bytes room ≡ refused number 0 → ⊥
-    never number h f = omega (arith, ap (λ o. o .number) (sym f ∙ e))
-
-    sized : isSize n ≡ true → length bytes ≡ 2 * n → (isSize n ≡ true) × (length bytes ≡ 2 * n) × (derOf n bytes ≡ s) × (length s ≤ room)
-    sized size h =
-        let b = size-bounds n size in
-        let short : length (pairOf n bytes) ≤ 255 = omega (arith, content-most n bytes size h) in
-        let formed-is = to-der-formed n bytes room size h in
-        by-test (ltb room (length (derOf n bytes)))
-        (λ l.
-        absurd
-        (never 63 (omega arith)
-        (formed-is ∙ formed-no-room (take n bytes) (drop n bytes) room short (ltb-true room (length (derOf n bytes)) l))))
-        (λ l.
-        let fits = ltb-false room (length (derOf n bytes)) l in
-        let same : derOf n bytes ≡ s =
-        ap (λ o. o .written) (sym (formed-is ∙ formed-done (take n bytes) (drop n bytes) room short fits) ∙ e) in
-        (size, h, same, subst (λ t. length t ≤ room) same fits))
-
--- 64 is never given
-pub never-64 : (n : ℕ) (bytes : List ℕ) → isSize n ≡ true → length bytes ≡ 2 * n → length (pairOf n bytes) ≤ 138
-never-64 n bytes size h = let b = size-bounds n size in omega (arith, content-most n bytes size h)
+    let p = done-passed (toDerTests n bytes room) (done (derOf n bytes)) s (omega arith, (omega arith, (omega arith, tt))) e in
+    let same : derOf n bytes ≡ s = ap (λ o. o .written) (p .1) in (
+      p .0 .0,
+      eqb-true (length bytes) (2 * n) (p .0 .1 .0),
+      same,
+      subst (λ t. length t ≤ room) same (leb-true (length (derOf n bytes)) room (p .0 .1 .1 .0)),
+    )
 
 -- `to_raw` of what `to_der` wrote is the raw given
 pub der-back :

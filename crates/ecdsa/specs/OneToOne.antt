@@ -19,15 +19,13 @@ derBack a =
     pick (eqb (a .number) 0) (der.Done (a .count))
     (pick (eqb (a .number) 60) der.NoSize
     (pick (eqb (a .number) 61) der.WrongLength
-    (pick (eqb (a .number) 64) der.TooLong
-    der.NoRoom)))
+    der.NoRoom))
 
 der-back : (a : ToDer) → derBack (toDerOf a) ≡ a
 unfolding derBack
 der-back (der.Done n) = refl
 der-back der.NoSize = refl
 der-back der.WrongLength = refl
-der-back der.TooLong = refl
 der-back der.NoRoom = refl
 
 pub der-one : OneToOne toDerOf

@@ -12,8 +12,6 @@ pub enum ToDer {
     NoSize,
     // 61: raw length is not 2n
     WrongLength,
-    // 64: the content would pass 255 bytes
-    TooLong,
     // 63
     NoRoom,
 }

@@ -4,12 +4,13 @@ ghost use mathlib.Core.List.{_∷_};
 ghost use Prim.Native.Nat.{_+_, _<_, _≤_};
 ghost use lib.ListN.{length};
 ghost use Rattle.format.specs.Buffer.{over};
+ghost use Rattle.format.specs.Order.{inRoom};
 ghost use Rattle.der.specs.Length.{form};
 ghost use Rattle.der.specs.Content.{shortest, integer};
-ghost use Rattle.ecdsa.specs.Signature.{contentFrom};
+ghost use Rattle.ecdsa.specs.Signature.{contentFrom, signature};
 ghost use Rattle.ecdsa_to_der.specs.Places.{Room, Numbers};
 ghost use Rattle.format.specs.Answers.{told, filled};
-ghost use Rattle.ecdsa.specs.Calls.{formed, toDerOf};
+ghost use Rattle.ecdsa.specs.Calls.{toDerOf};
 use ecdsa::ToDer;
 
 // Where the digits of a number start that are kept: leading zeros go, but not the last byte.
@@ -73,19 +74,17 @@ pub(crate) fn put_integer(number: &[u8], start: usize, out: &mut [u8], at: usize
     octets::copy(&number[start..], out, at + 3)
 }
 
-// Puts down the DER form of r and s from the start of `out`; all is judged before the first byte is written.
+// Puts down the DER form of r and s from the start of `out`; the room is judged before the first byte is written. For the five sizes the
+// content never passes 138 bytes (`never-64` in specs/FormSize.antt of ecdsa), so its length is one that `head_of` and `put_head` take.
 pub(crate) fn put_pair(r: &[u8], s: &[u8], out: &mut [u8]) -> ToDer
     requires { ⌜ Numbers (now r) (now s) ⌝ }
-    ensures answer { λ d. ⌜ toDerOf d ≡ told (formed (now (r .entry)) (now (s .entry)) (length (now (out .entry)))) ⌝ }
+    ensures answer { λ d. ⌜ toDerOf d ≡ told (inRoom 63 (signature (now (r .entry)) (now (s .entry))) (length (now (out .entry)))) ⌝ }
     ensures buffer { λ d. ⌜ now (out .exit)
-        ≡ filled (formed (now (r .entry)) (now (s .entry)) (length (now (out .entry)))) (now (out .entry)) ⌝ }
+        ≡ filled (inRoom 63 (signature (now (r .entry)) (now (s .entry))) (length (now (out .entry)))) (now (out .entry)) ⌝ }
 {
     let r_start = start_of(r);
     let s_start = start_of(s);
     let size = size_from(r, r_start) + size_from(s, s_start) + 4;
-    if 255 < size {
-        return ToDer::TooLong;
-    }
     let head = head_of(size);
     if out.len() < head + size {
         return ToDer::NoRoom;

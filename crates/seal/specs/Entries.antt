@@ -23,7 +23,7 @@ use Rattle.der.specs.Element.{elementIn}
 use Rattle.der.specs.Content.{strict}
 use Rattle.integers.specs.Integer.{valueOf, integerOf}
 use Rattle.integers.specs.Calls as integers
-use Rattle.ecdsa.specs.Signature.{signature}
+use Rattle.ecdsa.specs.Signature.{derOf}
 use Rattle.ecdsa.specs.Strict.{rawOf, bytesIn}
 use Rattle.ecdsa.specs.Calls as ecdsa
 use Rattle.words.specs.Words.{wordsOf}
@@ -71,10 +71,10 @@ pub c40-writing : (t : List ℕ) (room : ℕ) → Answers (45 ∷ 43 ∷ 44 ∷ 
 unfolding c40.writing
 c40-writing t room = ordered (c40.writingTests t room) (publish t)
 
--- signatures to DER: 60, 61, 64 or 63; to raw: 60, 62 or 63
-pub to-der : (n : ℕ) (bytes : List ℕ) (room : ℕ) → Answers (60 ∷ 61 ∷ 64 ∷ 63 ∷ []) (ecdsa.toDer n bytes room)
+-- signatures to DER: 60, 61 or 63; to raw: 60, 62 or 63
+pub to-der : (n : ℕ) (bytes : List ℕ) (room : ℕ) → Answers (60 ∷ 61 ∷ 63 ∷ []) (ecdsa.toDer n bytes room)
 unfolding ecdsa.toDer
-to-der n bytes room = ordered (ecdsa.toDerTests n bytes room) (signature (take n bytes) (drop n bytes))
+to-der n bytes room = ordered (ecdsa.toDerTests n bytes room) (derOf n bytes)
 
 pub to-raw : (n : ℕ) (bytes : List ℕ) (room : ℕ) → Answers (60 ∷ 62 ∷ 63 ∷ []) (ecdsa.toRaw n bytes room)
 unfolding ecdsa.toRaw

@@ -66,9 +66,12 @@ signatures =
     ∷ row 61 "raw length is not 2n"
     ∷ row 62 "not strict DER, with bytes left over, negative, or too big for n"
     ∷ row 63 "no room"
-    ∷ row 64 "writing DER: content would pass 255 bytes"
     ∷ row 65 "not one whole DER INTEGER of 1 to 8 bytes"
     ∷ []
+
+-- the numbers that are retired (document 02, Ticket 8) and not given out again: they have no row
+abbrev pub retired : List ℕ
+retired = 64 ∷ []
 
 -- the words of a number's row; none where it has no row
 unfoldable pub sought : ℕ → List Row → List ℕ

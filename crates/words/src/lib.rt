@@ -13,7 +13,7 @@ use octets::wide;
 pub const LONGEST: usize = 93;
 
 // The table of the words, a line a number: two digits, a space, the words. `pageOf` of specs/Page.antt makes it of the table there.
-const PAGE: [u8; 1273] = *b"\
+const PAGE: [u8; 1228] = *b"\
 00 done\n\
 01 seal longer than 4,096\n\
 02 the input ends before an item is whole\n\
@@ -46,7 +46,6 @@ const PAGE: [u8; 1273] = *b"\
 61 raw length is not 2n\n\
 62 not strict DER, with bytes left over, negative, or too big for n\n\
 63 no room\n\
-64 writing DER: content would pass 255 bytes\n\
 65 not one whole DER INTEGER of 1 to 8 bytes\n\
 ";
 

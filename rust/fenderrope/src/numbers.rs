@@ -44,5 +44,5 @@ pub const NO_SIZE: usize = 60;
 pub const RAW_LENGTH: usize = 61;
 pub const NOT_DER: usize = 62;
 pub const NO_ROOM: usize = 63;
-pub const DER_TOO_LONG: usize = 64;
+// 64 is retired: no input gives it, and it is not given out again.
 pub const NOT_INTEGER: usize = 65;

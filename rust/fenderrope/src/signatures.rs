@@ -10,7 +10,7 @@ use crate::refusal::Refusal;
 /// # Errors
 ///
 /// 60 `NO_SIZE` where n is not 28, 32, 48, 64 or 66, 61 `RAW_LENGTH`, 63 `NO_ROOM`, judged in this order
-/// ([`crate::numbers`]); 64 `DER_TOO_LONG` is given by no input of these sizes. All of `out` stays.
+/// ([`crate::numbers`]). All of `out` stays.
 ///
 /// ```
 /// let mut raw = [0; 56];

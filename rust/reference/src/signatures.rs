@@ -41,9 +41,6 @@ fn form(n: usize, raw: &[u8]) -> Result<Vec<u8>, Refusal> {
     let (r, s) = raw.split_at(n);
     let mut content = der::put_element(INTEGER, &unsigned(r));
     content.extend(der::put_element(INTEGER, &unsigned(s)));
-    if content.len() > 255 {
-        return Err(Refusal::of(64));
-    }
     Ok(der::put_element(SEQUENCE, &content))
 }
 
@@ -69,7 +66,7 @@ fn raw(n: usize, der: &[u8]) -> Option<Vec<u8>> {
     (after.is_empty() && inside.is_empty()).then_some(raw)
 }
 
-/// "To DER 60, 61, 64, 63."
+/// 60, 61, 63: "The order for signatures is then 60, 61 or 62, 63" (document 02, Ticket 8).
 pub fn signature_to_der(n: usize, raw: &[u8], out: &mut [u8]) -> Filled {
     fill(form(n, raw), 63, out)
 }

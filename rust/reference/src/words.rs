@@ -38,7 +38,6 @@ pub fn words(number: usize) -> &'static str {
         61 => "raw length is not 2n",
         62 => "not strict DER, with bytes left over, negative, or too big for n",
         63 => "no room",
-        64 => "writing DER: content would pass 255 bytes",
         65 => "not one whole DER INTEGER of 1 to 8 bytes",
         _ => "",
     }

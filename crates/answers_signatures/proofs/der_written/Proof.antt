@@ -36,12 +36,6 @@ enum-told-3 c = search needs
 refused-requires-3 : tie.Need-refused-requires-3
 refused-requires-3 c κs = search needs
 
-enum-told-4 : tie.Need-enum-told-4
-enum-told-4 c = search needs
-
-refused-requires-4 : tie.Need-refused-requires-4
-refused-requires-4 c κs = search needs
-
 returns : tie.Need-returns
 returns c = told-by told (c .done .ensures) (c .before .before .answer .given .1)
 
@@ -53,9 +47,6 @@ returns-3 c = told-by told (c .refused2 .ensures) (c .before .enum-told2 .given 
 
 returns-4 : tie.Need-returns-4
 returns-4 c = told-by told (c .refused3 .ensures) (c .before .enum-told3 .given .1)
-
-returns-5 : tie.Need-returns-5
-returns-5 c = told-by told (c .refused4 .ensures) (c .before .enum-told4 .given .1)
 
 pub der-written-spec : {M : Type 1} → statement M
 der-written-spec =
@@ -69,10 +60,7 @@ der-written-spec =
     refused-requires-2
     enum-told-3
     refused-requires-3
-    enum-told-4
-    refused-requires-4
     returns
     returns-2
     returns-3
-    returns-4
-    returns-5)
+    returns-4)

@@ -2,27 +2,14 @@
 -- Assumes nothing.
 use mathlib.Core.Path.{_≡_}
 use mathlib.Core.Bool.{true, false}
-use Prim.Native.Nat.{ℕ, _*_, _<_, _≤_}
-use borrow.Author.Tests.{lt-leb, le-leb, eq-eqb, ne-eqb}
+use Prim.Native.Nat.{ℕ, _*_}
+use borrow.Author.Tests.{eq-eqb, ne-eqb}
 use mathlib.Core.List.{List}
-use lib.ListN.{length, take, drop}
-use Rattle.format.specs.Answers.{done, refused, refusal}
-use Rattle.ecdsa.specs.Signature.{isSize, integers, signature}
-use Rattle.ecdsa.specs.Calls.{formed, toDer, hashFor}
-
--- r and s in DER
-module _ (r s : List ℕ) (room : ℕ) where
-  pub formed-long : 255 < length (integers r s) → formed r s room ≡ refused 64 0
-  unfolding formed
-  formed-long l = simp (lt-leb (length (integers r s)) 255 l)
-
-  pub formed-no-room : length (integers r s) ≤ 255 → room < length (signature r s) → formed r s room ≡ refused 63 0
-  unfolding formed
-  formed-no-room l m = simp (le-leb (length (integers r s)) 255 l, lt-leb (length (signature r s)) room m)
-
-  pub formed-done : length (integers r s) ≤ 255 → length (signature r s) ≤ room → formed r s room ≡ done (signature r s)
-  unfolding formed
-  formed-done l m = simp (le-leb (length (integers r s)) 255 l, le-leb (length (signature r s)) room m)
+use lib.ListN.{length}
+use Rattle.format.specs.Answers.{refused, refusal}
+use Rattle.format.specs.Order.{inRoom}
+use Rattle.ecdsa.specs.Signature.{isSize, derOf}
+use Rattle.ecdsa.specs.Calls.{toDer, hashFor}
 
 -- to DER
 module _ (n : ℕ) (bytes : List ℕ) (room : ℕ) where
@@ -35,8 +22,8 @@ module _ (n : ℕ) (bytes : List ℕ) (room : ℕ) where
     unfolding toDer
     to-der-wrong h = simp (size, ne-eqb (length bytes) (2 * n) h)
 
-    pub to-der-formed : length bytes ≡ 2 * n → toDer n bytes room ≡ formed (take n bytes) (drop n bytes) room
-    unfolding toDer formed
+    pub to-der-formed : length bytes ≡ 2 * n → toDer n bytes room ≡ inRoom 63 (derOf n bytes) room
+    unfolding toDer inRoom
     to-der-formed h = simp (size, eq-eqb (length bytes) (2 * n) h)
 
 -- n that is none of the five

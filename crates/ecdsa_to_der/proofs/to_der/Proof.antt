@@ -12,10 +12,11 @@ use lib.Seq.{length-take-le}
 use Rattle.format.specs.Places.{to-end}
 use Rattle.format.specs.Answers.{told, filled}
 use Rattle.format.specs.Answers.Laws.{refuses}
-use Rattle.ecdsa.specs.Signature.{isSize}
+use Rattle.format.specs.Order.{inRoom}
+use Rattle.ecdsa.specs.Signature.{isSize, signature}
 use Rattle.ecdsa.specs.Signature.Laws.{size-bounds}
 use Rattle.ecdsa_to_der.specs.Places.{Numbers}
-use Rattle.ecdsa.specs.Calls.{formed, toDer}
+use Rattle.ecdsa.specs.Calls.{toDer}
 use Rattle.ecdsa.specs.Calls.Laws.{to-der-no-size, to-der-wrong, to-der-formed}
 use borrow.Author.Needs.{needs}
 use Rattle.ecdsa_to_der.proofs.to_der.Statement.{statement}
@@ -38,10 +39,8 @@ halves n raw h = (length-take-le n raw (omega arith), length-drop n raw ∙ omeg
 
 numbers : (n : ℕ) (raw : List ℕ) → isSize n ≡ true → length raw ≡ 2 * n → Numbers (take n raw) (take (length raw - n) (drop n raw))
 numbers n raw e h =
-    let b = size-bounds n e in
     let l = halves n raw h in
-    let m = ap length (to-end raw n) ∙ l .1 in
-    record { some-r = omega arith; some-s = omega arith; small-r = omega arith; small-s = omega arith }
+    record { size = ap isSize (l .0) ∙ e; alike = ap length (to-end raw n) ∙ l .1 ∙ sym (l .0) }
 
 is-size-requires : tie.Need-is-size-requires
 is-size-requires c κs = search needs
@@ -80,8 +79,9 @@ returns-3 c =
     let a = start (on .before) .args in
     let raw = now (a .raw) in
     let out = now (a .out) in
-    let e : formed (take (a .n) raw) (take (length raw - a .n) (drop (a .n) raw)) (length out) ≡ toDer (a .n) raw (length out) =
-    ap (λ s. formed (take (a .n) raw) s (length out)) (to-end raw (a .n))
+    let r = take (a .n) raw in
+    let e : inRoom 63 (signature r (take (length raw - a .n) (drop (a .n) raw))) (length out) ≡ toDer (a .n) raw (length out) =
+    ap (λ s. inRoom 63 (signature r s) (length out)) (to-end raw (a .n))
     ∙ sym (to-der-formed (a .n) raw (length out) (sized (on .before)) (on .if2 .left)) in
     (put .put-pair .ensures .0 ∙ ap told e, put .put-pair .ensures .1 ∙ ap (λ o. filled o out) e)
 

@@ -60,7 +60,7 @@ impl Call {
     }
 }
 
-/// Every answer that the base can give. 64 is never given: the content has 138 bytes at most.
+/// Every answer that a call can give.
 pub fn answers() -> impl Iterator<Item = usize> {
     (0..=12).chain(20..=28).chain(40..=45).chain(60..=63).chain([65])
 }
