@@ -51,8 +51,8 @@ extern "C" {
 
 /*
  * The numbers that a call answers, each with its words, which fr_words gives too. A number that is retired is not given
- * out again, and has no name and no words. L is header.length, the length of the reference; the five sizes n are 28, 32,
- * 48, 64 and 66.
+ * out again, and has no name. L is header.length, the length of the reference; the five sizes n are 28, 32, 48, 64 and
+ * 66.
  */
 enum fr_number {
     FR_DONE = 0, /* done */
@@ -236,7 +236,7 @@ fr_hashed fr_hash(size_t n);
 
 /*
  * The words of a number in ASCII, without an end mark: 0, or 63 where there is not room for all of them. A number that
- * is not in the list above has no words: 0, with count 0.
+ * is not in the list above, or is retired, has no words: 0, with count 0.
  */
 fr_filled fr_words(size_t number, uint8_t *out, size_t out_length);
 

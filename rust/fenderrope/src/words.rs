@@ -8,8 +8,8 @@ use crate::face;
 use crate::refusal::Refusal;
 use crate::sizes::WORDS_MOST;
 
-/// The words of a number, from the start of `out`; gives how many bytes were written. A number that is not in the list
-/// has none.
+/// The words of a number, from the start of `out`; gives how many bytes were written. A number that is not in the list,
+/// or is retired, has none.
 ///
 /// # Errors
 ///
