@@ -5,18 +5,15 @@ use mathlib.Core.Path.{_≡_, refl, ap, _∙_}
 use mathlib.Core.Bool.{true}
 use Prim.Native.Nat.{ℕ, _+_, _*_, _<_, _≤_}
 use native.Mathlib.Omega.{arith}
-use borrow.Author.Tests.{ltb-true, ltb-false}
 use mathlib.Core.List.{List, [], _∷_, map}
-use lib.Dec.{ltb}
 use lib.ListN.{length, take, drop, replicate, length-append, length-drop}
 use lib.Seq.{length-take-le}
-use Rattle.format.specs.Choice.Laws.{by-test}
 use Rattle.der.specs.Length.{form}
-use Rattle.der.specs.Length.Exact.{form-short}
+use Rattle.der.specs.Length.Exact.{form-some}
 use Rattle.der.specs.Content.{shortest}
 use Rattle.der.specs.Content.Laws.{shortest-size}
 use Rattle.ecdsa.specs.Signature.{isSize, unsigned, integers, derOf}
-use Rattle.ecdsa.specs.Signature.Laws.{integer-is, form-two, size-bounds}
+use Rattle.ecdsa.specs.Signature.Laws.{integer-is, head-most, size-bounds}
 
 -- an INTEGER of a number in n bytes takes 3 to n + 3
 unsigned-size : (r : List ℕ) (n : ℕ) → length r ≡ n → n < 127 → (3 ≤ length (unsigned r)) × (length (unsigned r) ≤ n + 3)
@@ -24,13 +21,6 @@ unsigned-size r n e h =
     let b = shortest-size 0 r in
     let is = ap length (integer-is (shortest (0 ∷ r)) (omega arith)) in
     (omega arith, omega arith)
-
--- a sequence of up to 255 bytes takes two or three more
-sequence-size : (n : ℕ) → n < 0x100 → (2 ≤ length (0x30 ∷ form n)) × (length (0x30 ∷ form n) ≤ 3)
-sequence-size n h =
-    by-test (ltb n 0x80)
-    (λ e. let f = ap length (form-short n (ltb-true n 0x80 e)) in (omega arith, omega arith))
-    (λ e. let f = ap length (form-two n (ltb-false n 0x80 e) h) in (omega arith, omega arith))
 
 -- the content of the DER form of two numbers of n bytes each takes 6 to 2n + 6
 content-size :
@@ -78,6 +68,7 @@ der-size n raw size h =
     let r = take n raw in
     let s = drop n raw in
     let c = content-size n r s size (length-take-le n raw (omega arith)) (length-drop n raw ∙ omega arith) in
-    let f = sequence-size (length (integers r s)) (omega arith) in
+    let least = form-some (length (integers r s)) in
+    let most = head-most (length (integers r s)) (omega arith) in
     let e = length-append (form (length (integers r s))) (integers r s) in
     (omega arith, omega arith)

@@ -14,7 +14,6 @@ use Rattle.format.specs.Bytes.{Bytes}
 use Rattle.format.specs.Bytes.Laws.{bytes-append, bytes-drop, bytes-take, bytes-replicate}
 use Rattle.format.specs.Choice.Laws.{by-test}
 use Rattle.der.specs.Length.{form}
-use Rattle.der.specs.Length.Exact.{form-short}
 use Rattle.der.specs.Element.{element, elementIn}
 use Rattle.der.specs.Element.Exact.{start, element-found, element-body, element-whole}
 use Rattle.der.specs.Content.{shortest}
@@ -23,6 +22,7 @@ use Rattle.der.specs.declared.Element.the-variants as found
 use Rattle.ecdsa.specs.Signature.{isSize, unsigned, pairOf, derOf}
 use Rattle.ecdsa.specs.Strict.{part, lead, digitsIn, numberIn, padded, Raw, rawOf}
 use Rattle.ecdsa.specs.Signature.Laws.{size-bounds}
+use Rattle.ecdsa.specs.FormSize.{never-64}
 use Rattle.ecdsa.specs.Strict.Laws.{length-part, length-padded, digits-is, number-at, lead-small, lead-at-most, number-read}
 use Rattle.ecdsa.specs.Strict.Laws.{number-inside, raw-none, raw-more, raw-no-r, raw-no-s, raw-left, raw-is}
 use Rattle.ecdsa.specs.Strict.Shortest.{Carries, shortest-carries, padded-shortest}
@@ -128,14 +128,6 @@ number-sound n t bytes a b e =
     }
 
 -- complete, both numbers: the DER form of a raw signature is read as that signature
-unsigned-size : (n : ℕ) (r : List ℕ) → length r ≡ n → 0 < n → n < 127 → length (unsigned r) < 131
-unsigned-size n r many some small =
-    let c = shortest (0 ∷ r) in
-    let size = content-size r c (carried r (omega arith)) in
-    let one : length (form (length c)) ≡ 1 = ap length (form-short (length c) (omega (arith, size .2))) in
-    let whole : length (unsigned r) ≡ suc (length (form (length c)) + length c) = ap suc (length-append (form (length c)) c) in
-    omega (arith, size .2)
-
 pub raw-found : (n : ℕ) (bytes : List ℕ) → isSize n ≡ true → length bytes ≡ 2 * n → Bytes bytes → rawOf n (derOf n bytes) ≡ Raw.raw bytes
 raw-found n bytes size many all =
     let bounds = size-bounds n size in
@@ -148,14 +140,13 @@ raw-found n bytes size many all =
     let t = pairOf n bytes in
     let u = unsigned s in
     let t-many : length t ≡ length (unsigned r) + length u = length-append (unsigned r) u in
-    let r-size = unsigned-size n r r-many some below in
-    let s-size = unsigned-size n s s-many some below in
+    let short = never-64 n r s size r-many s-many in
     let one = number-found n r u r-many some below (bytes-take n bytes all) in
     let two = number-found n s [] s-many some below (bytes-drop n bytes all) in
     let last : u ++ [] ≡ u = append-nil u in
     let whole = append-nil (element 0x30 t) in
     raw-is n (derOf n bytes) (start t) (start t + length t)
-    (ap (elementIn 0x30) (sym whole) ∙ element-found 0x30 t [] (omega arith))
+    (ap (elementIn 0x30) (sym whole) ∙ element-found 0x30 t [] (omega (arith, short .1)))
     (sym (ap suc (length-append (form (length t)) t) ∙ omega arith))
     t
     (ap (drop (start t)) (sym whole) ∙ element-body 0x30 t [] ∙ append-nil t)
