@@ -108,7 +108,7 @@ static void same_writes(const given *g) {
     for (size_t i = 0; i < 9; i++) b[i] = *g;
     b[0].header.version = 5;
     b[1].text[g->characters - 1] = '<';
-    b[2].header.signed_on.day = 32;
+    b[2].header.signed_on = (fr_date){2, 30, 2000};
     b[3].header.category = 255;
     b[4].rows[3] = g->rows[0];
     b[5].header.version = 3, b[5].header.length = 5, b[5].characters = 9, b[5].size = 256, b[5].rows[1] = 0, b[5].rows[2] = 256, b[5].numbers = 3;
@@ -144,12 +144,14 @@ static void same_text(void) {
 }
 
 static void same_dates(void) {
-    static const size_t years[] = {0, 1, 1957, 9999, 10000, SIZE_MAX};
+    static const size_t years[] = {0, 1, 4, 100, 400, 1900, 1957, 2000, 2004, 2100, 9996, 9999, 10000, SIZE_MAX};
     for (size_t number = 0; number < 17000000; number += 997) SAME(see_dated(s, m->date_from_number(number)));
     SAME(see_dated(s, m->date_from_number(SIZE_MAX)));
+    for (size_t year = 0; year < 10000; year++)
+        for (size_t day = 28; day < 32; day++) SAME(see_dated(s, m->date_from_number(2000000 + day * 10000 + year)));
     for (size_t month = 0; month < 15; month++)
         for (size_t day = 0; day < 34; day++)
-            for (size_t y = 0; y < 6; y++) {
+            for (size_t y = 0; y < sizeof years / sizeof *years; y++) {
                 fr_numbered a;
                 SAME((a = m->date_to_number((fr_date){month, day, years[y]}), see(s, a.number, a.place, a.value)));
             }

@@ -188,10 +188,12 @@ static size_t most(size_t bound) {
     return rarely() ? take(8) : take(2) % bound;
 }
 
+/* A day of the calendar; once in eight a day of 29 to 31, which its month may not have. */
 static fr_date take_date(void) {
+    static const uint8_t days[] = {31, 28, 31, 30, 31, 30, 31, 31, 30, 31, 30, 31};
     fr_date date;
     date.month = 1 + most(12);
-    date.day = 1 + most(31);
+    date.day = take(1) % 8 == 0 ? 29 + most(3) : 1 + most(date.month - 1 < 12 ? days[date.month - 1] : 31);
     date.year = 1 + most(9999);
     return date;
 }
@@ -375,6 +377,7 @@ static void codecs(const uint8_t *data, size_t size) {
     integers(data, size);
     dates(number);
     dates((1 + number % 13) * 1000000 + (number >> 8) % 33 * 10000 + (number >> 16) % 10000);
+    dates(2000000 + (28 + number % 3) * 10000 + (number >> 8) % 2500 * 4);
     fr_hashed h = fr_hash(n);
     seen(HASH, h.number, h.bits / 2);
     MUST(h.number == 0 ? h.bits >= 224 && h.bits <= 512 : h.number == 60 && h.bits == 0);

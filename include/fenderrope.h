@@ -35,7 +35,7 @@ extern "C" {
 #endif
 
 /* The version of this header and its library. */
-#define FR_VERSION "0.2.0"
+#define FR_VERSION "0.3.0"
 
 /* Sizes that hold for every legal seal (document 01, "Sizes"). */
 #define FR_SEAL_MOST 4096      /* bytes of a seal */
@@ -101,7 +101,7 @@ enum fr_number {
     FR_NOT_INTEGER = 65       /* not one whole DER INTEGER of 1 to 8 bytes */
 };
 
-/* A date: month 1 to 12, day 1 to 31, year 1 to 9999. */
+/* A day of the Gregorian calendar: month 1 to 12, day 1 to the month's last, year 1 to 9999. */
 typedef struct fr_date {
     size_t month;
     size_t day;

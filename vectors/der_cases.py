@@ -1,22 +1,33 @@
 """Reference for dates, DER lengths, INTEGERs and signature forms (Doc 9303-13, 2.3.1, B) and cases made from it.
 
-The reference never checks the rules of strict reading one by one. A date is a text of eight digits. A strict form is
-read by guessing what it means, trusting no length in it, and asking whether the guess is written as these bytes.
+The reference never checks the rules of strict reading one by one. A date is a text of eight digits, and Python's calendar,
+which is the Gregorian one from year 1 to 9999, tells whether there is such a day. A strict form is read by guessing what it
+means, trusting no length in it, and asking whether the guess is written as these bytes.
 """
+import datetime
 import itertools
 import re
 
 # ---- The reference --------------------------------------------------------------------------
 LIMIT = 2 ** 63
 HASHES = {28: 224, 32: 256, 48: 384, 64: 512, 66: 512}
-DATE = re.compile("(0[1-9]|1[0-2])(0[1-9]|[12][0-9]|3[01])(?!0000)([0-9]{4})")
+DATE = re.compile("([0-9]{2})([0-9]{2})([0-9]{4})")
 FOLLOWING = dict.fromkeys(range(0x80), 0) | {0x81: 1, 0x82: 2, 0x83: 3, 0x84: 4}
+
+
+def known(month, day, year):
+    """The three of them, or None if the calendar has no such day."""
+    try:
+        datetime.date(year, month, day)
+    except ValueError:
+        return None
+    return month, day, year
 
 
 def date_of(number):
     """(month, day, year), or None for 6."""
     found = DATE.fullmatch(f"{number:08}")
-    return found and tuple(map(int, found.groups()))
+    return found and known(*map(int, found.groups()))
 
 
 def number_of(date):
@@ -128,13 +139,24 @@ def dates(good, month, day, year):
     return each(f"d {code}", f"0 {date}" if good else "6 0 0 0") + each(f"n {date}", f"0 {code}" if good else "22 0")
 
 
+LEAP_YEARS = (4, 8, 96, 104, 400, 404, 800, 1200, 1600, 1896, 1904, 1956, 1996, 2000, 2004, 2096, 2104, 2400, 9600, 9996)
+COMMON_YEARS = (1, 2, 3, 5, 25, 50, 75, 100, 200, 300, 500, 1000, 1700, 1800, 1900, 1957, 1975, 1999, 2001, 2002, 2003,
+                2025, 2100, 2200, 2300, 2500, 9700, 9800, 9900, 9975, 9997, 9999)
 family("25 March 1957 from 2.3.1 (31 9E F5), and the first and last day of document 01.",
        each(f"d {0x319EF5}", "0 3 25 1957"), each("d 1010001", "0 1 1 1"), each("d 12319999", "0 12 31 9999"),
        each("n 3 25 1957", "0 3251957"), each("n 1 1 1", "0 1010001"), each("n 12 31 9999", "0 12319999"))
 family("Every month from 0 to 13, and 99 and 100, both ways: 1 to 12 are good.",
-       *(dates(1 <= month <= 12, month, *rest) for month in (*range(14), 99, 100) for rest in ((1, 1), (31, 9999))))
-family("Every day from 0 to 33, and 99, both ways: 1 to 31 are good in every month, February too.",
-       *(dates(1 <= day <= 31, m, day, year) for day in (*range(34), 99) for m, year in ((2, 1957), (12, 9999))))
+       *(dates(1 <= month <= 12, month, *rest) for month in (*range(14), 99, 100) for rest in ((1, 1), (28, 9999))))
+family("Every day from 0 to 33, and 99, both ways: good up to 28 in February 1957, 29 in 1956, 30 in April, 31 in December.",
+       *(dates(1 <= day <= last, month, day, year) for month, year, last in (
+           (2, 1957, 28), (2, 1956, 29), (4, 1957, 30), (12, 9999, 31)) for day in (*range(34), 99)))
+family("The last day of each month, both ways, in a common year and in a leap year: good. The day after it: refused.",
+       *(dates(good, month, last + (not good), year) for year in (1957, 2004) for month, last in enumerate(
+           (31, 28 + (year == 2004), 31, 30, 31, 30, 31, 31, 30, 31, 30, 31), 1) for good in (True, False)))
+family("29 February, both ways: good where 4 divides the year, but where 100 does only if 400 does.",
+       *(dates(True, 2, 29, year) for year in LEAP_YEARS), *(dates(False, 2, 29, year) for year in COMMON_YEARS))
+family("30 and 31 February, both ways: refused in every year.",
+       *(dates(False, 2, day, year) for day in (30, 31) for year in (1, 4, 100, 400, 1900, 1957, 2000, 2004, 9996, 9999)))
 family("Years about the borders and the changes of digits, both ways: all but 0 are good.",
        *(dates(year > 0, *rest, year) for rest in ((1, 1), (12, 31)) for year in (
            0, 1, 2, 9, 10, 99, 100, 255, 256, 999, 1000, 1957, 9998, 9999)))
@@ -325,8 +347,8 @@ def answer_to(line):
 
 def chapters(part):
     """The one chapter of a part, `numbers` or `signatures`: no name, the lines of its cases, and of their answers."""
-    found = {date_of(10000 * k + year) for k in range(10000) for year in (0, 1, 9999)}
-    assert found - {None} == set(itertools.product(range(1, 13), range(1, 32), (1, 9999)))
+    sizes = {0: 0, 1: 365, 4: 366, 1900: 365, 2000: 366, 2004: 366, 2100: 365, 9999: 365}    # days in these years
+    assert sizes == {year: sum(date_of(10000 * k + year) is not None for k in range(10000)) for year in sizes}
     kinds = [read_length(k.to_bytes(2, "big"))[:3] for k in range(65536)]
     assert kinds.count("cut") == 3 * 256 and kinds.count("mal") == 128 + 124 * 256    # 82 to 84; 8100 to 817F, others
     odd = [k for k in range(65536) if read_integer(b"\2\2" + k.to_bytes(2, "big")) is None]

@@ -23,7 +23,7 @@ family("accepted", "Fillers in the country; references of 1, 2, 3 and 255 charac
        good(*(Seal(4, reference=reference) for reference in ("7", "0A", "ABC")), LONGEST))
 family("accepted", "Years below 1000, months and days of one digit and of two, the first day and the last.",
        good(*(Seal(version, issued=issued, signed=signed) for version in VERSIONS for issued, signed in (
-           ((1, 1, 1), (12, 31, 9999)), ((9, 10, 9), (10, 9, 10)), ((11, 30, 99), (2, 31, 100)), ((6, 7, 999), (7, 6, 1000))))))
+           ((1, 1, 1), (12, 31, 9999)), ((9, 10, 9), (10, 9, 10)), ((11, 30, 99), (2, 29, 104)), ((6, 7, 999), (7, 6, 1000))))))
 family("accepted", "Definition reference and category of one, two and three digits; the five sizes of a signature.",
        good(*(Seal(3, definition=d, category=c) for d, c in ((1, 254), (9, 10), (99, 100), (254, 1)))),
        good(*(Seal(version, raw=b"\x38" * size) for version in VERSIONS for size in SIZES)))

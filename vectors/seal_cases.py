@@ -45,6 +45,10 @@ family("listed", "Day 31 is good, day 32 and year 0 are 6.",
        good(Seal(3, issued=(3, 31, 1957)), Seal(4, signed=(3, 31, 1957))),
        *(wrong(6, PLAIN[version], name, number.to_bytes(3, "big")) for version in VERSIONS for name in ("issued", "signed")
          for number in (3321957, 3250000)))
+family("listed", "Document 02, Ticket 3: 29 February 2000 is good; 29 February 1900 and 30 February are 6. Both dates.",
+       good(*(Seal(version, **{name: (2, 29, 2000)}) for version in VERSIONS for name in ("issued", "signed"))),
+       *(wrong(6, PLAIN[version], name, number.to_bytes(3, "big")) for version in VERSIONS for name in ("issued", "signed")
+         for number in (2291900, 2301957, 2302000)))
 
 # ---- The header -----------------------------------------------------------------------------
 PAIRS_NOT_TEXT = [H(pair) for pair in "0000 0001 FA01 FDFF FE00 FE20 FE3D FE5C FE62 FEFF FF00 FFFF".split()] + [
@@ -60,14 +64,19 @@ family("header", "Countries: UTO, UT<, D<<, ZZZ and AAA are good.",
 COUNTRIES = [c40(t) for t in ("   ", "  D", " D ", " DE", "D E", "1TO", "U1O", "UT1", "U1 ", "9  ", "D 9", " 0 ", "000")]
 family("header", "Countries with a filler before a letter, digits, no letter, or that are no three characters: 5 at 2.",
        *(wrong(5, BASES[version], "country", *COUNTRIES, *PAIRS_NOT_TEXT, *SHORT_PAIRS) for version in VERSIONS))
-DATES = {"good": (1010001, 12319999, 1310001, 2311957, 2301957, 12010001, 10100001, 9309999),
+DATES = {"good": (1010001, 12319999, 1310001, 2281900, 2290004, 2290400, 12010001, 10100001, 9309999),
          "wrong": (0, 1, 1000001, 1320001, 320001, 13010001, 13319999, 1010000, 12310000, 12320001, 12319999 + 1, 12990001,
-                   1310000, 10000, 100001, 10001, 2 ** 24 - 1, 16000000, 15319999, 99999)}
-family("header", "Dates of the first and last month, day and year are good, and so is 31 February.",
+                   1310000, 10000, 100001, 10001, 2 ** 24 - 1, 16000000, 15319999, 99999),
+         "past the month": (2290001, 2290100, 2291957, 2292100, 2299999, 2300004, 2310400, 2319999, 4311957, 6310001, 9312000,
+                            11319999)}
+family("header", "Dates of the first and last month, day and year are good, and 28 or 29 February, by the year.",
        good(*(Seal(version, **{name: (n // 10 ** 6, n // 10 ** 4 % 100, n % 10 ** 4)}) for version in VERSIONS
               for name in ("issued", "signed") for n in DATES["good"])))
 family("header", "Month 0 or 13, day 0 or 32, year 0, numbers up to FFFFFF: 6 at the date. Both dates, both versions.",
        *(wrong(6, BASES[version], name, *(n.to_bytes(3, "big") for n in DATES["wrong"]))
+         for version in VERSIONS for name in ("issued", "signed")))
+family("header", "A day that its month does not have, in a common year or in any: 6 at the date. Both dates, both versions.",
+       *(wrong(6, BASES[version], name, *(n.to_bytes(3, "big") for n in DATES["past the month"]))
          for version in VERSIONS for name in ("issued", "signed")))
 family("header", "Definition reference and category: 0 and 255 are 7 there, 1, 2, 127, 128, 253 and 254 are good.",
        *(wrong(7, BASES[version], name, b"\0", b"\xFF") for version in VERSIONS for name in ("definition", "category")),
@@ -321,6 +330,7 @@ family("changed4", "The version 4 seal with three features, each byte changed to
 family("mixed", "Good seals of both versions with every field, tag, value and size by chance.", mixed_cases(9303, 40)[0])
 family("mixed", "The same with a byte changed, left out, put in or doubled, or cut: by the reference.",
        mixed_cases(9303, 40)[1])
+family("mixed", "The same with a day that its month does not have as issue or signature date: 6 there.", mixed_cases(9303, 40)[2])
 
 
 # ---- Checks and output ----------------------------------------------------------------------

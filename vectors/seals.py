@@ -2,11 +2,12 @@
 
 The reading: `layout` asks for one item after another, each with the number that it is refused with, and is told what the
 item says. It knows neither bytes nor places. `walk` holds the bytes and answers: 2 for an item that is cut, that number for
-one that says nothing. C40 pairs are looked up among those counted out, dates are texts of eight digits, and a DER length is
-good when its number is written as these bytes (c40_cases.py, der_cases.py).
+one that says nothing. C40 pairs are looked up among those counted out, dates are texts of eight digits and known to the
+calendar, and a DER length is good when its number is written as these bytes (c40_cases.py, der_cases.py).
 
 The putting together: a `Seal` is a list of named parts, and knows from what it was given what a reader must report of it.
 """
+import calendar
 import collections
 import re
 
@@ -137,6 +138,11 @@ def c40(characters):
     return encode(characters.encode("ascii"))
 
 
+def code(month, day, year):
+    """The three bytes of what may be no day."""
+    return (month * 10 ** 6 + day * 10 ** 4 + year).to_bytes(3, "big")
+
+
 def date(month, day, year):
     return number_of((month, day, year)).to_bytes(3, "big")
 
@@ -241,10 +247,23 @@ class Dice:
 LETTERS, BOTH = "ABCDEFGHIJKLMNOPQRSTUVWXYZ", "0123456789ABCDEFGHIJKLMNOPQRSTUVWXYZ"
 
 
+def day_by_chance(dice):
+    """A day of the calendar: any day up to 31, but no later than the last of its month."""
+    month, day, year = 1 + dice.below(12), 1 + dice.below(31), 1 + dice.below(9999)
+    return month, min(day, calendar.monthrange(year, month)[1]), year
+
+
+def nearly_by_chance(dice):
+    """No day, but a day up to 31: past the last of its month."""
+    month, year = (2, 2, 4, 6, 9, 11)[dice.below(6)], 1 + dice.below(9999)
+    last = calendar.monthrange(year, month)[1]
+    return month, last + 1 + dice.below(31 - last), year
+
+
 def mixed(dice):
     """A good seal whose every field is by chance."""
     version, tags = 3 + dice.below(2), sorted(range(255), key=lambda tag: (dice.below(10 ** 6), tag))
-    dates = [(1 + dice.below(12), 1 + dice.below(31), 1 + dice.below(9999)) for _ in range(2)]
+    dates = [day_by_chance(dice) for _ in range(2)]
     return Seal(version, dice.text(1 + dice.below(3), LETTERS).ljust(3, "<"), dice.text(2, LETTERS) + dice.text(2, BOTH),
                 dice.text(5 if version == 3 else 1 + dice.below(20), BOTH), *dates, 1 + dice.below(254), 1 + dice.below(254),
                 [(tag, dice.data(dice.below(12))) for tag in tags[:dice.below(6)]], dice.data(1) * SIZES[dice.below(5)])
@@ -258,8 +277,9 @@ def edited(dice, data):
 
 
 def mixed_cases(state, count):
-    """Good seals, and eight edits of each by the reference."""
+    """Good seals; eight edits of each by the reference; and each with one of its dates nearly a day."""
     dice = Dice(state)
     seals = [mixed(dice) for _ in range(count)]
     edits = [edited(dice, seal.data()) for seal in seals for _ in range(8)]
-    return good(*seals), [(data, 21, 30, read(data, 21, 30)) for data in edits]
+    late = [wrong(6, seal, ("issued", "signed")[dice.below(2)], code(*nearly_by_chance(dice))) for seal in seals]
+    return good(*seals), [(data, 21, 30, read(data, 21, 30)) for data in edits], [case for cases in late for case in cases]

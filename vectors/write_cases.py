@@ -11,7 +11,7 @@ import itertools
 import seal_cases
 from der_cases import filled, length_bytes
 from seal_cases import A, B, H, VERSIONS, VISA, enter
-from seals import Dice, MOST, SIZES, Seal, mixed, padded
+from seals import Dice, MOST, SIZES, Seal, mixed, nearly_by_chance, padded
 from writing import FIELDS, ROOM, TOP, case_line, check, given_of, good, put_in, runs, seal_of, with_text, write, wrong
 
 CHAPTERS = {}                # chapter: [(heading, cases)]
@@ -29,6 +29,9 @@ family("listed", "A country D<<, and with spaces for fillers, which is 21.",
 family("listed", "Day 31 is good, day 32 and year 0 are 22.",
        good(Seal(3, issued=(3, 31, 1957)), Seal(4, signed=(3, 31, 1957))),
        *(wrong(22, base, name, (3, 32, 1957), (3, 25, 0)) for base in EACH for name in ("issued", "signed")))
+family("listed", "Document 02, Ticket 3: 29 February 2000 is good; 29 February 1900 and 30 February are 22.",
+       good(*(Seal(version, **{name: (2, 29, 2000)}) for version in VERSIONS for name in ("issued", "signed"))),
+       *(wrong(22, base, name, (2, 29, 1900), (2, 30, 1957), (2, 30, 2000)) for base in EACH for name in ("issued", "signed")))
 family("listed", "A version 3 length 80 means 128; a version 4 length 128 is 81 80.",
        good(*(Seal(version, features=[(1, b"\1" * 128)]) for version in VERSIONS)))
 
@@ -45,13 +48,14 @@ family("header", "Countries of letters and fillers: good, a letter first and no 
 family("header", "Any other character at each place of the country: 21.",
        *(wrong(21, base, "country", *(put_in(code, k, c[0]) for code in (b"UTO", b"D<<") for k in range(3)
                                       for c in FIRST_AND_LAST)) for base in EACH))
-DAYS = ((1, 1, 1), (12, 31, 9999), (1, 31, 1), (12, 1, 9999), (2, 31, 1957), (2, 29, 1900), (10, 10, 1000))
+DAYS = ((1, 1, 1), (12, 31, 9999), (1, 31, 1), (12, 1, 9999), (2, 28, 1900), (2, 29, 2004), (4, 30, 1957), (10, 10, 1000))
 NO_DAYS = [(0, 1, 1), (13, 1, 1), (1, 0, 1), (1, 32, 1), (1, 1, 0), (1, 1, 10000), (0, 0, 0), (12, 31, 10000), (13, 31, 9999),
-           (12, 32, 9999), (257, 1, 1), (1, 257, 1), (1, 1, 65537), (1, 100, 1), (1, 1, 20000)]
+           (12, 32, 9999), (257, 1, 1), (1, 257, 1), (1, 1, 65537), (1, 100, 1), (1, 1, 20000),
+           (2, 29, 1957), (2, 29, 2100), (2, 30, 2004), (2, 31, 9999), (4, 31, 1), (6, 31, 1957), (9, 31, 2000), (11, 31, 9999)]
 NO_DAYS += [tuple(huge if k == place else 1 for k in range(3)) for place in range(3) for huge in (*HUGE, 2 ** 32 + 1)]
-family("header", "First and last month, day and year: good, and so is 31 February.",
+family("header", "First and last month, day and year, 28 or 29 February, by the year, and 30 April: good.",
        good(*(Seal(version, **{name: day}) for version in VERSIONS for name in ("issued", "signed") for day in DAYS)))
-family("header", "Beside them, and great numbers: 22 for either date.",
+family("header", "Beside them, days that their month does not have, and great numbers: 22 for either date.",
        *(wrong(22, base, name, *NO_DAYS) for base in EACH for name in ("issued", "signed")))
 family("header", "Definition reference and category 1, 2, 127, 128, 253 and 254: good. 0, 255 and over: 23.",
        good(*(Seal(version, definition=d, category=255 - d) for version in VERSIONS for d in (1, 2, 127, 128, 253, 254))),
@@ -234,6 +238,8 @@ MIXED = [(given_of(seal, shuffled(DICE, len(seal.content.rows)), DICE.data(DICE.
 family("mixed", "Both versions, every field, tag, value and size by chance, the values in any order and with gaps.", MIXED)
 family("mixed", "The same with one field changed by chance: by the reference.",
        [(given, write(given)) for given in (changed(DICE, given) for given, _ in MIXED for _ in range(6))])
+family("dates", "Seals by chance, but with a day that its month does not have as issue or signature date: 22.",
+       [(given._replace(**{("issued", "signed")[DICE.below(2)]: nearly_by_chance(DICE)}), 22) for given, _ in MIXED])
 
 
 # ---- Checks and output ----------------------------------------------------------------------

@@ -1,8 +1,7 @@
 /* Plain C for the dates, fr_date_from_number and fr_date_to_number, and for single INTEGERs, fr_integer_read and fr_integer_write. */
 #include "blocks.h"
+#include "days.h"
 #include "der.h"
-
-static int is_day(fr_date d) { return d.month >= 1 && d.month <= 12 && d.day >= 1 && d.day <= 31 && d.year >= 1 && d.year <= 9999; }
 
 fr_dated c_date_from_number(size_t number) {
     fr_date d = {number / 1000000, number / 10000 % 100, number % 10000};

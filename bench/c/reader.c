@@ -2,6 +2,7 @@
    buffer and tested character by character; each tag looked for among those so far; and once all is judged a second walk that writes the rows. */
 #include "blocks.h"
 #include "c40.h"
+#include "days.h"
 #include "letters.h"
 
 typedef struct { size_t place; } cursor;
@@ -37,8 +38,7 @@ static item date_at(cursor at, const uint8_t *s, size_t n, fr_date *d) {
     if (w.kind != READ) return w;
     size_t v = s[at.place] * 65536u + s[at.place + 1] * 256u + s[at.place + 2];
     *d = (fr_date){v / 1000000, v / 10000 % 100, v % 10000};
-    if (d->month < 1 || d->month > 12 || d->day < 1 || d->day > 31 || d->year < 1) return wrong_item;
-    return w;
+    return is_day(*d) ? w : wrong_item;
 }
 
 static item der_length(cursor at, const uint8_t *s, size_t n) {

@@ -1,6 +1,7 @@
 /* Plain C for fr_write: the same answers in the same order, all of them before the first byte is written. The tags so far are marked in a small table; the
    size is summed up before the room is judged; then the parts are put down one after another, each by a function that gives back the place reached. */
 #include "blocks.h"
+#include "days.h"
 #include "letters.h"
 
 static int is_country(const uint8_t *c) {
@@ -17,8 +18,6 @@ static int are_names(const fr_header *h, const uint8_t *text, size_t n) {
         if (!is_reference(text[i])) return 0;
     return 1;
 }
-
-static int is_day(fr_date d) { return d.month >= 1 && d.month <= 12 && d.day >= 1 && d.day <= 31 && d.year >= 1 && d.year <= 9999; }
 
 static int is_last(size_t x) { return x >= 1 && x <= 254; }
 

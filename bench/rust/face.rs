@@ -109,7 +109,18 @@ impl Filled {
 
 impl Date {
     pub fn is_day(&self) -> bool {
-        (1..=12).contains(&self.month) && (1..=31).contains(&self.day) && (1..=9999).contains(&self.year)
+        (1..=9999).contains(&self.year) && (1..=self.days_in_month()).contains(&self.day)
+    }
+
+    /// Of the Gregorian calendar; none if there is no such month.
+    fn days_in_month(&self) -> usize {
+        match self.month {
+            1 | 3 | 5 | 7 | 8 | 10 | 12 => 31,
+            4 | 6 | 9 | 11 => 30,
+            2 if self.year % 4 == 0 && (self.year % 100 != 0 || self.year % 400 == 0) => 29,
+            2 => 28,
+            _ => 0,
+        }
     }
 
     pub fn from_number(number: usize) -> Option<Date> {

@@ -61,6 +61,9 @@ static void test_dates(void) {
     CHECK(dated(3, 25, 1957, 0x319EF5));
     CHECK(dated(1, 1, 1, 1010001) && dated(12, 31, 9999, 12319999));
     CHECK(dated(1, 31, 2026, 1312026) && no_date(1322026) && no_date(1310000));
+    CHECK(dated(2, 29, 2000, 2292000) && dated(2, 29, 2004, 2292004) && dated(2, 28, 1900, 2281900) && dated(4, 30, 1957, 4301957));
+    CHECK(no_date(2291900) && no_date(2292100) && no_date(2301957) && no_date(2302000) && no_date(2312004) && no_date(4311957));
+    CHECK(no_number(2, 29, 1900) && no_number(2, 29, 2100) && no_number(2, 30, 1957) && no_number(2, 30, 2000) && no_number(11, 31, 1957));
     CHECK(no_date(0) && no_date(1010000) && no_date(13010001) && no_date(1000001) && no_date(12320000) && no_date(~(size_t)0));
     CHECK(no_number(0, 1, 1) && no_number(13, 1, 1) && no_number(1, 0, 1) && no_number(1, 32, 1) && no_number(1, 1, 0) && no_number(1, 1, 10000));
 }

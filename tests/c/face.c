@@ -15,6 +15,7 @@ int main(void) {
     test_seal_a();
     test_cut();
     test_reader_refusals();
+    test_days();
     test_room();
     test_names();
     test_lengths();

@@ -62,6 +62,28 @@ static void test_reader_refusals(void) {
     CHECK(fr_judge(more, SEAL_A + 6).number == 0 && fr_judge(more, SEAL_A + 6).count == 2);
 }
 
+/* A seal of either version with these three bytes as issue date, then as signature date: taken, or refused with 6 at that date. */
+static int takes_date(const char *bytes, int taken) {
+    static const uint8_t signature[56] = {0};
+    static uint8_t seal[FR_SEAL_MOST];
+    for (size_t version = 3; version <= 4; version++)
+        for (size_t at = version == 3 ? 10 : 12, end = at + 6; at < end; at += 3) {
+            size_t length;
+            fresh();
+            length = fr_write(header_of(version), (const uint8_t *)"UTAB00001", 9, NULL, 0, NULL, 0, signature, 56, lent, ROOM).count;
+            memcpy(seal, lent, length);
+            memcpy(seal + at, bytes, 3);
+            if (taken ? fr_judge(seal, length).number != 0 : !refuses(seal, length, 6, at)) return 0;
+        }
+    return 1;
+}
+
+/* The calendar: 29 February 2000 is a day, 29 February 1900 and 30 February 1957 are none. */
+static void test_days(void) {
+    CHECK(takes_date("\x22\xF9\x20", 1));
+    CHECK(takes_date("\x22\xF8\xBC", 0) && takes_date("\x23\x20\x05", 0));
+}
+
 /* 12 comes with too little room of either kind, and nothing is written into the other. */
 static void test_room(void) {
     fresh();

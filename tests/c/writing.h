@@ -24,6 +24,16 @@ static void test_writer_header(void) {
     h.issued_on.day = 32;
     CHECK(refused(written(h, "UTAB00001", NULL, 0, 56), 22, 0));
     h = header_of(3);
+    h.issued_on.month = 2;
+    h.issued_on.day = 30;
+    CHECK(refused(written(h, "UTAB00001", NULL, 0, 56), 22, 0));
+    h = header_of(4);
+    h.signed_on.month = 2;
+    h.signed_on.day = 29;
+    CHECK(refused(written(h, "UTAB00001", NULL, 0, 56), 22, 0));
+    h.signed_on.year = 2000;
+    CHECK(written(h, "UTAB00001", NULL, 0, 56).number == 0 && kept(78, 0));
+    h = header_of(3);
     h.signed_on.year = 0;
     CHECK(refused(written(h, "UTAB00001", NULL, 0, 56), 22, 0));
     h = header_of(3);

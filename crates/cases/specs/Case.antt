@@ -1,4 +1,4 @@
--- A case that document 01 marks P: what a call's definition gives, and what document 01 says it is.
+-- A case that is to be proved: what a call's definition gives, and what the document says it is.
 -- Assumes nothing.
 use Rattle.format.specs.Answers.{Outcome}
 

@@ -1,4 +1,4 @@
--- Every case that document 01 marks P, as one list under one statement, which the checker computes.
+-- Every case that document 01 marks P, and the two of document 02, Ticket 3, as one list under one statement, which the checker computes.
 -- Assumes nothing.
 use mathlib.Core.Path.{_≡_, refl}
 use mathlib.Core.List.{List, _++_, map}
@@ -31,7 +31,7 @@ use Rattle.cases.specs.Seals.{seal-cases}
 abbrev pub cases : List Case
 cases = c40-cases ++ number-cases ++ signature-cases ++ seal-cases
 
--- each is as document 01 says, and Seal A's content is legal
+-- each is as the documents say, and Seal A's content is legal
 pub cases-hold : (map (λ (c : Case). c .found) cases ≡ map (λ (c : Case). c .expected) cases) × Legal content-a
 unfolding inRoom be val theChart valueOf triple publish single values pairOf decode reading known writing isDay date fromNumber form
     longForm readLength elementIn shortest strict readInteger writeInteger isSize toDer digitsIn numberIn rawOf toRaw headerZone

@@ -1,4 +1,4 @@
--- Document 01, "At the edges": the date and the INTEGERs, in both directions.
+-- Document 01, "At the edges": the date and the INTEGERs, in both directions. Document 02, Ticket 3: 29 February 2000 and 1900.
 -- Assumes nothing.
 use mathlib.Core.List.{List, [], _∷_}
 use Prim.Native.Nat.{ℕ, suc}
@@ -36,6 +36,8 @@ abbrev pub number-cases : List Case
 number-cases =
     record { found = done (publish spring); expected = done (0x31 ∷ 0x9E ∷ 0xF5 ∷ []) } ∷
     record { found = fields (fromNumber (val (0x31 ∷ 0x9E ∷ 0xF5 ∷ []) 3)); expected = done (3 ∷ 25 ∷ 1957 ∷ []) } ∷
+    record { found = fields (fromNumber 2292000); expected = done (2 ∷ 29 ∷ 2000 ∷ []) } ∷
+    record { found = fields (fromNumber 2291900); expected = record { number = 6; place = 0; written = 0 ∷ 0 ∷ 0 ∷ [] } } ∷
     writes (pos 0) (0x02 ∷ 0x01 ∷ 0x00 ∷ []) ∷
     writes (pos 127) (0x02 ∷ 0x01 ∷ 0x7F ∷ []) ∷
     writes (pos 128) (0x02 ∷ 0x02 ∷ 0x00 ∷ 0x80 ∷ []) ∷

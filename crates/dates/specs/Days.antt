@@ -1,17 +1,41 @@
--- Which days exist, a date's number and its three bytes (document 01, Dates; Doc 9303-13, 2.3.1).
+-- Which days exist (document 02, Ticket 3), a date's number and its three bytes (document 01, Dates; Doc 9303-13, 2.3.1).
 -- Assumes nothing.
+pub mod Calendar
 pub mod Laws
 use mathlib.Core.Path.{_≡_}
-use mathlib.Core.Bool.{Bool, true}
+use mathlib.Core.Bool.{Bool, true, false}
 use Prim.Native.Nat.{ℕ, _+_, _*_, _/_, _%_, _<_, _≤_}
 use mathlib.Core.List.{List}
+use lib.Dec.{eqb}
 use Rattle.format.specs.BigEndian.{be}
-use Rattle.format.specs.Choice.{both, within}
+use Rattle.format.specs.Choice.{pick, both, either, within}
 use Rattle.dates.specs.declared.Date.{Date}
 
--- month 1 to 12, day 1 to 31, year 1 to 9999
+-- k goes into n without a remainder
+abbrev pub divides : ℕ → ℕ → Bool
+divides k n = eqb (n % k) 0
+
+-- Leap years, by 4, 100 and 400: every fourth year is one, but no hundredth year is, save every four-hundredth.
+abbrev pub isLeap : ℕ → Bool
+isLeap year =
+    pick (divides 400 year) true
+    (pick (divides 100 year) false
+    (divides 4 year))
+
+-- Thirty days have April, June, September and November;
+abbrev pub hasThirty : ℕ → Bool
+hasThirty month = either (eqb month 4) (either (eqb month 6) (either (eqb month 9) (eqb month 11)))
+
+-- February has 28, in a leap year 29; and all the rest have 31.
+abbrev pub daysIn : ℕ → ℕ → ℕ
+daysIn year month =
+    pick (hasThirty month) 30
+    (pick (eqb month 2) (pick (isLeap year) 29 28)
+    31)
+
+-- A day of the Gregorian calendar: month 1 to 12, year 1 to 9999, and a day from the first to the last of that month.
 unfoldable pub isDay : Date → Bool
-isDay d = both (within 1 12 (d .month)) (both (within 1 31 (d .day)) (within 1 9999 (d .year)))
+isDay d = both (within 1 12 (d .month)) (both (within 1 9999 (d .year)) (within 1 (daysIn (d .year) (d .month)) (d .day)))
 
 abbrev pub Day : Date → Type 0
 Day d = isDay d ≡ true

@@ -1,5 +1,5 @@
--- The first and the last day. And the calls, exactly: a number gives the day whose number it is, a day its number, and three bytes the day
--- whose published form they are.
+-- The first and the last day, and one that there never is. And the calls, exactly: a number gives the day whose number it is, a day its
+-- number, and three bytes the day whose published form they are.
 -- Assumes nothing.
 use mathlib.Core.Path.{_≡_, refl, ap, sym, _∙_}
 use mathlib.Core.Bool.{false}
@@ -12,8 +12,10 @@ use Rattle.format.specs.BigEndian.{be, val}
 use Rattle.format.specs.BigEndian.Laws.{be-val}
 use Rattle.format.specs.Choice.Laws.{by-test}
 use Rattle.format.specs.Answers.{result, refusal}
-use Rattle.dates.specs.Days.{isDay, Day, firstDay, lastDay, NotAfter, numberOf, dateOf, publish}
-use Rattle.dates.specs.Days.Laws.{day-bounds, number-above, number-below, fields-not-after, number-date, date-number, val-publish}
+use Rattle.dates.specs.Days.{isDay, Day, dated, firstDay, lastDay, NotAfter, numberOf, dateOf, publish}
+use Rattle.dates.specs.Days.Calendar.{february-most}
+use Rattle.dates.specs.Days.Laws.{day-bounds, no-day, number-above, number-below, fields-not-after}
+use Rattle.dates.specs.Days.Laws.{number-date, date-number, val-publish}
 use Rattle.dates.specs.Calls.{no-date, fromNumber, toNumber}
 use Rattle.dates.specs.declared.Date.{Date}
 
@@ -35,6 +37,10 @@ last-day = (
       let b = day-bounds d h in
       (fields-not-after d lastDay (b .year .1) (b .month .1) (b .day .1), number-below d h),
 )
+
+-- No year has a 30 February.
+pub no-february-30 : (year : ℕ) → isDay (dated 2 30 year) ≡ false
+no-february-30 year = sym (no-day (dated 2 30 year) (λ b. omega (arith, b .real, february-most year)))
 
 -- what each call answers, by the test of the day
 pub from-day : (n : ℕ) → Day (dateOf n) → fromNumber n ≡ result (dateOf n)

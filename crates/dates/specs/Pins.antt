@@ -1,10 +1,14 @@
--- Computed examples: the bytes of one date, and the first and last month, day and year, each with the one past it.
+-- Computed examples: the bytes of one date; the first and last month, day and year, each with the one past it; leap years, and the last
+-- day of each month with the one past it.
 -- Assumes nothing.
 use mathlib.Core.Path.{_≡_, refl}
-use mathlib.Core.List.{[], _∷_}
+use mathlib.Core.Bool.{Bool, true, false, not}
+use Prim.Native.Nat.{ℕ, suc}
+use mathlib.Core.List.{List, [], _∷_, map}
 use Rattle.format.specs.BigEndian.{be}
+use Rattle.format.specs.Choice.{both}
 use Rattle.format.specs.Answers.{result, refusal}
-use Rattle.dates.specs.Days.{isDay, publish}
+use Rattle.dates.specs.Days.{isDay, dated, publish}
 use Rattle.dates.specs.Calls.{no-date, fromNumber, toNumber}
 
 -- 25 March 1957
@@ -55,3 +59,22 @@ year-0 = refl
 year-10000 : toNumber (record { month = 1; day = 1; year = 10000 }) ≡ refusal 0 22
 unfolding toNumber isDay
 year-10000 = refl
+
+-- 29 February of 2000 and of 2004 is a day, of 1900 and of 2100 it is none
+leap-days : map (λ year. isDay (dated 2 29 year)) (1900 ∷ 2000 ∷ 2004 ∷ 2100 ∷ []) ≡ false ∷ true ∷ true ∷ false ∷ []
+unfolding isDay
+leap-days = refl
+
+-- the months' last days in order, of a common year and of a leap year: each is a day, and the next is none
+endsOf : ℕ → ℕ → List ℕ → Bool
+endsOf year month [] = true
+endsOf year month (last ∷ rest) =
+    both (isDay (dated month last year)) (both (not (isDay (dated month (suc last) year))) (endsOf year (suc month) rest))
+
+common-year : endsOf 2100 1 (31 ∷ 28 ∷ 31 ∷ 30 ∷ 31 ∷ 30 ∷ 31 ∷ 31 ∷ 30 ∷ 31 ∷ 30 ∷ 31 ∷ []) ≡ true
+unfolding endsOf isDay
+common-year = refl
+
+leap-year : endsOf 2000 1 (31 ∷ 29 ∷ 31 ∷ 30 ∷ 31 ∷ 30 ∷ 31 ∷ 31 ∷ 30 ∷ 31 ∷ 30 ∷ 31 ∷ []) ≡ true
+unfolding endsOf isDay
+leap-year = refl

@@ -5,6 +5,8 @@ ghost use Rattle.format.specs.BigEndian.{val};
 ghost use Rattle.dates.specs.Days.{isDay, dated, firstDay, lastDay};
 ghost use Rattle.dates.specs.Calls.{takenOf, numberedOf, fromNumber, toNumber};
 
+mod calendar;
+
 pub struct Date {
     pub month: usize,
     pub day: usize,
@@ -56,7 +58,7 @@ impl Date {
         Date::LAST
     }
 
-    // Whether there is such a day: from the first to the last in each field.
+    // Whether there is such a day: month and year from the first to the last, and a day of that month.
     pub fn is_day(self) -> bool
         ensures { λ r. ⌜ r ≡ isDay self ⌝ }
     {
@@ -68,16 +70,16 @@ impl Date {
         if last.month < self.month {
             return false;
         }
-        if self.day < first.day {
-            return false;
-        }
-        if last.day < self.day {
-            return false;
-        }
         if self.year < first.year {
             return false;
         }
-        self.year <= last.year
+        if last.year < self.year {
+            return false;
+        }
+        if self.day < first.day {
+            return false;
+        }
+        self.day <= calendar::days_in(self.year, self.month)
     }
 
     // The date whose number MMDDYYYY this is.

@@ -89,14 +89,14 @@ before-a e = ⊎-elim (λ l. omega (arith, l .0)) (λ d. omega (arith, d .1)) e
 before-0 : LetterOrDigit 47 → ⊥
 before-0 e = no-letter-or-digit 47 (omega arith) e
 
--- dates: each of the two is judged
-issued-32 : LegalHeader (with-dates (record { month = 1; day = 32; year = 2000 }) spring) → ⊥
+-- dates: each of the two is judged, by the calendar
+issued-february-30 : LegalHeader (with-dates (record { month = 2; day = 30; year = 2000 }) spring) → ⊥
 unfolding isDay
-issued-32 l = let e = l .issued in let z : _≡_ {A = ℕ} 0 1 = cc in omega arith
+issued-february-30 l = let e = l .issued in let z : _≡_ {A = ℕ} 0 1 = cc in omega arith
 
-signed-32 : LegalHeader (with-dates spring (record { month = 1; day = 32; year = 2000 })) → ⊥
+signed-february-30 : LegalHeader (with-dates spring (record { month = 2; day = 30; year = 2000 })) → ⊥
 unfolding isDay
-signed-32 l = let e = l .signed in let z : _≡_ {A = ℕ} 0 1 = cc in omega arith
+signed-february-30 l = let e = l .signed in let z : _≡_ {A = ℕ} 0 1 = cc in omega arith
 
 -- features: 7, 8, 7; version 3 with 256 bytes; a value that is no byte
 seven-again :

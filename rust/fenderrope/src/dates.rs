@@ -22,7 +22,7 @@ impl Date {
     /// ```
     /// use fenderrope::Date;
     /// assert_eq!(Date::from_number(3251957), Ok(Date { month: 3, day: 25, year: 1957 }));
-    /// assert_eq!(Date::from_number(3321957).unwrap_err().number, 6);
+    /// assert_eq!(Date::from_number(2301957).unwrap_err().number, 6);
     /// ```
     pub fn from_number(number: usize) -> Result<Date, Refusal> {
         let answer = face::date_from_number(number);
@@ -38,7 +38,7 @@ impl Date {
     /// ```
     /// use fenderrope::Date;
     /// assert_eq!(Date::LAST.number(), Ok(12319999));
-    /// assert_eq!(Date { month: 13, ..Date::LAST }.number().unwrap_err().number, 22);
+    /// assert_eq!(Date { month: 11, ..Date::LAST }.number().unwrap_err().number, 22);
     /// ```
     pub fn number(self) -> Result<usize, Refusal> {
         let answer = face::date_to_number(self);

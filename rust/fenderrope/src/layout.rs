@@ -5,13 +5,13 @@
 
 use core::mem::{align_of, offset_of, size_of};
 
-/// A date: month 1 to 12, day 1 to 31, year 1 to 9999. A call refuses a date outside these.
+/// A date. A call refuses one that is no day of the Gregorian calendar, years 1 to 9999.
 #[derive(Debug, Clone, Copy, PartialEq, Eq, Hash, Default)]
 #[repr(C)]
 pub struct Date {
     /// 1 to 12.
     pub month: usize,
-    /// 1 to 31.
+    /// 1 to the month's last.
     pub day: usize,
     /// 1 to 9999.
     pub year: usize,

@@ -1,4 +1,4 @@
-//! Dates (document 01, "Dates (2.3.1)").
+//! Dates (document 01, "Dates (2.3.1)"; document 02, Ticket 3).
 
 use crate::{Date, Dated, Numbered};
 
@@ -7,9 +7,25 @@ impl Date {
     pub const FIRST: Date = Date { month: 1, day: 1, year: 1 };
     pub const LAST: Date = Date { month: 12, day: 31, year: 9999 };
 
-    /// "Month 1 to 12, day 1 to 31, year 1 to 9999."
+    /// "A date must be a real day of the Gregorian calendar, years 1 to 9999."
     fn exists(&self) -> bool {
-        (1..=12).contains(&self.month) && (1..=31).contains(&self.day) && (1..=9999).contains(&self.year)
+        (1..=9999).contains(&self.year) && (1..=days_of(self.month, self.year)).contains(&self.day)
+    }
+}
+
+/// "Leap years by the usual rule of 4, 100 and 400."
+fn is_leap(year: usize) -> bool {
+    year % 4 == 0 && (year % 100 != 0 || year % 400 == 0)
+}
+
+/// How many days the month has in that year; none if there is no such month.
+pub(crate) fn days_of(month: usize, year: usize) -> usize {
+    match month {
+        1 | 3 | 5 | 7 | 8 | 10 | 12 => 31,
+        4 | 6 | 9 | 11 => 30,
+        2 if is_leap(year) => 29,
+        2 => 28,
+        _ => 0,
     }
 }
 

@@ -1,4 +1,4 @@
-//! A second, independent reading of document 01, in plain Rust.
+//! A second, independent reading of documents 01 and 02, in plain Rust.
 //!
 //! It was written from the document, docs/NUMBERS.md and the decisions, without sight of the proved code or its specs,
 //! and in another structure: the reader is a set of small parsers over the bytes that are left, the writer builds the
@@ -33,7 +33,7 @@ pub const LONGEST_SEAL: usize = 4096;
 /// "Signature size n: 28, 32, 48, 64 or 66; raw length 2n."
 pub const SIGNATURE_SIZES: [usize; 5] = [28, 32, 48, 64, 66];
 
-/// "Month 1 to 12, day 1 to 31, year 1 to 9999."
+/// A month, a day and a year; not all of them are "a real day of the Gregorian calendar".
 #[derive(Debug, Clone, Copy, PartialEq, Eq, Default)]
 pub struct Date {
     pub month: usize,

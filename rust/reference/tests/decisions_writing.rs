@@ -36,7 +36,10 @@ fn fields_of_the_header() {
     for length in [0, 4, 6, 261, usize::MAX] {
         assert_eq!(header_with(|header| header.length = length), 21);
     }
-    for date in [Date { day: 32, ..Date::FIRST }, Date { year: 0, ..Date::FIRST }, Date { month: 13, ..Date::FIRST }] {
+    let february = Date { month: 2, day: 30, year: 2000 };
+    for date in
+        [february, Date { day: 32, ..Date::FIRST }, Date { year: 0, ..Date::FIRST }, Date { month: 13, ..Date::FIRST }]
+    {
         assert_eq!(header_with(|header| header.issued_on = date), 22);
         assert_eq!(header_with(|header| header.signed_on = date), 22);
     }

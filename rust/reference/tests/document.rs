@@ -68,6 +68,21 @@ fn dates_of_the_document() {
     }
 }
 
+/// Document 02, Ticket 3: "29 February 2000 is good; 29 February 1900 is not."
+#[test]
+fn days_of_the_calendar() {
+    let good = |month, day, year| date_to_number(Date { month, day, year }).number == 0;
+    assert_eq!([1900, 2000, 2004, 2100].map(|year| good(2, 29, year)), [false, true, true, false]);
+    for (year, february) in [(1, 28), (4, 29), (100, 28), (400, 29), (1957, 28), (2000, 29), (2100, 28), (9996, 29)] {
+        let last = [31, february, 31, 30, 31, 30, 31, 31, 30, 31, 30, 31];
+        for (month, last) in (1..).zip(last) {
+            assert!((1..=last).all(|day| good(month, day, year)), "{month} {year}");
+            assert!((last + 1..40).all(|day| !good(month, day, year)), "{month} {year}");
+        }
+    }
+    assert!((0..=10_000).all(|year| !good(2, 30, year)));
+}
+
 #[test]
 fn integers_of_the_document() {
     let cases = [
@@ -173,7 +188,9 @@ fn days_of_a_seal() {
     };
     for place in [10, 13] {
         assert_eq!(read(&with(&seal_a(), place, &day(1, 31, 1957))), (0, 0));
-        assert_eq!(read(&with(&seal_a(), place, &day(2, 31, 1957))), (0, 0));
+        assert_eq!(read(&with(&seal_a(), place, &day(2, 29, 2000))), (0, 0));
+        assert_eq!(read(&with(&seal_a(), place, &day(2, 29, 1900))), (6, place));
+        assert_eq!(read(&with(&seal_a(), place, &day(2, 30, 1957))), (6, place));
         assert_eq!(read(&with(&seal_a(), place, &day(1, 32, 1957))), (6, place));
         assert_eq!(read(&with(&seal_a(), place, &day(1, 31, 0))), (6, place));
         assert_eq!(read(&with(&seal_a(), place, &day(13, 31, 1))), (6, place));

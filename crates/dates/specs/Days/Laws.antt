@@ -17,7 +17,8 @@ use Rattle.format.specs.Choice.{both, within}
 use Rattle.format.specs.Choice.Laws.{by-test, both-true, within-both}
 use Rattle.format.specs.Cut.{Cut}
 use Rattle.format.specs.Cut.Laws.{cut-be, cut-through}
-use Rattle.dates.specs.Days.{isDay, Day, NotAfter, by-year, by-month, by-day, numberOf, dateOf, publish}
+use Rattle.dates.specs.Days.{daysIn, isDay, Day, NotAfter, by-year, by-month, by-day, numberOf, dateOf, publish}
+use Rattle.dates.specs.Days.Calendar.{days-most}
 use Rattle.dates.specs.declared.Date.{Date}
 
 -- what the test of a day says of its fields, as numbers
@@ -25,16 +26,21 @@ pub record Bounds (d : Date) : Type 0 where
   pub month : (1 ≤ d .month) × (d .month ≤ 12)
   pub day : (1 ≤ d .day) × (d .day ≤ 31)
   pub year : (1 ≤ d .year) × (d .year ≤ 9999)
+  pub real : d .day ≤ daysIn (d .year) (d .month)
 
 pub day-bounds : (d : Date) → Day d → Bounds d
 unfolding isDay
 day-bounds d h =
-    let m = both-true (within 1 12 (d .month)) (both (within 1 31 (d .day)) (within 1 9999 (d .year))) h in
-    let r = both-true (within 1 31 (d .day)) (within 1 9999 (d .year)) (m .1) in
+    let last = daysIn (d .year) (d .month) in
+    let m = both-true (within 1 12 (d .month)) (both (within 1 9999 (d .year)) (within 1 last (d .day))) h in
+    let r = both-true (within 1 9999 (d .year)) (within 1 last (d .day)) (m .1) in
+    let day = within-both 1 last (d .day) (r .1) in
+    let most = days-most (d .year) (d .month) in
     record {
       month = within-both 1 12 (d .month) (m .0);
-      day = within-both 1 31 (d .day) (r .0);
-      year = within-both 1 9999 (d .year) (r .1);
+      day = (day .0, omega arith);
+      year = within-both 1 9999 (d .year) (r .0);
+      real = day .1;
     }
 
 -- a field outside its bounds is no day
@@ -42,10 +48,17 @@ pub no-day : (d : Date) → (Bounds d → ⊥) → false ≡ isDay d
 no-day d out = by-test (isDay d) (λ h. absurd (out (day-bounds d h))) sym
 
 -- where all else is within its bounds, the last test settles it
-pub last-test : (d : Date) → 1 ≤ d .month → d .month ≤ 12 → 1 ≤ d .day → d .day ≤ 31 → 1 ≤ d .year → leb (d .year) 9999 ≡ isDay d
+pub last-test :
+    (d : Date) →
+    1 ≤ d .month →
+    d .month ≤ 12 →
+    1 ≤ d .year →
+    d .year ≤ 9999 →
+    1 ≤ d .day →
+    leb (d .day) (daysIn (d .year) (d .month)) ≡ isDay d
 unfolding isDay
-last-test d m m′ a a′ y =
-    simp (le-leb 1 (d .month) m, le-leb (d .month) 12 m′, le-leb 1 (d .day) a, le-leb (d .day) 31 a′, le-leb 1 (d .year) y)
+last-test d m m′ y y′ a =
+    simp (le-leb 1 (d .month) m, le-leb (d .month) 12 m′, le-leb 1 (d .year) y, le-leb (d .year) 9999 y′, le-leb 1 (d .day) a)
 
 -- the last day's number is the greatest, and it fits three bytes
 pub number-below : (d : Date) → Day d → numberOf d ≤ 12319999

@@ -60,13 +60,14 @@ named-7 :
 unfolding decode pairOf single values theChart valueOf
 named-7 = refl
 
--- 25 March 1957; no such date; and one that is cut short
+-- 25 March 1957; no such date: nothing but zeros, and 30 February 1957; and one that is cut short
 dates :
     (date 0 (0x31 ∷ 0x9E ∷ 0xF5 ∷ []) ≡ is (record { month = 3; day = 25; year = 1957 }) 3)
     × (date 0 (0 ∷ 0 ∷ 0 ∷ []) ≡ not rule.IsDay 0)
+    × (date 0 (0x23 ∷ 0x20 ∷ 0x05 ∷ []) ≡ not rule.IsDay 0)
     × (date 0 (0 ∷ 0 ∷ []) ≡ not rule.There 0)
 unfolding isDay val
-dates = (refl, refl, refl)
+dates = (refl, refl, refl, refl)
 
 lasts :
     (last 0 (0 ∷ []) ≡ not rule.OneTo254 0)

@@ -4,6 +4,7 @@
 //! FR_INPUTS is how many inputs are drawn, two million if it is not given; FR_SEED is the seed, 1 if it is not given.
 
 mod back;
+mod days;
 mod lent;
 mod library;
 mod show;
@@ -30,16 +31,20 @@ fn setting(name: &str, otherwise: u64) -> u64 {
     }
 }
 
-/// Puts drawn calls to the programs and to the reference; how often each answer was given, or the first difference.
+/// Puts drawn calls to the programs and to the reference; how often each answer was given and the calendar decided, or
+/// the first difference.
 fn compare(seed: u64, count: u64, programs: &[Program]) -> Result<Counts, String> {
-    let (mut inputs, mut counts) = (Inputs::new(seed), Counts::new());
+    let (mut inputs, mut counts) = (Inputs::new(seed), Counts::default());
     for at in 0..count {
         let call = inputs.next();
         let expected = run(&Reference, &call);
         let agreed = programs.iter().try_for_each(|program| agrees(program, &call, &expected));
         let agreed = agreed.and_then(|()| back::back(&call, &expected));
         agreed.map_err(|said| told(seed, at, &call, &said, &expected))?;
-        *counts.entry(expected.answer.told().0).or_default().entry(call.name()).or_default() += 1;
+        *counts.answers.entry(expected.answer.told().0).or_default().entry(call.name()).or_default() += 1;
+        if let Some(decided) = days::decided(&call, &expected) {
+            *counts.dates.entry(decided).or_default().entry(call.name()).or_default() += 1;
+        }
     }
     Ok(counts)
 }
@@ -69,5 +74,8 @@ fn the_library_answers_as_the_reference_does() {
     // Straight to standard output, as the test harness keeps back what a passing test prints.
     let table = format!("{count} inputs of seed {seed}, no difference, {seconds:.1} s\nanswer     times   by call\n");
     stdout().write_all((table + &show::counts(&counts)).as_bytes()).expect("standard output");
-    assert!(counts.into_keys().eq(answers()), "not every answer of the base was given, or one that is none of its own");
+    assert!(counts.answers.into_keys().eq(answers()), "not every answer was given, or one that is none");
+    for decided in [days::PAST_ITS_MONTH, days::LEAP_DAY] {
+        assert_eq!(counts.dates[decided].len(), 5, "a date {decided}: not by every call that takes dates");
+    }
 }

@@ -4,8 +4,15 @@ use std::collections::BTreeMap;
 
 use reference::inputs::{Call, Outcome};
 
-/// How often each call gave each number.
-pub type Counts = BTreeMap<usize, BTreeMap<&'static str, u64>>;
+/// How often, by call.
+type ByCall = BTreeMap<&'static str, u64>;
+
+/// How often each call gave each number, and how often the calendar decided.
+#[derive(Debug, Default)]
+pub struct Counts {
+    pub answers: BTreeMap<usize, ByCall>,
+    pub dates: BTreeMap<&'static str, ByCall>,
+}
 
 fn hex(bytes: &[u8]) -> String {
     bytes.iter().map(|byte| format!("{byte:02X}")).collect()
@@ -43,11 +50,13 @@ pub fn outcome(outcome: &Outcome) -> String {
     format!("{answer:?}\n  table {table:X?}\n  bytes {}", hex(bytes))
 }
 
-/// One line for each number: how often it was given, and by which calls.
+/// One line for each number: how often it was given, and by which calls. Then the same for what the calendar decided.
 pub fn counts(counts: &Counts) -> String {
-    let line = |(number, by_call): (&usize, &BTreeMap<&str, u64>)| {
+    let times = |by_call: &ByCall| {
         let calls: Vec<_> = by_call.iter().map(|(name, count)| format!("{name} {count}")).collect();
-        format!("{number:6} {:9}   {}\n", by_call.values().sum::<u64>(), calls.join(", "))
+        format!("{:9}   {}\n", by_call.values().sum::<u64>(), calls.join(", "))
     };
-    counts.iter().map(line).collect()
+    let answers = counts.answers.iter().map(|(number, by_call)| format!("{number:6} {}", times(by_call)));
+    let dates = counts.dates.iter().map(|(decided, by_call)| format!("date {decided}\n       {}", times(by_call)));
+    answers.chain(dates).collect()
 }

@@ -1,5 +1,7 @@
 //! The comparison notices: programs that answer as the reference does but for one fault.
 
+use std::ops::RangeInclusive;
+
 use reference::inputs::{run, Answer, Call, Outcome, Reference};
 use reference::{Date, Dated, Reading};
 
@@ -20,18 +22,28 @@ fn noticed(fault: impl Fn(&Call, &mut Outcome), shown: &str) {
 #[test]
 fn no_fault_is_no_difference() {
     let right = |call: &Call| Ok(run(&Reference, call));
-    assert_eq!(compare(1, 50_000, &[("right", &right)]).map(|counts| counts.len()), Ok(33));
+    assert_eq!(compare(1, 50_000, &[("right", &right)]).map(|counts| counts.answers.len()), Ok(33));
+}
+
+/// A program that takes this day in the months given.
+fn takes(day: usize, months: RangeInclusive<usize>) -> impl Fn(&Call, &mut Outcome) {
+    move |call, outcome| {
+        let Call::DateFromNumber(number) = call else { return };
+        let date = Date { month: number / 1_000_000, day: number / 10_000 % 100, year: number % 10_000 };
+        if date.day == day && months.contains(&date.month) && date.year != 0 {
+            outcome.answer = Answer::Dated(Dated { date, ..Dated::default() });
+        }
+    }
 }
 
 #[test]
 fn day_32_is_noticed() {
-    let fault = |call: &Call, outcome: &mut Outcome| {
-        if let Call::DateFromNumber(number @ 1_320_001..=1_329_999) = call {
-            let date = Date { month: 1, day: 32, year: number % 10_000 };
-            outcome.answer = Answer::Dated(Dated { date, ..Dated::default() });
-        }
-    };
-    noticed(fault, "day: 32");
+    noticed(takes(32, 1..=12), "day: 32");
+}
+
+#[test]
+fn february_30_is_noticed() {
+    noticed(takes(30, 2..=2), "month: 2, day: 30");
 }
 
 #[test]

@@ -1,7 +1,7 @@
 //! Inputs of the C40, date and INTEGER calls.
 
 use super::random::Random;
-use super::{forms, seals, writer, Call};
+use super::{days, forms, Call};
 use crate::{c40, Date};
 
 const CHART: &[u8] = b" 0123456789ABCDEFGHIJKLMNOPQRSTUVWXYZ";
@@ -68,22 +68,22 @@ pub(super) fn c40_write(random: &mut Random) -> Call {
 
 /// A number that is a date's, or nearly, or any.
 pub(super) fn date_number(random: &mut Random) -> usize {
-    let Date { month, day, year } = seals::legal_date(random);
-    let number = month * 1_000_000 + day * 10_000 + year;
-    match random.below(6) {
-        0 => forms::wrong_day(random),
-        1 => random.pick(&[usize::MAX, usize::MAX - 1, 1 << 24, 112_319_999, 13_010_001, number + (1 << 32)]),
-        2 => random.number() as usize,
-        3 => random.below(13_500_000),
+    let Date { month, day, year } = days::day(random);
+    let number = days::number(month, day, year);
+    match random.below(7) {
+        0 | 1 => days::wrong_number(random),
+        2 => random.pick(&[usize::MAX, usize::MAX - 1, 1 << 24, 112_319_999, 13_010_001, number + (1 << 32)]),
+        3 => random.number() as usize,
+        4 => random.below(13_500_000),
         _ => number,
     }
 }
 
 pub(super) fn date(random: &mut Random) -> Date {
     match random.below(5) {
-        0 | 1 => seals::legal_date(random),
+        0 | 1 => days::day(random),
         2 => Date { month: random.below(15), day: random.below(34), year: random.below(10_002) },
-        _ => writer::date(random),
+        _ => days::about(random),
     }
 }
 

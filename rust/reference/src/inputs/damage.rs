@@ -1,8 +1,8 @@
 //! Seals that are damaged: in one item, of which a wrong form is put in its place, or in their bytes.
 
-use super::forms;
 use super::random::Random;
 use super::seals::{join, Draft, Kind, Piece, LETTERS, LETTERS_AND_DIGITS};
+use super::{days, forms};
 use crate::{c40, der, LONGEST_SEAL};
 
 /// The draft's bytes after so many damages. Items are damaged first, then bytes.
@@ -90,7 +90,7 @@ fn item(random: &mut Random, draft: &Draft, pieces: &mut Vec<Piece>) {
         Version => vec![random.pick(&[0x00, 0x01, 0x02, 0x03, 0x04, 0x05, 0x82, 0xDC, 0xFF])],
         Country => wrong_country(random),
         Names | Signer | Reference => wrong_names(random, *kind, bytes),
-        Day => forms::wrong_day(random).to_be_bytes()[5..].to_vec(),
+        Day => days::wrong_number(random).to_be_bytes()[5..].to_vec(),
         LastByte => vec![random.pick(&[0x00, 0xFF])],
         Tag | End => vec![random.pick(&[0x00, 0xFE, 0xFF])],
         Length => forms::wrong_length(random, pieces.get(index + 1).map_or(0, |value| value.1.len())),

@@ -1,4 +1,4 @@
-//! Wrong forms of single items: C40 pairs, dates and DER lengths.
+//! Wrong forms of single items: C40 pairs and DER lengths.
 
 use super::random::Random;
 
@@ -24,20 +24,6 @@ pub(super) fn wrong_pair(random: &mut Random) -> [u8; 2] {
             values[random.below(3)] = random.below(3);
             pair(values[0], values[1], values[2])
         }
-    }
-}
-
-/// A number of three bytes that is no date, or just one.
-pub(super) fn wrong_day(random: &mut Random) -> usize {
-    let month = random.pick(&[0, 1, 1, 12, 13, 16]);
-    let day = random.pick(&[0, 1, 31, 32, 99]);
-    let year = random.pick(&[0, 0, 1, 9999]);
-    match random.below(6) {
-        0 => random.pick(&[0, 1, 1_010_000, 12_320_000, 12_319_999 + 2, 0xFF_FFFF]),
-        1 => random.below(1 << 24),
-        2 => random.within(1, 12) * 1_000_000 + random.within(1, 31) * 10_000,
-        3 => random.within(1, 12) * 1_000_000 + random.within(32, 99) * 10_000 + random.within(1, 9999),
-        _ => (month * 1_000_000 + day * 10_000 + year) & 0xFF_FFFF,
     }
 }
 

@@ -10,6 +10,7 @@
 
 mod codecs;
 mod damage;
+mod days;
 mod forms;
 mod outcome;
 mod random;

@@ -1,5 +1,6 @@
 //! Legal contents of all shapes, and the items they are published as.
 
+use super::days;
 use super::random::Random;
 use crate::{c40, dates, der, Date, Header, LONGEST_SEAL, SIGNATURE_SIZES};
 
@@ -53,8 +54,8 @@ impl Draft {
             country: country(random),
             signer: [random.text(2, LETTERS), random.text(2, LETTERS_AND_DIGITS)].concat(),
             reference: reference(random, version),
-            issued_on: legal_date(random),
-            signed_on: legal_date(random),
+            issued_on: days::day(random),
+            signed_on: days::day(random),
             definition: last_byte(random),
             category: last_byte(random),
             features: Vec::new(),
@@ -186,16 +187,6 @@ fn reference(random: &mut Random, version: usize) -> Vec<u8> {
         _ => random.within(1, 9),
     };
     random.text(length, LETTERS_AND_DIGITS)
-}
-
-pub(super) fn legal_date(random: &mut Random) -> Date {
-    let last = Date { month: 12, day: 31, year: 9999 };
-    match random.below(8) {
-        0 => Date { month: 1, day: 1, year: 1 },
-        1 => last,
-        2 => Date { month: random.pick(&[1, 12]), day: random.pick(&[1, 31]), year: random.pick(&[1, 9999]) },
-        _ => Date { month: random.within(1, 12), day: random.within(1, 31), year: random.within(1, 9999) },
-    }
 }
 
 fn last_byte(random: &mut Random) -> u8 {

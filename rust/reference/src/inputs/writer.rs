@@ -1,9 +1,9 @@
 //! What the writer is asked for: legal contents, and damaged ones for each of its answers, alone and several at once.
 
 use super::random::Random;
-use super::seals::{legal_date, Draft};
-use super::Call;
-use crate::{Date, Header, LONGEST_SEAL};
+use super::seals::Draft;
+use super::{days, Call};
+use crate::{Header, LONGEST_SEAL};
 
 /// The arguments of one writing.
 struct Asked {
@@ -92,8 +92,8 @@ fn damage(random: &mut Random, asked: &mut Asked) {
         2 => country(random, &mut asked.header.country),                            // 21
         3 | 4 => text(random, &mut asked.text),                                     // 21
         5 => asked.header.length = other_length(random, asked.header.length),       // 21
-        6 => asked.header.issued_on = date(random),                                 // 22
-        7 => asked.header.signed_on = date(random),                                 // 22
+        6 => asked.header.issued_on = days::about(random),                          // 22
+        7 => asked.header.signed_on = days::about(random),                          // 22
         8 => asked.header.definition = random.pick(&[0, 255, 256, 257, 510, MAX]),  // 23
         9 => asked.header.category = random.pick(&[0, 255, 256, 257, 510, MAX]),    // 23
         10 => threes(random, &mut asked.rows),                                      // 24
@@ -144,17 +144,6 @@ fn whole_text(random: &mut Random, asked: &mut Asked) {
 
 fn other_length(random: &mut Random, length: usize) -> usize {
     random.pick(&[length.wrapping_add(1), length.wrapping_sub(1), length.wrapping_add(256), 0, 256, MAX])
-}
-
-/// A date with a field at or past a border.
-pub(super) fn date(random: &mut Random) -> Date {
-    let mut date = legal_date(random);
-    match random.below(3) {
-        0 => date.month = random.pick(&[0, 1, 12, 13, 13, 257, MAX]),
-        1 => date.day = random.pick(&[0, 1, 31, 32, 32, 100, 257, MAX]),
-        _ => date.year = random.pick(&[0, 0, 1, 9999, 10_000, 10_001, MAX]),
-    }
-    date
 }
 
 /// A table that is not in threes.

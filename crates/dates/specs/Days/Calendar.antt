@@ -1,0 +1,93 @@
+-- Laws of the calendar: what a month's days are at most; and how leap years and lengths of months are told without a division.
+-- Assumes nothing.
+use mathlib.Core.Path.{_≡_, refl, ap, sym, _∙_}
+use mathlib.Core.Bool.{Bool, true, false}
+use mathlib.Core.Logic.{⊎-elim}
+use Prim.Native.Nat.{ℕ, zero, suc, _+_, _-_, _*_, _/_, _%_, _<_, _≤_}
+use native.Mathlib.Nat.{eq-or-lt-of-le}
+use native.Mathlib.Omega.{arith}
+use borrow.Author.Tests.{eq-eqb, ne-eqb, eqb-true, eqb-false}
+use lib.Dec.{eqb}
+use Rattle.format.specs.Choice.{pick, both, either}
+use Rattle.format.specs.Choice.Laws.{by-test, both-true}
+use Rattle.dates.specs.Days.{isLeap, hasThirty, daysIn}
+
+-- February has at most 29 days, and no month more than 31
+pub february-most : (year : ℕ) → daysIn year 2 ≤ 29
+february-most year = by-test (isLeap year) (λ l. rw l (omega arith)) (λ l. rw l (omega arith))
+
+pub days-most : (year month : ℕ) → daysIn year month ≤ 31
+days-most year month =
+    by-test (hasThirty month)
+    (λ e. rw e (omega arith))
+    (λ e.
+    by-test (eqb month 2)
+    (λ f. rw (e, f) (omega (arith, february-most year)))
+    (λ f. rw (e, f) (omega arith)))
+
+-- what 25 and 4 divide, 100 divides; what 25 and 16 divide, 400 divides
+hundredth : (n : ℕ) → n % 25 ≡ 0 → n % 4 ≡ 0 → n % 100 ≡ 0
+hundredth n a b = let times : n ≡ 100 * (n / 4 - 6 * (n / 25)) = omega arith in omega arith
+
+four-hundredth : (n : ℕ) → n % 25 ≡ 0 → n % 16 ≡ 0 → n % 400 ≡ 0
+four-hundredth n a b = let times : n ≡ 400 * (9 * (n / 16) - 14 * (n / 25)) = omega arith in omega arith
+
+multiple : (k n : ℕ) → n ≡ 25 * k → n % 25 ≡ 0
+multiple k n e = omega arith
+
+-- of the years that 25 divides, the leap years are those that 16 divides
+pub leap-by-16 : (year : ℕ) → year % 25 ≡ 0 → eqb (year % 16) 0 ≡ isLeap year
+leap-by-16 year h =
+    by-test (eqb (year % 16) 0)
+    (λ e. rw (e, eq-eqb (year % 400) 0 (four-hundredth year h (eqb-true (year % 16) 0 e))) refl)
+    (λ e.
+    let other : year % 400 ≡ 0 → ⊥ = λ f. eqb-false (year % 16) 0 e (omega arith) in
+    rw (e, ne-eqb (year % 400) 0 other)
+    (by-test (eqb (year % 100) 0)
+    (λ f. rw f refl)
+    (λ f. rw (f, ne-eqb (year % 4) 0 (λ g. eqb-false (year % 100) 0 f (hundredth year h g))) refl)))
+
+-- of the others, those that 4 divides
+pub leap-by-4 : (year : ℕ) → (year % 25 ≡ 0 → ⊥) → eqb (year % 4) 0 ≡ isLeap year
+leap-by-4 year h =
+    let no-hundredth : year % 100 ≡ 0 → ⊥ = λ e. h (omega arith) in
+    let no-four-hundredth : year % 400 ≡ 0 → ⊥ = λ e. h (omega arith) in
+    rw (ne-eqb (year % 100) 0 no-hundredth, ne-eqb (year % 400) 0 no-four-hundredth) refl
+
+-- whether 25 divides a year of four digits: into it 25 goes year * 5243 / 2 ^ 17 times
+pub divided : (year : ℕ) → year * 5243 / 131072 * 25 ≡ year → year % 25 ≡ 0
+divided year e = let times : year ≡ 25 * (year * 5243 / 131072) = omega (arith, e) in multiple (year * 5243 / 131072) year times
+
+pub not-divided : (year : ℕ) → year ≤ 9999 → (year * 5243 / 131072 * 25 ≡ year → ⊥) → year % 25 ≡ 0 → ⊥
+not-divided year h other e = let times : year * 5243 / 131072 ≡ year / 25 = omega arith in other (omega (arith, times))
+
+-- a test that each number below n passes, and what that says of one of them
+passes : (ℕ → Bool) → ℕ → Bool
+passes test zero = true
+passes test (suc n) = both (passes test n) (test n)
+
+passed : (test : ℕ → Bool) (n : ℕ) → passes test n ≡ true → (k : ℕ) → k < n → test k ≡ true
+unfolding passes
+passed test zero e k h = absurd (omega arith)
+passed test (suc n) e k h =
+    let t = both-true (passes test n) (test n) e in
+    let before = passed test n (t .0) in
+    let most : k ≤ n = omega arith in
+    ⊎-elim (λ same. ap test same ∙ t .1) (before k) (eq-or-lt-of-le most)
+
+-- but for February the months have 31 and 30 days by turns, from January and again from August
+byTurns : ℕ → ℕ → Bool
+byTurns year month = either (either (eqb month 0) (eqb month 2)) (eqb (30 + (month + month / 8) % 2) (daysIn year month))
+
+each-month : (year : ℕ) → passes (byTurns year) 13 ≡ true
+unfolding passes byTurns
+each-month year = refl
+
+pub by-turns : (year month : ℕ) → 1 ≤ month → month ≤ 12 → (month ≡ 2 → ⊥) → 30 + (month + month / 8) % 2 ≡ daysIn year month
+unfolding byTurns
+by-turns year month low high other =
+    let t = passed (byTurns year) 13 (each-month year) month (omega arith) in
+    let some : month ≡ 0 → ⊥ = λ e. omega arith in
+    let neither : either (eqb month 0) (eqb month 2) ≡ false = rw (ne-eqb month 0 some, ne-eqb month 2 other) refl in
+    let days = 30 + (month + month / 8) % 2 in
+    eqb-true days (daysIn year month) (sym (ap (λ b. either b (eqb days (daysIn year month))) neither) ∙ t)
