@@ -4,9 +4,10 @@
 use mathlib.Core.Path.{_≡_, refl}
 use mathlib.Core.Bool.{Bool, true, false, not}
 use Prim.Native.Nat.{ℕ, suc}
-use mathlib.Core.List.{List, [], _∷_, map}
+use mathlib.Core.List.{[], _∷_, map}
 use Rattle.format.specs.BigEndian.{be}
 use Rattle.format.specs.Choice.{both}
+use Rattle.format.specs.Every.{every}
 use Rattle.format.specs.Answers.{result, refusal}
 use Rattle.dates.specs.Days.{isDay, dated, publish}
 use Rattle.dates.specs.Calls.{no-date, fromNumber, toNumber}
@@ -65,16 +66,14 @@ leap-days : map (λ year. isDay (dated 2 29 year)) (1900 ∷ 2000 ∷ 2004 ∷ 2
 unfolding isDay
 leap-days = refl
 
--- the months' last days in order, of a common year and of a leap year: each is a day, and the next is none
-endsOf : ℕ → ℕ → List ℕ → Bool
-endsOf year month [] = true
-endsOf year month (last ∷ rest) =
-    both (isDay (dated month last year)) (both (not (isDay (dated month (suc last) year))) (endsOf year (suc month) rest))
+-- the last day of each month is a day, and the next is none: from January to December, in a common year and in a leap year
+ends : ℕ → ℕ → ℕ → Bool
+ends year before last = let month = suc before in both (isDay (dated month last year)) (not (isDay (dated month (suc last) year)))
 
-common-year : endsOf 2100 1 (31 ∷ 28 ∷ 31 ∷ 30 ∷ 31 ∷ 30 ∷ 31 ∷ 31 ∷ 30 ∷ 31 ∷ 30 ∷ 31 ∷ []) ≡ true
-unfolding endsOf isDay
+common-year : every (ends 2100) 0 (31 ∷ 28 ∷ 31 ∷ 30 ∷ 31 ∷ 30 ∷ 31 ∷ 31 ∷ 30 ∷ 31 ∷ 30 ∷ 31 ∷ []) ≡ true
+unfolding ends isDay
 common-year = refl
 
-leap-year : endsOf 2000 1 (31 ∷ 29 ∷ 31 ∷ 30 ∷ 31 ∷ 30 ∷ 31 ∷ 31 ∷ 30 ∷ 31 ∷ 30 ∷ 31 ∷ []) ≡ true
-unfolding endsOf isDay
+leap-year : every (ends 2000) 0 (31 ∷ 29 ∷ 31 ∷ 30 ∷ 31 ∷ 30 ∷ 31 ∷ 31 ∷ 30 ∷ 31 ∷ 30 ∷ 31 ∷ []) ≡ true
+unfolding ends isDay
 leap-year = refl

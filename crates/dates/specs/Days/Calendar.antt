@@ -1,15 +1,16 @@
 -- Laws of the calendar: what a month's days are at most; and how leap years and lengths of months are told without a division.
 -- Assumes nothing.
-use mathlib.Core.Path.{_≡_, refl, ap, sym, _∙_}
-use mathlib.Core.Bool.{Bool, true, false}
-use mathlib.Core.Logic.{⊎-elim}
-use Prim.Native.Nat.{ℕ, zero, suc, _+_, _-_, _*_, _/_, _%_, _<_, _≤_}
-use native.Mathlib.Nat.{eq-or-lt-of-le}
+use mathlib.Core.Path.{_≡_, refl, subst, _∙_}
+use mathlib.Core.Bool.{Bool, false}
+use mathlib.Core.List.{List, [], _∷_}
+use Prim.Native.Nat.{ℕ, _+_, _-_, _*_, _/_, _%_, _≤_}
 use native.Mathlib.Omega.{arith}
 use borrow.Author.Tests.{eq-eqb, ne-eqb, eqb-true, eqb-false}
-use lib.Dec.{eqb}
-use Rattle.format.specs.Choice.{pick, both, either}
-use Rattle.format.specs.Choice.Laws.{by-test, both-true}
+use lib.Dec.{T, eqb, eqb→eq}
+use lib.ListN.{getD}
+use Rattle.format.specs.Choice.{either}
+use Rattle.format.specs.Choice.Laws.{by-test}
+use Rattle.format.specs.Every.{every, at-entry}
 use Rattle.dates.specs.Days.{isLeap, hasThirty, daysIn}
 
 -- February has at most 29 days, and no month more than 31
@@ -32,9 +33,6 @@ hundredth n a b = let times : n ≡ 100 * (n / 4 - 6 * (n / 25)) = omega arith i
 four-hundredth : (n : ℕ) → n % 25 ≡ 0 → n % 16 ≡ 0 → n % 400 ≡ 0
 four-hundredth n a b = let times : n ≡ 400 * (9 * (n / 16) - 14 * (n / 25)) = omega arith in omega arith
 
-multiple : (k n : ℕ) → n ≡ 25 * k → n % 25 ≡ 0
-multiple k n e = omega arith
-
 -- of the years that 25 divides, the leap years are those that 16 divides
 pub leap-by-16 : (year : ℕ) → year % 25 ≡ 0 → eqb (year % 16) 0 ≡ isLeap year
 leap-by-16 year h =
@@ -55,39 +53,40 @@ leap-by-4 year h =
     rw (ne-eqb (year % 100) 0 no-hundredth, ne-eqb (year % 400) 0 no-four-hundredth) refl
 
 -- whether 25 divides a year of four digits: into it 25 goes year * 5243 / 2 ^ 17 times
+times-25 : (k n : ℕ) → k * 25 ≡ n → n % 25 ≡ 0
+times-25 k n e = omega arith
+
 pub divided : (year : ℕ) → year * 5243 / 131072 * 25 ≡ year → year % 25 ≡ 0
-divided year e = let times : year ≡ 25 * (year * 5243 / 131072) = omega (arith, e) in multiple (year * 5243 / 131072) year times
+divided year e = times-25 (year * 5243 / 131072) year e
 
 pub not-divided : (year : ℕ) → year ≤ 9999 → (year * 5243 / 131072 * 25 ≡ year → ⊥) → year % 25 ≡ 0 → ⊥
 not-divided year h other e = let times : year * 5243 / 131072 ≡ year / 25 = omega arith in other (omega (arith, times))
 
--- a test that each number below n passes, and what that says of one of them
-passes : (ℕ → Bool) → ℕ → Bool
-passes test zero = true
-passes test (suc n) = both (passes test n) (test n)
+-- 31 and 30 by turns, from month 1 and again from month 8
+turns : List ℕ
+turns = 30 ∷ 31 ∷ 30 ∷ 31 ∷ 30 ∷ 31 ∷ 30 ∷ 31 ∷ 31 ∷ 30 ∷ 31 ∷ 30 ∷ 31 ∷ []
 
-passed : (test : ℕ → Bool) (n : ℕ) → passes test n ≡ true → (k : ℕ) → k < n → test k ≡ true
-unfolding passes
-passed test zero e k h = absurd (omega arith)
-passed test (suc n) e k h =
-    let t = both-true (passes test n) (test n) e in
-    let before = passed test n (t .0) in
-    let most : k ≤ n = omega arith in
-    ⊎-elim (λ same. ap test same ∙ t .1) (before k) (eq-or-lt-of-le most)
+-- a low bit tells them; and but for February, and a month 0, they are how many days the month has
+told : ℕ → ℕ → Bool
+told month days = eqb (30 + (month + month / 8) % 2) days
 
--- but for February the months have 31 and 30 days by turns, from January and again from August
-byTurns : ℕ → ℕ → Bool
-byTurns year month = either (either (eqb month 0) (eqb month 2)) (eqb (30 + (month + month / 8) % 2) (daysIn year month))
+right : ℕ → ℕ → ℕ → Bool
+right year month days = either (either (eqb month 0) (eqb month 2)) (eqb days (daysIn year month))
 
-each-month : (year : ℕ) → passes (byTurns year) 13 ≡ true
-unfolding passes byTurns
-each-month year = refl
+told-everywhere : T (every told 0 turns)
+unfolding told turns
+told-everywhere = tt
+
+right-everywhere : (year : ℕ) → T (every (right year) 0 turns)
+unfolding right turns
+right-everywhere year = tt
 
 pub by-turns : (year month : ℕ) → 1 ≤ month → month ≤ 12 → (month ≡ 2 → ⊥) → 30 + (month + month / 8) % 2 ≡ daysIn year month
-unfolding byTurns
+unfolding told right turns
 by-turns year month low high other =
-    let t = passed (byTurns year) 13 (each-month year) month (omega arith) in
+    let days = getD turns month 0 in
     let some : month ≡ 0 → ⊥ = λ e. omega arith in
     let neither : either (eqb month 0) (eqb month 2) ≡ false = rw (ne-eqb month 0 some, ne-eqb month 2 other) refl in
-    let days = 30 + (month + month / 8) % 2 in
-    eqb-true days (daysIn year month) (sym (ap (λ b. either b (eqb days (daysIn year month))) neither) ∙ t)
+    let is = at-entry (right year) turns (right-everywhere year) month (omega arith) in
+    eqb→eq (30 + (month + month / 8) % 2) days (at-entry told turns told-everywhere month (omega arith)) ∙
+    eqb→eq days (daysIn year month) (subst (λ b. T (either b (eqb days (daysIn year month)))) neither is)

@@ -3,8 +3,10 @@
 use borrow.Author.Needs.{needs}
 use native.Mathlib.Omega.{arith}
 use mathlib.Core.Path.{_≡_, ap, sym, _∙_}
-use Prim.Native.Nat.{_+_, _/_}
-use lib.Bits.{and-mask, mask-lt}
+use Prim.Native.Nat.{ℕ, _+_, _/_}
+use lib.Bits.{bitAnd, and-mask, mask-lt}
+use mir.Syntax.{w64}
+use mir.Val.{Fits}
 use Rattle.format.specs.Choice.{pick}
 use Rattle.dates.specs.Days.{daysIn}
 use Rattle.dates.specs.Days.Calendar.{by-turns}
@@ -27,8 +29,12 @@ returns-2 c = ap (λ b. pick b 29 28) (sym (c .if2 .left) ∙ c .before .is-leap
 add-result : tie.Need-add-result
 add-result c = search needs
 
+-- 30 and a low bit
+bit-fits : (n : ℕ) → Fits w64 (30 + bitAnd n 1)
+bit-fits n = omega (arith, mask-lt n 1)
+
 add-result-2 : tie.Need-add-result-2
-add-result-2 c = omega (arith, mask-lt (c .before .args .month + c .before .args .month / 8) 1)
+add-result-2 c = search bit-fits
 
 returns-3 : tie.Need-returns-3
 returns-3 c =
