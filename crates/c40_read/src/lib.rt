@@ -18,7 +18,7 @@ pub fn read(bytes: &[u8], out: &mut [u8]) -> Reading
     if 4096 < n {
         return Reading::TooLong;
     }
-    if n % 2 == 1 {
+    if n & 1 == 1 {
         return Reading::Odd(n);
     }
     let chart = pairs::the_chart();

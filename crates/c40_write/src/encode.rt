@@ -7,6 +7,7 @@ ghost use Rattle.format.specs.Buffer.{over};
 ghost use Rattle.pairs.specs.Chart.{theChart};
 ghost use Rattle.c40.specs.Text.{Text, publish, width};
 ghost use Rattle.c40.specs.Calls.{known as knownOf};
+use octets::low;
 use pairs::number_of;
 use pairs::number_of_one;
 use pairs::number_of_two;
@@ -35,8 +36,8 @@ pub(crate) fn put_number(number: usize, out: &mut [u8], at: usize)
     requires { ⌜ (number < 65536) × (at + 2 ≤ length (now out)) ⌝ }
     ensures { λ r. ⌜ now (out .exit) ≡ over (now (out .entry)) at (be 2 number) ⌝ }
 {
-    out[at] = (number / 256) as u8;
-    out[at + 1] = (number % 256) as u8;
+    out[at] = low(number >> 8);
+    out[at + 1] = low(number);
 }
 
 // Puts down the C40 bytes of text from the start of `out`, which has room for them.

@@ -22,7 +22,7 @@ pub fn write(text: &[u8], out: &mut [u8]) -> Writing
     if known < n {
         return Writing::Stranger(known);
     }
-    let size = (n + 2) / 3 * 2;
+    let size = octets::threes(n + 2) * 2;
     if out.len() < size {
         return Writing::NoRoom;
     }

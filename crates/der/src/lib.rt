@@ -4,6 +4,7 @@ ghost use Prim.Native.Nat.{_<_};
 ghost use lib.ListN.{length, drop};
 ghost use Rattle.der.specs.Length.{readLength, longForm, lengthForm, written, least as leastOf};
 ghost use Rattle.der.specs.Content.{redundant, strict};
+use octets::low;
 use octets::wide;
 
 // Why there is no DER length at the head of a byte string.
@@ -105,7 +106,7 @@ pub fn length_form(size: usize) -> Form
         return Form::Two(0x81, size as u8);
     }
     if size < 0x10000 {
-        return Form::Three(0x82, (size / 256) as u8, (size % 256) as u8);
+        return Form::Three(0x82, low(size >> 8), low(size));
     }
     Form::Longer
 }

@@ -9,6 +9,7 @@
 --   Cut         a part that can be cut off the front of a byte string in one way only
 --   Answers     what a call answers: Outcome, Answer, Result; what a buffer holds then: filled
 --   Order       refusals in order: a list of tests, the first that fails decides: inOrder
+--   Quotient    a quotient by a constant as a product and a shift
 --   OneToOne    answers that are settled where what is said of them is
 --   Pins        computed examples
 pub mod Choice
@@ -21,5 +22,6 @@ pub mod Places
 pub mod Every
 pub mod Answers
 pub mod Order
+pub mod Quotient
 pub mod Pins
 pub mod OneToOne

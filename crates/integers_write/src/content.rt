@@ -6,6 +6,7 @@ ghost use Rattle.format.specs.BigEndian.{be};
 ghost use Rattle.der.specs.Content.{shortest};
 ghost use Rattle.integers.specs.Integer.{word as wordOf};
 use der::is_redundant;
+use octets::low;
 
 // A number in two's complement of 64 bits.
 pub(crate) fn word(v: i64) -> u64
@@ -22,15 +23,16 @@ pub(crate) fn word(v: i64) -> u64
 pub(crate) fn bytes_of(w: u64) -> [u8; 8]
     ensures { λ r. ⌜ r ≡ be 8 w ⌝ }
 {
+    let n = w as usize;
     [
-        (w / 72057594037927936) as u8,
-        (w / 281474976710656 % 256) as u8,
-        (w / 1099511627776 % 256) as u8,
-        (w / 4294967296 % 256) as u8,
-        (w / 16777216 % 256) as u8,
-        (w / 65536 % 256) as u8,
-        (w / 256 % 256) as u8,
-        (w % 256) as u8,
+        low(n >> 56),
+        low(n >> 48),
+        low(n >> 40),
+        low(n >> 32),
+        low(n >> 24),
+        low(n >> 16),
+        low(n >> 8),
+        low(n),
     ]
 }
 

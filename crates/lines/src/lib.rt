@@ -33,6 +33,7 @@ pub fn put_number(out: &mut [u8], at: usize, n: usize) -> usize
     if n < 10 {
         return put(out, at, b'0' + n as u8);
     }
-    let next = put_number(out, at, n / 10);
-    put(out, next, b'0' + (n % 10) as u8)
+    let most = octets::tens(n);
+    let next = put_number(out, at, most);
+    put(out, next, b'0' + (n - most * 10) as u8)
 }

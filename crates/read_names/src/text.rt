@@ -47,7 +47,7 @@ fn coded(at: Cursor, seal: &[u8], text: &mut [u8]) -> Step
     ensures { λ r. ⌜ stepOf (now (text .exit)) r ≡ read.field (length (now (text .entry))) anyText (at .place) (now (seal .entry)) ⌝ }
 {
     let start = at.place;
-    let Whole::Past(next) = at.skip(seal, (text.len() + 2) / 3 * 2) else {
+    let Whole::Past(next) = at.skip(seal, octets::threes(text.len() + 2) * 2) else {
         return Step::Not(Rule::There, start);
     };
     let end = next.place;

@@ -25,12 +25,13 @@ pub const WIDTH: usize = 3;
 // How many numbers are room for the rows of every seal: it has at most 255 features.
 pub const MOST: usize = 255 * WIDTH;
 
-// Whether a table has whole rows and no number over.
+// Whether a table has whole rows and no number over: the threes in its length, WIDTH being 3, make up the length.
 pub fn is_whole(table: &[usize]) -> bool
     ensures answer { λ r. ⌜ r ≡ isWhole (now (table .entry)) ⌝ }
     ensures wide { λ r. do ⌜ ((← ⟦WIDTH⟧ .entry) ≡ width) × ((← ⟦MOST⟧ .entry) ≡ 255 * width) ⌝ }
 {
-    table.len() % WIDTH == 0
+    let n = table.len();
+    octets::threes(n) * WIDTH == n
 }
 
 // The row whose first number stands at a place, where the table has all its numbers.

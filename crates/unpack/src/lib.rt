@@ -9,14 +9,17 @@ use pairs::Pair;
 use pairs::Values;
 use pairs::value_of;
 
-// The three values of the number that is one more than `n` (Doc 9303-13, 2.6.2).
+// The three values of the number that is one more than `n` (Doc 9303-13, 2.6.2): the forties in `n` leave the third; the forties in these
+// are the first, and leave the second.
 pub fn split(n: usize) -> Values
     ensures { λ r. ⌜ (r .a ≡ first (n + 1)) × ((r .b ≡ second (n + 1)) × (r .c ≡ third (n + 1))) ⌝ }
 {
+    let forties = octets::tens(n) >> 2;
+    let a = octets::tens(forties) >> 2;
     Values {
-        a: n / 1600,
-        b: n / 40 % 40,
-        c: n % 40,
+        a,
+        b: forties - a * 40,
+        c: n - forties * 40,
     }
 }
 

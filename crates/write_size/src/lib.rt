@@ -54,7 +54,7 @@ fn names_size(version: Version, text: usize) -> usize
     if 6144 < text {
         return 4097;
     }
-    (text + 4) / 3 * 2
+    octets::threes(text + 4) * 2
 }
 
 // The size of a seal with so many characters of text and bytes of signature, up to 4,097.

@@ -8,6 +8,7 @@ ghost use Rattle.format.specs.Buffer.{over};
 ghost use Rattle.octets.specs.Copy.{copied, reached};
 ghost use Rattle.grammar.specs.Publish.{carried as carriedIn};
 ghost use Rattle.write_text.specs.Coded.{coded, firstSix};
+use octets::low;
 use pairs::number_of;
 use pairs::number_of_one;
 use pairs::number_of_two;
@@ -18,8 +19,8 @@ fn put_number(number: usize, out: &mut [u8], at: usize) -> usize
     ensures place { λ r. ⌜ r ≡ at + 2 ⌝ }
     ensures buffer { λ r. ⌜ now (out .exit) ≡ over (now (out .entry)) at (be 2 number) ⌝ }
 {
-    out[at] = (number / 256) as u8;
-    out[at + 1] = (number % 256) as u8;
+    out[at] = low(number >> 8);
+    out[at + 1] = low(number);
     at + 2
 }
 
@@ -63,7 +64,8 @@ pub fn put_text(text: &[u8], out: &mut [u8], at: usize) -> usize
     if room < at {
         return at;
     }
-    if room - at < (text.len() + 2) / 3 * 2 {
+    // three characters for each pair of bytes that there is room for
+    if ((room - at) >> 1) * 3 < text.len() {
         return at;
     }
     put_pairs(text, out, at)
@@ -100,7 +102,7 @@ pub fn first_six(text: &[u8]) -> [u8; 6]
         text[1],
         text[2],
         text[3],
-        octets::hex_digit((n - 4) / 16),
+        octets::hex_digit((n - 4) >> 4),
         octets::hex_digit(n - 4),
     ]
 }

@@ -11,8 +11,7 @@ use Rattle.format.specs.BigEndian.{be}
 use Rattle.format.specs.Buffer.{over}
 use Rattle.format.specs.Buffer.Laws.{over-none, length-over, over-over, set-over, over-two, over-three}
 use Rattle.c40.specs.Text.{Text, publish as c40}
-use Rattle.dates.specs.Days.{Day, numberOf, publish as date}
-use Rattle.dates.specs.Days.Laws.{number-below}
+use Rattle.dates.specs.Days.{numberOf, publish as date}
 use Rattle.dates.specs.declared.Date.{Date}
 use Rattle.grammar.specs.Content.{Version, four}
 use Rattle.grammar.specs.Legal.{ValueSize}
@@ -30,19 +29,20 @@ use Rattle.write_given.specs.Tests.Laws.{size-four}
 use Rattle.write_judge.specs.Size.{zone-none, zone-cons}
 use Rattle.write_judge.specs.Needs.Laws.{named-legal}
 
--- three bytes of a date
+-- three bytes of a date, each the last of a quotient of its number
 pub put-date :
-    (d : Date) (n : ℕ) (out : List ℕ) (at : ℕ) →
-    Day d →
+    (d : Date) (n x y z : ℕ) (out : List ℕ) (at : ℕ) →
     n ≡ numberOf d →
+    x ≡ n / 65536 % 256 →
+    y ≡ n / 256 % 256 →
+    z ≡ n % 256 →
     at + 3 ≤ length out →
-    set (set (set out at (n / 65536)) (at + 1) (n / 256 % 256)) (at + 2) (n % 256) ≡ over out at (date d)
+    set (set (set out at x) (at + 1) y) (at + 2) z ≡ over out at (date d)
 unfolding date be
-put-date d n out at day e room =
-    let small = number-below d day in
-    let high : n / 65536 ≡ n / 256 / 256 % 256 = omega arith in
-    over-three out at (n / 65536) (n / 256 % 256) (n % 256) room
-    ∙ ap (λ x. over out at (x ∷ (n / 256 % 256) ∷ (n % 256) ∷ [])) high
+put-date d n x y z out at e high middle low room =
+    let twice : n / 65536 ≡ n / 256 / 256 = omega arith in
+    over-three out at x y z room
+    ∙ (λ i. over out at ((high ∙ ap (λ k. k % 256) twice) i ∷ middle i ∷ low i ∷ []))
     ∙ ap (λ m. over out at ((m / 256 / 256 % 256) ∷ (m / 256 % 256) ∷ (m % 256) ∷ [])) e
 
 -- one, two or three stores of a form

@@ -15,6 +15,7 @@ use dates::Date;
 use dates::Numbered;
 use der::Form;
 use fields::Header;
+use octets::low;
 use rows::Found;
 use rows::WIDTH;
 use rows::row_at;
@@ -31,9 +32,9 @@ pub(crate) fn put_date(date: Date, out: &mut [u8], at: usize) -> usize
     let Numbered::Number(number) = date.number() else {
         return at + 3;
     };
-    out[at] = (number / 65536) as u8;
-    out[at + 1] = (number / 256 % 256) as u8;
-    out[at + 2] = (number % 256) as u8;
+    out[at] = low(number >> 16);
+    out[at + 1] = low(number >> 8);
+    out[at + 2] = low(number);
     at + 3
 }
 

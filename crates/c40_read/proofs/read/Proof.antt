@@ -3,9 +3,10 @@
 use borrow.Author.Needs.{needs}
 use native.Mathlib.Omega.{arith}
 use mathlib.Core.Path.{_≡_, _∙_, sym}
-use Prim.Native.Nat.{ℕ}
+use Prim.Native.Nat.{ℕ, _%_}
 use mathlib.Core.List.{List}
 use denote.Ref.{now}
+use lib.Bits.{and-mask}
 use lib.ListN.{length}
 use Rattle.format.specs.Answers.Laws.{refuses, gives}
 use Rattle.c40.specs.Decode.{decode, wrong, text, textOf}
@@ -36,6 +37,10 @@ from-put c = c .before .before .before
 abbrev from-done : tie.After-slice-known2 → tie.After-known-told2
 from-done c = from-put (c .before .before .before)
 
+-- the low bit tells whether their number is odd
+is-even : (c : tie.Else2) → length (now (start c .args .bytes)) % 2 ≡ 1 → ⊥
+is-even c odd = c .if2 .left (and-mask (length (now (start c .args .bytes))) 1 ∙ odd)
+
 -- the bytes decode as the judge said
 is-wrong : (c : tie.After-known-told)
     → decode 0 (bytes (from-wrong c)) ≡ wrong (c .before .judged .given .0 .0) (c .before .judged .given .0 .1 .0)
@@ -49,14 +54,14 @@ returns : tie.Need-returns
 returns c = refuses _ 45 0 _ (reading-long _ _ (omega arith))
 
 returns-2 : tie.Need-returns-2
-returns-2 c = refuses _ 40 _ _ (reading-odd _ _ (omega arith) (omega arith))
+returns-2 c = refuses _ 40 _ _ (reading-odd _ _ (omega arith) (sym (and-mask _ 1) ∙ c .if2 .taken))
 
 the-chart-requires : tie.Need-the-chart-requires
 the-chart-requires c κs = search needs
 
 judge-requires : tie.Need-judge-requires
 judge-requires c κs =
-    record { is-chart = c .before .the-chart .ensures; even = omega (arith, c .before .before .if2 .left); size = omega arith }
+    record { is-chart = c .before .the-chart .ensures; even = omega (arith, is-even (c .before .before)); size = omega arith }
 
 enum-known-judged : tie.Need-enum-known-judged
 enum-known-judged c = search needs
@@ -68,20 +73,20 @@ returns-3 : tie.Need-returns-3
 returns-3 c =
     let on = c .before in
     refuses _ 42 0 _
-    (reading-no-room _ _ (omega arith) (even (from-text on) .if2 .left) _ (is-text on .0) (omega (arith, is-text on .1)))
+    (reading-no-room _ _ (omega arith) (is-even (even (from-text on))) _ (is-text on .0) (omega (arith, is-text on .1)))
 
 put-requires : tie.Need-put-requires
 put-requires c κs =
     let on = from-put c in
     record {
       is-chart = from-text on .before .before .the-chart .ensures;
-      even = omega (arith, even (from-text on) .if2 .left);
+      even = omega (arith, is-even (even (from-text on)));
       is-text = is-text on .0;
       room = omega (arith, is-text on .1);
     }
 
 returns-4 : tie.Need-returns-4
-returns-4 c = refuses _ _ _ _ (reading-wrong _ _ (omega arith) (even (from-wrong c) .if2 .left) _ _ (is-wrong c))
+returns-4 c = refuses _ _ _ _ (reading-wrong _ _ (omega arith) (is-even (even (from-wrong c))) _ _ (is-wrong c))
 
 same-length : tie.Need-same-length
 same-length c = search needs
@@ -90,7 +95,7 @@ returns-5 : tie.Need-returns-5
 returns-5 c =
     let on = from-done c in
     gives _ _ _ _ _
-    (reading-done _ _ (omega arith) (even (from-text on) .if2 .left) _ (is-text on .0) (omega (arith, is-text on .1)))
+    (reading-done _ _ (omega arith) (is-even (even (from-text on))) _ (is-text on .0) (omega (arith, is-text on .1)))
     (sym (is-text on .1)) (c .before .before .put .ensures)
 
 pub read-spec : {M : Type 1} → statement M

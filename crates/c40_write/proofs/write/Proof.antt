@@ -13,9 +13,12 @@ use Rattle.c40.specs.Calls.Laws.{known-text, writing-long, writing-stranger, wr
 use Rattle.c40_write.proofs.write.Statement.{statement}
 use Rattle.c40_write.proofs.write.Tie as tie
 
--- the places before: from where there is room to where the text was not too long, back to the entry
+-- the places before: from where there is room to where all characters are known and where the text was not too long, back to the entry
+abbrev known : tie.Else3 → tie.Else2
+known c = c .before .before
+
 abbrev sized : tie.Else3 → tie.Else1
-sized c = c .before .before .before .before .before
+sized c = known c .before .before .before .before
 
 abbrev start : tie.Else3 → tie.Start
 start c = sized c .before .before .before
@@ -37,8 +40,11 @@ returns-2 c =
     let e = c .before .known .ensures in
     refuses _ 43 _ _ (writing-stranger _ _ (omega arith) (omega arith) ∙ ap (refused 43) (sym e))
 
-add-size : tie.Need-add-size
-add-size c = search needs
+add-threes : tie.Need-add-threes
+add-threes c = search needs
+
+threes-requires : tie.Need-threes-requires
+threes-requires c κs = search needs
 
 mul-size : tie.Need-mul-size
 mul-size c = search needs
@@ -66,7 +72,8 @@ write-spec =
     the-chart-requires
     known-requires
     returns-2
-    add-size
+    add-threes
+    threes-requires
     mul-size
     returns-3
     put-requires

@@ -11,6 +11,7 @@ use lib.ListN.{getD}
 use Rattle.format.specs.Choice.{either}
 use Rattle.format.specs.Choice.Laws.{by-test}
 use Rattle.format.specs.Every.{every, at-entry}
+use Rattle.format.specs.Quotient.{quotient}
 use Rattle.dates.specs.Days.{isLeap, hasThirty, daysIn}
 
 -- February has at most 29 days, and no month more than 31
@@ -60,7 +61,7 @@ pub divided : (year : ℕ) → year * 5243 / 131072 * 25 ≡ year → year % 25 
 divided year e = times-25 (year * 5243 / 131072) year e
 
 pub not-divided : (year : ℕ) → year ≤ 9999 → (year * 5243 / 131072 * 25 ≡ year → ⊥) → year % 25 ≡ 0 → ⊥
-not-divided year h other e = let times : year * 5243 / 131072 ≡ year / 25 = omega arith in other (omega (arith, times))
+not-divided year h other e = let times = quotient 25 5243 131072 3 (omega arith) refl year (omega arith) in other (omega (arith, times))
 
 -- 31 and 30 by turns, from month 1 and again from month 8
 turns : List ℕ

@@ -66,6 +66,11 @@ pub be-two : (n : ℕ) → n < 65536 → be 2 n ≡ (n / 256) ∷ (n % 256) ∷ 
 unfolding be
 be-two n h = let high : n / 256 % 256 ≡ n / 256 = omega arith in ap (λ b. b ∷ (n % 256) ∷ []) high
 
+-- the same, each the last byte of a quotient
+pub be-two-low : (n x y : ℕ) → x ≡ n / 256 % 256 → y ≡ n % 256 → x ∷ y ∷ [] ≡ be 2 n
+unfolding be
+be-two-low n x y e f i = e i ∷ f i ∷ []
+
 -- a byte more
 pub val-more : (s : List ℕ) (k : ℕ) → val s (k + 1) ≡ val s k * 256 + getD s k 0
 unfolding val

@@ -70,20 +70,18 @@ flip-more s i value x e h f =
 -- a number in eight bytes, one by one
 pub be-eight :
     (w : ℕ) →
-    w < 2 ^ 64 →
-    (w / 72057594037927936) ∷ (w / 281474976710656 % 256) ∷ (w / 1099511627776 % 256) ∷ (w / 4294967296 % 256) ∷ (w / 16777216 % 256)
-    ∷ (w / 65536 % 256) ∷ (w / 256 % 256) ∷ (w % 256) ∷ []
+    (w / 72057594037927936 % 256) ∷ (w / 281474976710656 % 256) ∷ (w / 1099511627776 % 256) ∷ (w / 4294967296 % 256)
+    ∷ (w / 16777216 % 256) ∷ (w / 65536 % 256) ∷ (w / 256 % 256) ∷ (w % 256) ∷ []
     ≡ be 8 w
 unfolding be
-be-eight w h =
+be-eight w =
     let two = div-div-eq-div-mul w 256 256 in
     let three = ap (λ n. n / 256) two ∙ div-div-eq-div-mul w 65536 256 in
     let four = ap (λ n. n / 256) three ∙ div-div-eq-div-mul w 16777216 256 in
     let five = ap (λ n. n / 256) four ∙ div-div-eq-div-mul w 4294967296 256 in
     let six = ap (λ n. n / 256) five ∙ div-div-eq-div-mul w 1099511627776 256 in
     let seven = ap (λ n. n / 256) six ∙ div-div-eq-div-mul w 281474976710656 256 in
-    let top : w / 72057594037927936 % 256 ≡ w / 72057594037927936 = omega arith in
     sym
     (λ i.
-    (ap (λ n. n % 256) seven ∙ top) i ∷ (six i % 256) ∷ (five i % 256) ∷ (four i % 256) ∷ (three i % 256) ∷ (two i % 256) ∷ (w / 256 % 256)
+    (seven i % 256) ∷ (six i % 256) ∷ (five i % 256) ∷ (four i % 256) ∷ (three i % 256) ∷ (two i % 256) ∷ (w / 256 % 256)
     ∷ (w % 256) ∷ [])

@@ -19,15 +19,20 @@ returns-2 : tie.Need-returns-2
 returns-2 c =
     let a = c .before .before .before .args in names-past (a .version) (a .text) (c .before .enum-told2 .given .1) (omega arith)
 
-add-result : tie.Need-add-result
-add-result c = search needs
+add-threes : tie.Need-add-threes
+add-threes c = search needs
+
+threes-requires : tie.Need-threes-requires
+threes-requires c κs = search needs
 
 mul-result : tie.Need-mul-result
 mul-result c = search needs
 
 returns-3 : tie.Need-returns-3
 returns-3 c =
-    let a = c .before .before .before .args in names-long (a .version) (a .text) (c .before .enum-told2 .given .1) (omega arith)
+    let long = c .before in
+    let a = long .before .before .before .args in
+    names-long (a .version) (a .text) (long .before .enum-told2 .given .1) (omega arith) _ (c .threes .ensures)
 
 pub names-size-spec : {M : Type 1} → statement M
-names-size-spec = tie.close (tie.spec enum-told returns enum-told-2 returns-2 add-result mul-result returns-3)
+names-size-spec = tie.close (tie.spec enum-told returns enum-told-2 returns-2 add-threes threes-requires mul-result returns-3)

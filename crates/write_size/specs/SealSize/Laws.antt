@@ -84,5 +84,9 @@ module _ (v : Version) (text : ℕ) where
     pub names-past : 6144 < text → (min 4097 4097 ≡ min (namesSize v text) 4097) × (4097 ≤ 4098)
     names-past h = (omega (arith, long), omega arith)
 
-    pub names-long : text ≤ 6144 → (min ((text + 4) / 3 * 2) 4097 ≡ min (namesSize v text) 4097) × ((text + 4) / 3 * 2 ≤ 4098)
-    names-long h = (omega (arith, long), omega arith)
+    pub names-long :
+        text ≤ 6144 →
+        (k : ℕ) →
+        k ≡ (text + 4) / 3 →
+        (min (k * 2) 4097 ≡ min (namesSize v text) 4097) × (k * 2 ≤ 4098)
+    names-long h k is = (omega (arith, long), omega arith)

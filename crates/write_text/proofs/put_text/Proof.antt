@@ -20,9 +20,6 @@ returns c =
     let bytes = coded (now (a .text)) in
     (reached-not bytes (now (a .out)) (a .at) (omega arith), copied-not bytes (now (a .out)) (a .at) (omega arith))
 
-add-if2 : tie.Need-add-if2
-add-if2 c = search needs
-
 mul-if2 : tie.Need-mul-if2
 mul-if2 c = search needs
 
@@ -50,4 +47,4 @@ returns-3 c =
     )
 
 pub put-text-spec : {M : Type 1} → statement M
-put-text-spec = tie.close (tie.spec returns add-if2 mul-if2 returns-2 put-pairs-requires same-length returns-3)
+put-text-spec = tie.close (tie.spec returns mul-if2 returns-2 put-pairs-requires same-length returns-3)

@@ -1,38 +1,60 @@
--- `content::bytes_of` meets its contract.
+-- `content::bytes_of` meets its contract: each byte is the last of a quotient.
 -- Assumes nothing.
-use Rattle.integers.specs.Integer.FirstByte.{be-eight}
 use borrow.Author.Needs.{needs}
+use mathlib.Core.Path.{_∙_}
+use mathlib.Core.List.{[], _∷_}
+use Rattle.integers.specs.Integer.FirstByte.{be-eight}
 use Rattle.integers_write.proofs.content.bytes_of.Statement.{statement}
 use Rattle.integers_write.proofs.content.bytes_of.Tie as tie
 
-cast-t3 : tie.Need-cast-t3
-cast-t3 c = search needs
+-- where the fourth byte was told, from where the last was
+abbrev fourth : tie.After-low8 → tie.After-low4
+fourth c = c .before .before .before .before
 
-cast-t6 : tie.Need-cast-t6
-cast-t6 c = search needs
+low-requires : tie.Need-low-requires
+low-requires c κs = search needs
 
-cast-t9 : tie.Need-cast-t9
-cast-t9 c = search needs
+low-requires-2 : tie.Need-low-requires-2
+low-requires-2 c κs = search needs
 
-cast-t12 : tie.Need-cast-t12
-cast-t12 c = search needs
+low-requires-3 : tie.Need-low-requires-3
+low-requires-3 c κs = search needs
 
-cast-t15 : tie.Need-cast-t15
-cast-t15 c = search needs
+low-requires-4 : tie.Need-low-requires-4
+low-requires-4 c κs = search needs
 
-cast-t18 : tie.Need-cast-t18
-cast-t18 c = search needs
+low-requires-5 : tie.Need-low-requires-5
+low-requires-5 c κs = search needs
 
-cast-t21 : tie.Need-cast-t21
-cast-t21 c = search needs
+low-requires-6 : tie.Need-low-requires-6
+low-requires-6 c κs = search needs
 
-cast-t23 : tie.Need-cast-t23
-cast-t23 c = search needs
+low-requires-7 : tie.Need-low-requires-7
+low-requires-7 c κs = search needs
+
+low-requires-8 : tie.Need-low-requires-8
+low-requires-8 c κs = search needs
 
 returns : tie.Need-returns
-returns c = be-eight (c .args .w) (c .fits .w .fits)
+returns c =
+    let four = fourth c in
+    let start = four .before .before .before .before in
+    (λ i.
+    four .before .before .before .low .ensures i ∷ four .before .before .low2 .ensures i ∷ four .before .low3 .ensures i
+    ∷ four .low4 .ensures i ∷ c .before .before .before .low5 .ensures i ∷ c .before .before .low6 .ensures i
+    ∷ c .before .low7 .ensures i ∷ c .low8 .ensures i ∷ [])
+    ∙ be-eight (start .args .w)
 
 pub bytes-of-spec : {M : Type 1} → statement M
 bytes-of-spec =
     tie.close
-    (tie.spec cast-t3 cast-t6 cast-t9 cast-t12 cast-t15 cast-t18 cast-t21 cast-t23 returns)
+    (tie.spec
+    low-requires
+    low-requires-2
+    low-requires-3
+    low-requires-4
+    low-requires-5
+    low-requires-6
+    low-requires-7
+    low-requires-8
+    returns)

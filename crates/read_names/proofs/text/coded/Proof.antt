@@ -13,7 +13,7 @@ use Rattle.read_names.proofs.text.coded.Tie as tie
 
 -- the places before: the entry, and the skipping of the bytes, from where all of them are there; and the place after them
 abbrev start : tie.After-skip → tie.Start
-start c = c .before .before .before
+start c = c .before .before .before .before
 
 abbrev skipped : tie.After-known-told → tie.After-skip
 skipped c = c .before .before .before
@@ -77,8 +77,11 @@ returns-3 c =
     field-wrong (length (args .text .now)) (args .at .place) (next told) (args .seal .now) (place told) _
     (sym (ap (exactOf out) (c .enum-told3 .given .1)) ∙ on .fill .ensures)
 
-add-skip : tie.Need-add-skip
-add-skip c = search needs
+add-threes : tie.Need-add-threes
+add-threes c = search needs
+
+threes-requires : tie.Need-threes-requires
+threes-requires c κs = search needs
 
 mul-skip : tie.Need-mul-skip
 mul-skip c = search needs
@@ -108,7 +111,8 @@ pub coded-spec : {M : Type 1} → statement M
 coded-spec =
     tie.close
     (tie.spec
-    add-skip
+    add-threes
+    threes-requires
     mul-skip
     skip-requires
     enum-known-next

@@ -1,4 +1,4 @@
--- `put_date` meets its contract.
+-- `put_date` meets its contract: three stores in a row, each of the last byte of a quotient.
 -- Assumes nothing.
 use borrow.Author.Needs.{needs}
 use native.Mathlib.Omega.{arith}
@@ -7,20 +7,22 @@ use Prim.Native.Nat.{_+_, _≤_}
 use denote.Ref.{now}
 use lib.ListN.{length, length-set}
 use Rattle.dates.specs.Days.{numberOf}
-use Rattle.dates.specs.Days.Laws.{number-below, length-publish}
+use Rattle.dates.specs.Days.Laws.{length-publish}
 use Rattle.dates.specs.Exact.{to-day}
 use Rattle.dates.specs.Calls.{numberedOf}
 use Rattle.writer.specs.Put.{put-date}
 use Rattle.writer.proofs.put.put_date.Statement.{statement}
 use Rattle.writer.proofs.put.put_date.Tie as tie
 
+-- the entry, from where the number is told
+abbrev start : tie.After-known-told → tie.Start
+start c = c .before .before .before .before .before
+
 -- the number of the day, which there is
-is-number : (c : tie.After-known-told) → c .before .number2 .given .0 .0 ≡ numberOf (c .before .before .before .before .before .args .date)
+is-number : (c : tie.After-known-told) → c .before .number2 .given .0 .0 ≡ numberOf (start c .args .date)
 is-number c =
     ap (λ g. g .value)
-    (sym (ap numberedOf (c .before .number2 .given .1))
-    ∙ c .before .before .before .number .ensures
-    ∙ to-day _ (c .before .before .before .before .before .pre .0))
+    (sym (ap numberedOf (c .before .number2 .given .1)) ∙ c .before .before .before .number .ensures ∙ to-day _ (start c .pre .0))
 
 none : tie.After-enum-told → ⊥
 none c =
@@ -32,12 +34,8 @@ none c =
           ∙ to-day _ (c .before .before .before .before .pre .0)),
     )
 
-room :
-    (c : tie.After-known-told) →
-    c .before .before .before .before .before .args .at + 3 ≤ length (now (c .before .before .before .before .before .args .out))
-room c =
-    let a = c .before .before .before .before .before .args in
-    omega (arith, c .before .before .before .before .before .pre .1, length-publish (a .date))
+room : (c : tie.After-known-told) → start c .args .at + 3 ≤ length (now (start c .args .out))
+room c = omega (arith, start c .pre .1, length-publish (start c .args .date))
 
 number-requires : tie.Need-number-requires
 number-requires c κs = search needs
@@ -54,34 +52,29 @@ add-result c = search needs
 returns : tie.Need-returns
 returns c = absurd (none c)
 
-cast-out : tie.Need-cast-out
-cast-out c =
-    omega (
-      arith,
-      is-number c,
-      number-below (c .before .before .before .before .before .args .date) (c .before .before .before .before .before .pre .0),
-    )
+low-requires : tie.Need-low-requires
+low-requires c κs = search needs
 
 slice-write-out : tie.Need-slice-write-out
-slice-write-out c = let r = room c in omega arith
+slice-write-out c = let r = room (c .before) in omega arith
 
-cast-out-2 : tie.Need-cast-out-2
-cast-out-2 c = search needs
+low-requires-2 : tie.Need-low-requires-2
+low-requires-2 c κs = search needs
 
 add-out : tie.Need-add-out
 add-out c = search needs
 
 slice-write-out-2 : tie.Need-slice-write-out-2
-slice-write-out-2 c = let r = room c in simp length-set (omega arith)
+slice-write-out-2 c = let r = room (c .before .before) in simp length-set (omega arith)
 
-cast-out-3 : tie.Need-cast-out-3
-cast-out-3 c = search needs
+low-requires-3 : tie.Need-low-requires-3
+low-requires-3 c κs = search needs
 
 add-out-2 : tie.Need-add-out-2
 add-out-2 c = search needs
 
 slice-write-out-3 : tie.Need-slice-write-out-3
-slice-write-out-3 c = let r = room c in simp length-set (omega arith)
+slice-write-out-3 c = let r = room (c .before .before .before) in simp length-set (omega arith)
 
 add-result-2 : tie.Need-add-result-2
 add-result-2 c = search needs
@@ -91,8 +84,12 @@ same-length c = search needs
 
 returns-2 : tie.Need-returns-2
 returns-2 c =
-    let a = c .before .before .before .before .before .args in
-    (refl, put-date (a .date) _ (now (a .out)) (a .at) (c .before .before .before .before .before .pre .0) (is-number c) (room c))
+    let told = c .before .before .before in
+    let a = start told .args in
+    let high = c .before .before .low .ensures in (
+      refl,
+      put-date (a .date) _ _ _ _ (now (a .out)) (a .at) (is-number told) high (c .before .low2 .ensures) (c .low3 .ensures) (room told),
+    )
 
 pub put-date-spec : {M : Type 1} → statement M
 put-date-spec =
@@ -103,12 +100,12 @@ put-date-spec =
     enum-told
     add-result
     returns
-    cast-out
+    low-requires
     slice-write-out
-    cast-out-2
+    low-requires-2
     add-out
     slice-write-out-2
-    cast-out-3
+    low-requires-3
     add-out-2
     slice-write-out-3
     add-result-2
