@@ -1,11 +1,10 @@
 -- `octets::tens` meets its contract: the quotient by parts.
 -- Assumes nothing.
 use native.Mathlib.Omega.{arith}
-use mathlib.Core.Path.{_≡_, refl, ap}
+use native.Mathlib.Nat.{le-of-eq, le-trans, lt-of-le-of-lt, div-le-self}
+use mathlib.Core.Path.{refl, ap}
 use Prim.Native.Nat.{ℕ, _+_, _*_, _/_, _^_, _<_}
 use lib.Bits.{bitAnd, and-mask, mask-lt}
-use mir.Syntax.{w64}
-use mir.Val.{Fits}
 use Rattle.format.specs.Quotient.{by-parts}
 use Rattle.octets.proofs.tens.Statement.{statement}
 use Rattle.octets.proofs.tens.Tie as tie
@@ -22,25 +21,6 @@ rest-small n h = omega (arith, mask-lt n 32)
 
 last-small : (n : ℕ) → n < 2 ^ 35 → last n < 2 ^ 22
 last-small n h = omega (arith, mask-lt n 16)
-
--- so the three parts make up the quotient, by whatever multipliers and shift there are, if they are right
-sum :
-    (m t high middle n : ℕ) →
-    m * 10 ≡ t + 6 →
-    4294967296 ≡ high * 10 + 6 →
-    65536 ≡ middle * 10 + 6 →
-    25165824 < t →
-    n < 2 ^ 64 →
-    n / 4294967296 * high + rest n / 65536 * middle + last (rest n) * m / t ≡ n / 10
-sum m t high middle n e f g large h =
-    let small = last-small (rest n) (rest-small n h) in
-    by-parts 10 m t 6 (omega arith) e 4294967296 65536 high middle 6 f g n (rest n) (last (rest n))
-    (ap (λ k. n / 4294967296 * 6 + k) (and-mask n 32))
-    (ap (λ k. rest n / 65536 * 6 + k) (and-mask (rest n) 16))
-    (omega (arith, small))
-
-sum-fits : (s n : ℕ) → s ≡ n / 10 → n < 2 ^ 64 → Fits w64 s
-sum-fits s n e h = omega arith
 
 fits : (c : tie.Start) → c .args .n < 2 ^ 64
 fits c = omega arith
@@ -69,11 +49,17 @@ add-result c = omega (arith, fits c, rest-small (c .args .n) (fits c))
 mul-result-3 : tie.Need-mul-result-3
 mul-result-3 c = omega (arith, last-small (rest (c .args .n)) (rest-small (c .args .n) (fits c)))
 
-add-result-2 : tie.Need-add-result-2
-add-result-2 c = sum-fits _ _ (sum _ _ _ _ _ refl refl refl (omega arith) (fits c)) (fits c)
-
+-- the three parts make up the quotient: `refl` is that the multipliers and the shift of the code are right
 returns : tie.Need-returns
-returns c = sum _ _ _ _ _ refl refl refl (omega arith) (fits c)
+returns c =
+    let n = c .args .n in
+    by-parts 10 _ _ 6 (omega arith) refl 4294967296 65536 _ _ 6 refl refl n (rest n) (last (rest n))
+    (ap (λ k. n / 4294967296 * 6 + k) (and-mask n 32))
+    (ap (λ k. rest n / 65536 * 6 + k) (and-mask (rest n) 16))
+    (omega (arith, last-small (rest n) (rest-small n (fits c))))
+
+add-result-2 : tie.Need-add-result-2
+add-result-2 c = record { fits = lt-of-le-of-lt (le-trans (le-of-eq (returns c)) (div-le-self (c .args .n) 10)) (fits c) }
 
 pub tens-spec : {M : Type 1} → statement M
 tens-spec =
