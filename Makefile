@@ -24,7 +24,7 @@
 # All that is built is for x86-64. What stands after tests/x86 is run on another machine too, by a toolchain that is
 # laid there once, or is named as not run.
 
-VERSION := 0.3.0
+VERSION := 0.4.0
 PREFIX ?= /usr/local
 FUZZ_SECONDS ?= 60
 

@@ -99,6 +99,41 @@ static void same_seals(const given *g, size_t front) {
     same_seal(seal, 4097, 765, 259);
 }
 
+/* pairs that are text of three characters, good or with a space, of two and of one, and pairs with each fault */
+static const uint8_t pairs[][2] = {{0x59, 0xBF}, {0x13, 0x3C}, {0x59, 0xB1}, {0xFE, 0x42}, {0xFE, 0x21}, {0x5E, 0x65}, {0x24, 0x77},
+                                   {0, 0},       {0xFA, 0x01}, {0, 1},       {0x57, 0xB7}, {0xFE, 0},    {0xFE, 0x41}, {0xFF, 0xFF}};
+enum { PAIRS = sizeof pairs / sizeof *pairs };
+
+/* one pair of country, names and reference, and one of the `reach` behind it, each replaced by each */
+static void same_pairs(const given *g, size_t reach) {
+    static uint8_t seal[4200], kept[4200];
+    size_t n = write_given(makers, g, kept).count, end = g->header.version == 3 ? 10 : 8 + (g->header.length + 2) / 3 * 2;
+    memcpy(seal, kept, n);
+    for (size_t i = 2; i < end; i += 2)
+        for (size_t k = i; k < end && k <= i + 2 * reach; k += 2) {
+            for (size_t a = 0; a < PAIRS * PAIRS; a++) {
+                memcpy(seal + i, pairs[a / PAIRS], 2);
+                memcpy(seal + k, pairs[a % PAIRS], 2);
+                same_seal(seal, n, 765, 259);
+            }
+            memcpy(seal, kept, n);
+        }
+}
+
+/* the same in both versions, for references of 1 to 9 characters and of 255 */
+static void same_names(void) {
+    given three = given_typical(3), full = given_full();
+    same_pairs(&three, 4);
+    for (size_t size = 1; size < 10; size++) {
+        given four = given_typical(4);
+        four.header.length = size;
+        four.characters = 4 + size;
+        memcpy(four.text + 4, full.text + 4, size);
+        same_pairs(&four, 4);
+    }
+    same_pairs(&full, 0);
+}
+
 static void same_write(given g) { SAME(see_filled(s, write_given(m, &g, s->bytes))); }
 
 /* written, with room from none to enough, and refused by each number from 20 to 28 */
@@ -231,6 +266,7 @@ size_t compare_all(void) {
     same_seals(&three, 150);
     same_seals(&four, 150);
     same_seals(&full, 260);
+    same_names();
     same_writes(&three);
     same_writes(&four);
     same_write(full);

@@ -153,7 +153,7 @@ static fr_reading read_whole(const void *bytes, size_t size) {
 static void read_seal(const uint8_t *data, size_t size) {
     fr_reading r = read_whole(data, size);
     if (r.number != 0) {
-        MUST(r.number <= 11 && r.place <= size);
+        MUST(r.number <= 11 && r.place <= size && (r.number != 5 || (r.place % 2 == 0 && r.place >= 2 && r.place + 2 <= size)));
         refused(r);
         return;
     }
@@ -294,6 +294,10 @@ static fr_filled fill(enum call call, size_t n, const uint8_t *bytes, size_t len
                                    : fr_signature_to_raw(n, bytes, length, out, room);
     filled(call, f, room);
     MUST(kept(BACK, 0));
+    if (f.number == 41 || f.number == 46 || f.number == 47) { /* the pair's own two bytes tell which */
+        MUST(call == C40_READ && f.place % 2 == 0 && f.place + 2 <= length);
+        MUST(f.number == (bytes[f.place] == 0xFE ? 47u : bytes[f.place] >= 0xFA || (bytes[f.place] | bytes[f.place + 1]) == 0 ? 41u : 46u));
+    }
     return f;
 }
 

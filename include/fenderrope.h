@@ -35,7 +35,7 @@ extern "C" {
 #endif
 
 /* The version of this header and its library. */
-#define FR_VERSION "0.3.0"
+#define FR_VERSION "0.4.0"
 
 /* Sizes that hold for every legal seal (document 01, "Sizes"). */
 #define FR_SEAL_MOST 4096      /* bytes of a seal */
@@ -86,11 +86,13 @@ enum fr_number {
 
     /* fr_c40_read and fr_c40_write */
     FR_C40_ODD = 40,          /* C40 bytes odd in number */
-    FR_C40_PAIR = 41,         /* C40 pair wrongly coded */
+    FR_C40_PAIR = 41,         /* C40 pair value of 0 or over 64,000 that does not begin with FE */
     FR_C40_TEXT_ROOM = 42,    /* no room for the text */
     FR_C40_CHARACTER = 43,    /* character that is not in the chart */
     FR_C40_BYTES_ROOM = 44,   /* no room for the C40 bytes */
     FR_C40_TOO_LONG = 45,     /* text or bytes over the size */
+    FR_C40_SHIFT = 46,        /* C40 shift value where none may stand */
+    FR_C40_FE = 47,           /* C40 FE misplaced or followed by a code outside the chart */
 
     /* signatures, INTEGERs and the hash; fr_words gives 63 */
     FR_NO_SIZE = 60,          /* n is not one of the five */
@@ -183,8 +185,9 @@ typedef struct fr_hashed {
  * `text`, 4 + header.length characters without an end mark. 12 asks for 3 * count numbers and 4 + header.length bytes,
  * which fr_judge gives of the same seal; FR_TABLE_MOST and FR_TEXT_MOST are enough for every seal.
  *
- * The place is the first byte of the item that was not read; for 1 it is 4,096, for 10 the first byte of the length,
- * for 11 the first extra byte, for 12 it is 0.
+ * The place is the first byte of the item that was not read, and for 5 of its first C40 pair that is wrongly coded or
+ * does not fit the number of characters, if it has one; for 1 it is 4,096, for 10 the first byte of the length, for 11
+ * the first extra byte, for 12 it is 0.
  */
 fr_reading fr_read(const uint8_t *seal, size_t seal_length, size_t *table, size_t table_length, uint8_t *text,
                    size_t text_length);
@@ -202,8 +205,8 @@ fr_filled fr_write(fr_header header, const uint8_t *text, size_t text_length,
                    const uint8_t *signature, size_t signature_length, uint8_t *out, size_t out_length);
 
 /*
- * Text from at most 4,096 C40 bytes: 0, or the first of 45, 40, 41 and 42 that holds. The place of 40 is the number of
- * bytes, of 41 the first byte of the first wrong pair.
+ * Text from at most 4,096 C40 bytes: 0, or the first of 45, 40, then 41, 46 or 47, then 42 that holds. The place of 40 is
+ * the number of bytes, of 41, 46 and 47 the first byte of the first faulty pair, which decides between them.
  */
 fr_filled fr_c40_read(const uint8_t *bytes, size_t bytes_length, uint8_t *out, size_t out_length);
 

@@ -6,12 +6,14 @@ of all names one after another, each under a line with the name.
 
 The cases are reckoned in the modules imported here, each of which gives its chapters: name, cases, answers.
 """
+import itertools
 import pathlib
 import sys
 
 import c40_cases
 import der_cases
 import listing_cases
+import pair_cases
 import seal_cases
 import write_cases
 
@@ -22,7 +24,7 @@ NAMES = {
     "c40": c40_cases.chapters(),
     "numbers": der_cases.chapters("numbers"),
     "signatures": der_cases.chapters("signatures"),
-    "seals": seal_cases.chapters(),
+    "seals": itertools.chain(seal_cases.chapters(), pair_cases.chapters()),
     "writing": write_cases.chapters(),
     "listing": listing_cases.chapters(),
 }

@@ -8,7 +8,7 @@ import functools
 import pathlib
 
 from seal_cases import A, B, FULL, H, LONGEST, PLAIN, VERSIONS, VISA, enter
-from seals import MOST, SIZES, Seal, c40, cuts, ended, good, judge, mixed_cases, padded, refused, wrong
+from seals import MOST, SIZES, Seal, c40, cuts, ended, good, judge, mixed_cases, padded, refused, wrong, wrong_pair
 from writing import runs
 
 CHAPTERS = {}   # chapter: [(heading, cases)]
@@ -46,6 +46,10 @@ family("refused", "3 to 8 and 10 at their items.",
          + wrong(7, seal, "category", b"\0", b"\xFF") + wrong(8, seal, "size", H("8138"), b"\x80") + wrong(10, seal, "size", b"\x39")
          for seal in (A, B)),
        wrong(5, B, "reference", bytes(len(B.parts["reference"]))), wrong(8, B, "length1", H("8100"), b"\x85"))
+family("refused", "5 at a pair further in that is wrongly coded, and at a last pair that does not fit.",
+       *(wrong_pair(seal, "names", 1, b"\0\0", b"\0\1", b"\xFE\x42", c40("AB")) for seal in (A, B)),
+       wrong_pair(A, "names", 2, b"\xFF\xFF", c40("A")), wrong_pair(B, "reference", 1, b"\xFE\x42"),
+       wrong_pair(B, "reference", 2, c40("ABC"), c40("AB")), wrong(5, B, "reference", c40("AB CDEF"), c40("ABCDEF ")))
 family("refused", "9 at the first tag that repeats one, near and far; 11 at the first byte after the signature.",
        *(wrong(9, seal, "tag1", seal.parts["tag0"]) + ended(9, seal, "end", seal.parts["tag2"]) for seal in (B,)),
        *(ended(9, seal, "end", b"\0", bytes([254])) for seal in ALL.values()),

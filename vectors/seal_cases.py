@@ -1,4 +1,4 @@
-"""The cases of the reader, made from document 01 by way of the reference in seals.py.
+"""The cases of the reader, made from document 01 by way of the reference in seals.py; those of its pairs are in pair_cases.py.
 
 Where a seal is put together from parts, the case's answer is stated from what was put together (this part was made wrong, so
 the answer is its number at its place), and the reference must agree. Only where a heading says "by the reference" is the
@@ -8,7 +8,8 @@ import functools
 import re
 
 from c40_cases import CHART, PAIR_OF, S0, S1, S2
-from seals import Answer, MOST, SIZES, Seal, c40, cuts, ended, good, judge, mixed_cases, padded, read, refused, wrong
+from seals import (Answer, MOST, SIZES, Seal, c40, cuts, ended, good, judge, mixed_cases, padded, read, refused, wrong,
+                   wrong_pair)
 
 H = bytes.fromhex
 CHAPTERS = {}   # chapter: [(heading, cases)]
@@ -115,25 +116,6 @@ family("names", "Every character of the chart as either digit of L: 0 to 9 and A
          else wrong(5, Seal(4, reference="BBB"), "names", c40("UTAB" + text)) for c in LENGTHS for text in (c + "1", "1" + c)),
        wrong(5, PLAIN[4], "names", *(c40("UTAB" + text) for text in ("00", "  ", " 0", "0 ", "GG", "FG"))),
        ended(5, PLAIN[4], "names", *(c40("UTAB" + text) for text in ("00", "FG", " 1"))))
-family("names", "Pairs that are no three characters, at each place of the version 3 field and of the first four bytes: 5 at 4.",
-       *(wrong(5, base, "names", *(names[:k] + pair + names[k + 2:] for k in range(0, len(names), 2)
-                                   for pair in PAIRS_NOT_TEXT + SHORT_PAIRS))
-         for base in (A, PLAIN[4]) for names in [base.parts["names"]]))
-
-
-def other_ends(size):
-    """Last pairs that do not fit a reference of this size: of other counts of characters, and of none."""
-    fitting = size % 3
-    return [pair for count, pairs in ((1, SHORT_PAIRS[:2]), (2, SHORT_PAIRS[3:5]), (0, [c40("A7Z")])) if count != fitting
-            for pair in pairs] + [c40("AB "), c40("A  "), c40("   "), c40(" "), c40("A "), c40(" B"), *PAIRS_NOT_TEXT]
-
-
-family("names", "The last pair against L mod 3: one character is FE and its code, two are completed with 0, not with a space. "
-       "Other last pairs are 5 at 8, and so is a short pair before the last.",
-       *(wrong(5, seal, "reference", *(seal.parts["reference"][:-2] + pair for pair in other_ends(size)))
-         for size in (1, 2, 3, 4, 5, 6, 254, 255) for seal in [Seal(4, reference="1" * size)]),
-       *(wrong(5, seal, "reference", pair + seal.parts["reference"][2:]) for size in (4, 5, 6, 255)
-         for seal in [Seal(4, reference="1" * size)] for pair in SHORT_PAIRS + PAIRS_NOT_TEXT[:4]))
 family("names", "A reference that is cut is 2 at 8 for every L, also when what is there is wrong.",
        *(ended(2, seal, "reference", b"", form[:-1], form[:-2], bytes(len(form) - 1), b"\xFF" * (len(form) - 1))
          for size in (1, 2, 3, 4, 16, 253, 254, 255) for seal in [Seal(4, reference="1" * size)]
@@ -263,6 +245,7 @@ family("sizes", "Each number at its last place: all bytes up to 4,096 are good b
          + refused(11, 4095, padded(v, 4095).data() + b"\0") for v in VERSIONS),
        refused(8, 4095, front(4, 4094) + b"\xFE\x85"),
        refused(2, 4095, front(4, 4094) + b"\xFE\x81", front(4, 4094) + b"\xFF\x84"),
+       wrong_pair(LONGEST, "reference", 84, b"\xFF\xFF", c40("AB"), c40("A")),
        wrong(6, LONGEST, "issued", bytes(3)), wrong(6, LONGEST, "signed", bytes(3)), wrong(7, LONGEST, "definition", b"\0"),
        wrong(7, LONGEST, "category", b"\xFF"), refused(8, 187, LONGEST.before("end") + b"\xFF\x80"))
 LEAST = (PLAIN[3], Seal(4, reference="7"))
@@ -291,6 +274,7 @@ family("rooms", "12 is last: with no room every other number is answered as it i
        [(data, 0, 0, answer) for seal in (A, B) for data, _, _, answer in (
            *refused(1, MOST, seal.data() + bytes(4096)), *refused(2, 0, b""), *wrong(3, seal, "mark", b"\0"),
            *wrong(4, seal, "version", b"\4"), *wrong(5, seal, "names", bytes(len(seal.parts["names"]))),
+           *wrong_pair(seal, "names", 1, b"\xFF\xFF"),
            *wrong(6, seal, "signed", bytes(3)), *wrong(7, seal, "category", b"\0"), *wrong(8, seal, "size", b"\x81\x38"),
            *wrong(9, seal, "end", seal.parts["tag0"]), *wrong(10, seal, "size", b"\x39"), *cuts(seal, [len(seal.data()) - 1]),
            *refused(11, len(seal.data()), seal.data() + b"\0"))])
@@ -373,10 +357,10 @@ def check_reference():
     assert Seal(3, country="D<<").parts["country"] == H("6ABC") and len(PLAIN[3].data()) == 76 and LONGEST.at("end") == 186
 
 
-def chapters():
+def chapters(of=CHAPTERS):
     """Each chapter: its name, the lines of its cases, and of their answers."""
     check_reference()
-    for chapter, families in CHAPTERS.items():
+    for chapter, families in of.items():
         lines, replies = [], []
         for heading, cases in families:
             lines.append("# " + heading)

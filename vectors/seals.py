@@ -2,8 +2,9 @@
 
 The reading: `layout` asks for one item after another, each with the number that it is refused with, and is told what the
 item says. It knows neither bytes nor places. `walk` holds the bytes and answers: 2 for an item that is cut, that number for
-one that says nothing. C40 pairs are looked up among those counted out, dates are texts of eight digits and known to the
-calendar, and a DER length is good when its number is written as these bytes (c40_cases.py, der_cases.py).
+one that says nothing, both at the item's first byte, unless the item points at a pair further in. C40 pairs are looked up
+among those counted out, dates are texts of eight digits and known to the calendar, and a DER length is good when its number
+is written as these bytes (c40_cases.py, der_cases.py).
 
 The putting together: a `Seal` is a list of named parts, and knows from what it was given what a reader must report of it.
 """
@@ -26,17 +27,31 @@ Answer = collections.namedtuple("Answer", "number place content", defaults=(0, N
 
 
 # ---- The reading ----------------------------------------------------------------------------
-# An item is a function of the bytes that are left: CUT, or what it says (None: nothing) and its width.
+# An item is a function of the bytes that are left: CUT; what it says and its width; or None, as it says nothing, and how far
+# in it is refused.
 def fixed(size, meaning):
-    return lambda rest: CUT if len(rest) < size else (meaning(rest[:size]), size)
+    def item(rest):
+        if len(rest) < size:
+            return CUT
+        said = meaning(rest[:size])
+        return (None, 0) if said is None else (said, size)
+    return item
 
 
 def text(size, pattern):
-    """C40 text of so many characters that the pattern takes whole."""
-    def meaning(data):
-        found = re.fullmatch(pattern, read_text(data, 255)[2].decode("ascii"))
-        return found and found[0]
-    return fixed((size + 2) // 3 * 2, meaning)
+    """C40 text of so many characters that the pattern takes whole. A pair that is wrongly coded is pointed at, and so is the
+    last where all are well coded but give more characters or fewer; with a wrong character the item as a whole is wrong."""
+    width = (size + 2) // 3 * 2
+
+    def item(rest):
+        if len(rest) < width:
+            return CUT
+        number, place, characters = read_text(rest[:width], 255)
+        if number or len(characters) != size:
+            return None, place if number else width - 2
+        found = re.fullmatch(pattern, characters.decode("ascii"))
+        return (found[0], width) if found else (None, 0)
+    return item
 
 
 def one_of(meanings):
@@ -98,8 +113,10 @@ def walk(seal):
     name, number, item = next(asked)
     while True:
         found = item(seal[place:])
-        if found == CUT or found[0] is None:
-            return (2 if found == CUT else number), place
+        if found == CUT:
+            return 2, place
+        if found[0] is None:
+            return number, place + found[1]
         items.append((name, place, found[0]))
         place += found[1]
         try:
@@ -203,6 +220,12 @@ def refused(number, place, *inputs):
 def wrong(number, seal, name, *forms):
     """A seal with a part in other forms, which is refused at that part; the rest of the seal follows."""
     return refused(number, seal.at(name), *(seal.before(name) + form + seal.after(name) for form in forms))
+
+
+def wrong_pair(seal, name, k, *pairs):
+    """A seal with pair k of a C40 part replaced by others that may not stand there: 5 at that pair."""
+    front, data = seal.at(name) + 2 * k, seal.data()
+    return refused(5, front, *(data[:front] + pair + data[front + 2:] for pair in pairs))
 
 
 def ended(number, seal, name, *forms):

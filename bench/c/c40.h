@@ -24,16 +24,17 @@ static inline fr_filled text_of(const uint8_t *s, size_t n, uint8_t *out, size_t
     for (size_t i = 0; i < n; i += 2) {
         unsigned v = s[i] * 256u + s[i + 1], last = i + 2 == n;
         if (v - 1 >= 64000) {
-            if (s[i] != 0xFE || !last || s[i + 1] == 0) return refused(41, i);
+            if (s[i] != 0xFE) return refused(41, i);
+            if (!last || s[i + 1] == 0) return refused(47, i);
             uint8_t c = s[i + 1] - 1;
-            if (chart[value_of(c)] != c) return refused(41, i);
+            if (chart[value_of(c)] != c) return refused(47, i);
             count += 1;
             continue;
         }
         unsigned u = v - 1, a = u / 1600, b = u / 40 % 40, c = u % 40;
-        if (a < 3 || b < 3) return refused(41, i);
+        if (a < 3 || b < 3) return refused(46, i);
         if (c < 3) {
-            if (c != 0 || !last) return refused(41, i);
+            if (c != 0 || !last) return refused(46, i);
             count += 2;
         } else {
             count += 3;

@@ -6,7 +6,7 @@
 #include "letters.h"
 
 typedef struct { size_t place; } cursor;
-/* an item that is read, one that is cut short (2), and one with its own number */
+/* an item that is read, one that is cut short (2), and one with its own number, whose value is how far into it the fault is */
 typedef enum { READ, CUT, WRONG } kind;
 typedef struct { kind kind; size_t value; cursor next; } item;
 typedef struct { size_t number, place; } refusal;
@@ -15,7 +15,9 @@ static const item cut_item = {CUT, 0, {0}}, wrong_item = {WRONG, 0, {0}};
 
 static item is(size_t value, size_t next) { return (item){READ, value, {next}}; }
 
-static refusal why(item i, size_t own, size_t place) { return (refusal){i.kind == CUT ? 2 : own, place}; }
+static item wrong_at(size_t offset) { return (item){WRONG, offset, {0}}; }
+
+static refusal why(item i, size_t own, size_t place) { return (refusal){i.kind == CUT ? 2 : own, i.kind == WRONG ? place + i.value : place}; }
 
 static item skip(cursor at, size_t n, size_t size) {
     if (n < at.place || n - at.place < size) return cut_item;
@@ -56,17 +58,14 @@ static item feature_length(cursor at, const uint8_t *s, size_t n, size_t version
     return version == 3 ? byte_at(at, s, n) : der_length(at, s, n);
 }
 
-/* whether bytes are C40 of exactly so many characters, which then stand in text */
-static int fills(const uint8_t *s, size_t n, uint8_t *text, size_t size) {
-    fr_filled f = text_of(s, n, text, size);
-    return f.number == 0 && f.count == size;
-}
-
+/* C40 of exactly so many characters, which then stand in text: else wrong at the first pair that is wrongly coded, or at the last, as it does not fit */
 static item field(cursor at, const uint8_t *s, size_t n, uint8_t *text, size_t size) {
     size_t width = (size + 2) / 3 * 2;
     item w = skip(at, n, width);
     if (w.kind != READ) return w;
-    return fills(s + at.place, width, text, size) ? w : wrong_item;
+    fr_filled f = text_of(s + at.place, width, text, size);
+    if (f.number == 0 && f.count == size) return w;
+    return wrong_at(f.number == 0 || f.number == 42 ? width - 2 : f.place);
 }
 
 static int all_reference(const uint8_t *t, size_t size) {

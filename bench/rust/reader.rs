@@ -62,14 +62,16 @@ impl<'a> Cursor<'a> {
         Ok(byte)
     }
 
-    /// C40 text of just the size of `text`.
+    /// C40 text of just the size of `text`: refused at the first pair that is wrongly coded, or at the last, as it does not fit.
     fn field(&mut self, text: &mut [u8]) -> Result<(), Refusal> {
         let start = *self;
         let bytes = self.bytes(text::size_of(text.len()))?;
-        match text::read(bytes, text) {
-            Ok(count) if count == text.len() => Ok(()),
-            _ => Err(start.refusal(5)),
-        }
+        let offset = match text::read(bytes, text) {
+            Ok(count) if count == text.len() => return Ok(()),
+            Ok(_) | Err(Refusal { number: 42, .. }) => bytes.len() - 2,
+            Err(fault) => fault.place,
+        };
+        Err(Refusal { number: 5, place: start.place + offset })
     }
 
     fn country(&mut self) -> Result<[u8; 3], Refusal> {

@@ -15,22 +15,23 @@ fn is_in_chart(c: u8) -> bool {
     CHART[value_of(c)] == c
 }
 
-/// How many characters a pair says, if it is rightly coded.
-fn count_in(pair: &[u8], is_last: bool) -> Option<usize> {
+/// How many characters a pair says, if it is rightly coded, and else the number of its fault.
+fn count_in(pair: &[u8], is_last: bool) -> Result<usize, usize> {
     let (high, low) = (pair[0], pair[1]);
     let v = usize::from(high) * 256 + usize::from(low);
-    if v == 0 {
-        return None;
-    }
-    if v > 64000 {
-        return (high == 0xFE && is_last && low != 0 && is_in_chart(low - 1)).then_some(1);
+    if v == 0 || v > 64000 {
+        return match high {
+            0xFE if is_last && low != 0 && is_in_chart(low - 1) => Ok(1),
+            0xFE => Err(47),
+            _ => Err(41),
+        };
     }
     let u = v - 1;
     match (u / 1600, u / 40 % 40, u % 40) {
-        (0..=2, _, _) | (_, 0..=2, _) => None,
-        (_, _, 0) if is_last => Some(2),
-        (_, _, 0..=2) => None,
-        _ => Some(3),
+        (0..=2, _, _) | (_, 0..=2, _) => Err(46),
+        (_, _, 0) if is_last => Ok(2),
+        (_, _, 0..=2) => Err(46),
+        _ => Ok(3),
     }
 }
 
@@ -44,7 +45,7 @@ pub fn read(bytes: &[u8], out: &mut [u8]) -> Result<usize, Refusal> {
     }
     let mut count = 0;
     for (i, pair) in bytes.chunks_exact(2).enumerate() {
-        count += count_in(pair, 2 * i + 2 == n).ok_or(Refusal { number: 41, place: 2 * i })?;
+        count += count_in(pair, 2 * i + 2 == n).map_err(|number| Refusal { number, place: 2 * i })?;
     }
     let out = out.get_mut(..count).ok_or(refusal(42))?;
     for (characters, pair) in out.chunks_mut(3).zip(bytes.chunks_exact(2)) {

@@ -35,6 +35,45 @@ static void test_c40(void) {
     CHECK(fr_c40_write(many, FR_CHARACTERS_MOST, lent, FR_C40_MOST).count == FR_C40_MOST && kept(FR_C40_MOST, 0));
 }
 
+/* A wrong pair first, between and last of three: its number there, whatever the room. Text of one or two characters is wrong only before the last. */
+static void pair_refused(const char *pair, size_t number, int is_text) {
+    uint8_t bytes[6];
+    size_t place;
+    for (place = 0; place < (is_text ? 4u : 6u); place += 2) {
+        memcpy(bytes, "\xDE\x51\xDE\x51\xDE\x51", 6);
+        memcpy(bytes + place, pair, 2);
+        fresh();
+        CHECK(refused(fr_c40_read(bytes, 6, lent, ROOM), number, place) && refused(fr_c40_read(bytes, 6, NULL, 0), number, place));
+    }
+}
+
+/* 41: no value of three characters. 46: a shift where none may stand. 47: FE before the last pair, or no code of the chart. The first such pair decides. */
+static void test_c40_pairs(void) {
+    static const char *const no_value[] = {"\x00\x00", "\xFA\x01", "\xFD\xFF", "\xFF\x00", "\xFF\xFF"};
+    static const char *const shifts[] = {"\x00\x01", "\x02\x3F", "\x08\x7F", "\x0E\xBF", "\x57\x8F", "\x57\xB7", "\x57\xDF", "\x59\xB2", "\x59\xB3"};
+    static const char *const no_code[] = {"\xFE\x00", "\xFE\x22", "\xFE\x40", "\xFE\x41", "\xFE\x5C", "\xFE\xFF"};
+    static const char *const wrong[] = {"\xFF\xFF", "\x00\x01", "\xFE\x41"};
+    static const size_t numbers[] = {41, 46, 47};
+    uint8_t bytes[4];
+    size_t i, k;
+    for (i = 0; i < sizeof no_value / sizeof *no_value; i++) pair_refused(no_value[i], 41, 0);
+    for (i = 0; i < sizeof shifts / sizeof *shifts; i++) pair_refused(shifts[i], 46, 0);
+    for (i = 0; i < sizeof no_code / sizeof *no_code; i++) pair_refused(no_code[i], 47, 0);
+    pair_refused("\x59\xB1", 46, 1);
+    pair_refused("\xFE\x21", 47, 1);
+    pair_refused("\xFE\x42", 47, 1);
+    both_ways("AA", "\x59\xB1", 2);
+    both_ways(" ", "\xFE\x21", 2);
+    both_ways("Z", "\xFE\x5B", 2);
+    fresh();
+    for (i = 0; i < 3; i++)
+        for (k = 0; k < 3; k++) {
+            memcpy(bytes, wrong[i], 2);
+            memcpy(bytes + 2, wrong[k], 2);
+            CHECK(refused(fr_c40_read(bytes, 4, lent, ROOM), numbers[i], 0));
+        }
+}
+
 static int no_date(size_t number) {
     fr_dated d = fr_date_from_number(number);
     return d.number == 6 && d.place == 0 && same_date(d.date, 0, 0, 0);

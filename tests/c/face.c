@@ -18,10 +18,12 @@ int main(void) {
     test_days();
     test_room();
     test_names();
+    test_pairs();
     test_lengths();
     test_writer_header();
     test_writer_rows();
     test_c40();
+    test_c40_pairs();
     test_dates();
     test_integers();
     test_signatures();

@@ -133,6 +133,59 @@ static void test_names(void) {
     CHECK(writes_names(d, "UTAB00001", filled, sizeof filled));
 }
 
+/* The seal of a version and of these names, with the pairs given put in from `at` on: refused with 5 at `place`. */
+static int names_refused(size_t version, const char *text, size_t at, const char *pairs, size_t count, size_t place) {
+    static const uint8_t signature[56] = {0};
+    static uint8_t seal[FR_SEAL_MOST];
+    size_t length;
+    fr_header header = header_of(version);
+    header.length = strlen(text) - 4;
+    fresh();
+    length = fr_write(header, (const uint8_t *)text, strlen(text), NULL, 0, NULL, 0, signature, 56, lent, ROOM).count;
+    memcpy(seal, lent, length);
+    memcpy(seal + at, pairs, count);
+    return length != 0 && refuses(seal, length, 5, place);
+}
+
+/*
+ * The place of 5. A pair that is wrongly coded, or a last pair that does not fit, is named by its own first byte, the first of them; a wrong
+ * character alone by the item's first byte. "UTAB7890123" has a reference of three pairs, the last of one character.
+ */
+static void test_pairs(void) {
+    static const char *const wrong[] = {"\x00\x00", "\xFA\x01", "\x00\x01", "\x57\xB7", "\x59\xB2", "\xFE\x00", "\xFE\x41"};
+    static const char *const few[] = {"\x59\xB1", "\xFE\x42", "\xFE\x21"}; /* text of two characters or of one */
+    char longest[4 + 255 + 1];
+    size_t i, at;
+    memset(longest, 'Z', sizeof longest);
+    longest[sizeof longest - 1] = 0;
+    for (i = 0; i < sizeof wrong / sizeof *wrong; i++) {
+        for (at = 2; at < 10; at += 2) CHECK(names_refused(3, "UTAB00001", at, wrong[i], 2, at));
+        for (at = 2; at < 14; at += 2) CHECK(names_refused(4, "UTAB7890123", at, wrong[i], 2, at));
+        for (at = 8; at < 178; at += 42) CHECK(names_refused(4, longest, at, wrong[i], 2, at));
+    }
+    for (i = 0; i < sizeof few / sizeof *few; i++) {
+        for (at = 2; at < 10; at += 2) CHECK(names_refused(3, "UTAB00001", at, few[i], 2, at));
+        for (at = 2; at < 12; at += 2) CHECK(names_refused(4, "UTAB7890123", at, few[i], 2, at));
+        CHECK(names_refused(4, longest, 176, few[i], 2, 176));
+    }
+    /* last pairs that do not fit L: of three characters or two where it is one, of three or one where it is two */
+    CHECK(names_refused(4, "UTAB7", 8, "\x19\xA5", 2, 8) && names_refused(4, "UTAB7", 8, "\x59\xB1", 2, 8));
+    CHECK(names_refused(4, "UTAB7890", 10, "\x19\xA5", 2, 10) && names_refused(4, "UTAB7890", 10, "\x59\xB1", 2, 10));
+    CHECK(names_refused(4, "UTAB78901", 10, "\x19\xA5", 2, 10) && names_refused(4, "UTAB78901", 10, "\xFE\x42", 2, 10));
+    CHECK(names_refused(4, "UTAB789012", 10, "\x59\xB1", 2, 10) && names_refused(4, "UTAB789012", 10, "\xFE\x42", 2, 10));
+    /* wrong characters alone: 1TA, spaces in each pair, one space that fits, L of 00 and GG */
+    for (i = 3; i <= 4; i++) CHECK(names_refused(i, "UTAB00001", 4, "\x24\x77", 2, 4) && names_refused(i, "UTAB00001", 6, "\x13\x3C", 2, 4));
+    CHECK(names_refused(3, "UTAB00001", 8, "\x13\x3C", 2, 4) && names_refused(4, "UTAB00001", 8, "\x13\x3C", 2, 8));
+    CHECK(names_refused(4, "UTAB00001", 10, "\x13\x39", 2, 8) && names_refused(4, "UTAB7890", 10, "\xFE\x21", 2, 8));
+    CHECK(names_refused(4, "UTAB00001", 6, "\x5E\x65\xFF\xFF", 4, 4) && names_refused(4, "UTAB00001", 6, "\x60\xF5\xFF\xFF", 4, 4));
+    /* wrong characters before a wrong pair and behind one; two wrong pairs; a wrong pair before a last one that does not fit */
+    for (i = 3; i <= 4; i++) CHECK(names_refused(i, "UTAB00001", 4, "\x24\x77\x00\x00", 4, 6));
+    CHECK(names_refused(3, "UTAB00001", 4, "\x24\x77\x13\x3C\xFE\x42", 6, 8) && names_refused(3, "UTAB00001", 6, "\x00\x01\x13\x3C", 4, 6));
+    CHECK(names_refused(4, "UTAB7890123", 8, "\x13\x3C\x13\x3C\xFF\xFF", 6, 12) && names_refused(4, "UTAB7890123", 10, "\xFE\x42\x13\x3C", 4, 10));
+    CHECK(names_refused(3, "UTAB00001", 6, "\xFF\xFF\x00\x01", 4, 6) && names_refused(4, "UTAB7890123", 10, "\x00\x01\x59\xB1", 4, 10));
+    CHECK(names_refused(4, "UTAB7890123", 8, "\x13\x3C\x19\xA5\x19\xA5", 6, 12));
+}
+
 /* A seal with one feature whose length is `form` and whose value is `size` bytes FF, which are no mark. */
 static fr_reading with_feature(size_t version, const char *form, size_t form_size, size_t size) {
     static const uint8_t names[] = {0xD9, 0xB7, 0x5E, 0x6A, 0x19, 0xA5, 0x19, 0xC9};

@@ -2,12 +2,25 @@
 // once, for the exported calls of `capi` and for the cases that are run.
 ghost use mathlib.Core.Path.{_≡_};
 ghost use Rattle.c40.specs.Calls.{readingOf, writingOf};
+ghost use Rattle.c40.specs.declared.Reading.the-variants.{WrongPair};
 ghost use Rattle.words.specs.Calls.{toldOf};
 ghost use Rattle.face.specs.Face.{filledOf};
 use c40::Reading;
 use c40::Writing;
 use face::FrFilled;
+use pairs::Fault;
 use words::Told;
+
+// The number of a pair's fault, at the pair.
+fn wrong_pair(fault: Fault, at: usize) -> FrFilled
+    ensures { λ r. ⌜ r ≡ filledOf (readingOf (WrongPair fault at)) ⌝ }
+{
+    match fault {
+        Fault::OutOfRange => FrFilled::refused(41, at),
+        Fault::Shift => FrFilled::refused(46, at),
+        Fault::Single => FrFilled::refused(47, at),
+    }
+}
 
 // A reading's number, place and count.
 pub fn text_read(answer: Reading) -> FrFilled
@@ -17,7 +30,7 @@ pub fn text_read(answer: Reading) -> FrFilled
         Reading::Done(count) => FrFilled::done(count),
         Reading::TooLong => FrFilled::refused(45, 0),
         Reading::Odd(at) => FrFilled::refused(40, at),
-        Reading::WrongPair(_, at) => FrFilled::refused(41, at),
+        Reading::WrongPair(fault, at) => wrong_pair(fault, at),
         Reading::NoRoom => FrFilled::refused(42, 0),
     }
 }

@@ -1,6 +1,7 @@
 -- Reading C40 bytes pair by pair from the left: the text, or what is wrong with the first pair that is wrongly coded, and its place.
 -- Assumes nothing.
 pub mod Laws
+pub mod First
 use mathlib.Core.Bool.{Bool, true, false}
 use mathlib.Core.Path.{_≡_}
 use Prim.Native.Nat.{ℕ, _+_, _%_, _≤_}
@@ -9,7 +10,7 @@ use lib.ListN.{length}
 use Rattle.pairs.specs.Chart.{theChart}
 use Rattle.pairs.specs.Pairs.{pairOf}
 use Rattle.pairs.specs.declared.decode.Fault.{Fault}
-use Rattle.pairs.specs.declared.decode.Fault.the-variants.{WronglyCoded}
+use Rattle.pairs.specs.declared.decode.Fault.the-variants.{OutOfRange}
 use Rattle.pairs.specs.declared.decode.Pair.{Pair}
 use Rattle.pairs.specs.declared.decode.Pair.the-variants.{Three, Two, One, Wrong}
 use Rattle.c40.specs.declared.Judged.{Judged}
@@ -18,6 +19,19 @@ use Rattle.c40.specs.declared.Judged.the-variants as judged
 pub data Decoded : Type 0 where
   text : List ℕ → Decoded
   wrong : Fault → ℕ → Decoded
+
+-- the text; whether it is text; and where the first wrong pair stands
+abbrev pub textOf : Decoded → List ℕ
+textOf (text t) = t
+textOf (wrong fault at) = []
+
+abbrev pub isText : Decoded → Bool
+isText (text t) = true
+isText (wrong fault at) = false
+
+abbrev pub wrongAt : Decoded → ℕ
+wrongAt (text t) = 0
+wrongAt (wrong fault at) = at
 
 -- characters in front of what is decoded
 abbrev pub ahead : List ℕ → Decoded → Decoded
@@ -35,29 +49,16 @@ follow at (Two a b) d = ahead (a ∷ b ∷ []) d
 follow at (One a) d = ahead (a ∷ []) d
 follow at (Wrong fault) d = wrong fault at
 
--- the bytes from a place on, an even number of them; the pair that nothing follows is the last
+-- the bytes from a place on; the pair that nothing follows is the last. Their number is even: 40 is told before half a pair is judged.
 unfoldable pub decode : ℕ → List ℕ → Decoded
 decode at [] = text []
-decode at (x ∷ []) = wrong WronglyCoded at
+decode at (x ∷ []) = wrong OutOfRange at
 decode at (x ∷ y ∷ s) = follow at (pairOf theChart (none s) x y) (decode (at + 2) s)
 
--- what the judge says of it, and the text itself
+-- what the judge says of it
 abbrev pub judgedOf : Decoded → Judged
 judgedOf (text t) = judged.Text (length t)
 judgedOf (wrong fault at) = judged.Wrong fault at
-
-abbrev pub textOf : Decoded → List ℕ
-textOf (text t) = t
-textOf (wrong fault at) = []
-
--- whether it is text, and where the first wrong pair stands
-abbrev pub isText : Decoded → Bool
-isText (text t) = true
-isText (wrong fault at) = false
-
-abbrev pub wrongAt : Decoded → ℕ
-wrongAt (text t) = 0
-wrongAt (wrong fault at) = at
 
 -- what the judge asks: the chart, and an even number of bytes, at most 4,096
 pub record Even (chart bytes : List ℕ) : Type 0 where

@@ -25,11 +25,12 @@ use Rattle.pairs.specs.Pairs.Exact.{pair-three, pair-two, pair-one, pair-sound}
 use Rattle.c40.specs.Decode.{Decoded, text, wrong, ahead, follow, none, decode}
 use Rattle.c40.specs.Decode.Laws.{follow-good, ahead-text, wrong-text}
 use Rattle.pairs.specs.declared.decode.Fault.{Fault}
-use Rattle.pairs.specs.declared.decode.Fault.the-variants.{WronglyCoded}
+use Rattle.pairs.specs.declared.decode.Fault.the-variants.{OutOfRange}
 use Rattle.pairs.specs.declared.decode.Pair.{Pair}
 use Rattle.pairs.specs.declared.decode.Pair.the-variants.{Wrong}
-use Rattle.c40.specs.Calls.{known, reading, writing}
-use Rattle.c40.specs.Calls.Laws.{known-text, text-known, reading-long, reading-odd, reading-wrong, reading-no-room, reading-done}
+use Rattle.c40.specs.Calls.{faultNumber, known, reading, writing}
+use Rattle.c40.specs.Calls.Laws.{known-text, text-known, fault-some, reading-long, reading-odd, reading-wrong, reading-no-room}
+use Rattle.c40.specs.Calls.Laws.{reading-done}
 use Rattle.c40.specs.Calls.Laws.{writing-long, writing-stranger, writing-no-room, writing-done}
 
 -- the published form of text decodes as that text
@@ -99,7 +100,7 @@ unfolding decode
 decodes-published [] bytes at t e =
     let is : [] ≡ t = cc in
     (subst (λ v. Text v) is tt, ap publish (sym is) ∙ publish-none)
-decodes-published (x ∷ []) bytes at t e = absurd (wrong-text {fault = WronglyCoded} {at = at} refl e)
+decodes-published (x ∷ []) bytes at t e = absurd (wrong-text {fault = OutOfRange} {at = at} refl e)
 decodes-published (x ∷ y ∷ s) bytes at t e =
     let rest = decodes-published s (λ i. bytes (suc (suc i))) (at + 2) in
     turn x y s (bytes 0) (bytes 1) at t e rest
@@ -139,7 +140,8 @@ reads-only-published s room t bytes e =
         (d : Decoded) →
         decode 0 s ≡ d →
         Text t × (publish t ≡ s) × (length s ≤ 4096) × (length t ≤ room)
-    pairs size even (wrong fault at) f = absurd (never 41 at (omega arith) (reading-wrong s room size even fault at f))
+    pairs size even (wrong fault at) f =
+        absurd (never (faultNumber fault) at (fault-some fault) (reading-wrong s room size even fault at f))
     pairs size even (text u) f =
         by-test (ltb room (length u))
         (λ short. absurd (never 42 0 (omega arith) (reading-no-room s room size even u f (ltb-true room (length u) short))))

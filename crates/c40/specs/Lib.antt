@@ -3,3 +3,5 @@ pub mod Decode
 pub mod Calls
 pub mod Exact
 pub mod OneToOne
+pub mod Refused
+pub mod Pins

@@ -6,7 +6,7 @@ use Rattle.format.specs.Choice.{pick}
 use Rattle.format.specs.Answers.{Answer}
 use Rattle.format.specs.OneToOne.{OneToOne, one-back}
 use Rattle.c40.specs.Calls.{readingOf, writingOf}
-use Rattle.pairs.specs.declared.decode.Fault.the-variants.{WronglyCoded}
+use Rattle.pairs.specs.declared.decode.Fault.the-variants.{OutOfRange, Shift, Single}
 use Rattle.c40.specs.declared.Reading.{Reading}
 use Rattle.c40.specs.declared.Reading.the-variants as read
 use Rattle.c40.specs.declared.Writing.{Writing}
@@ -17,15 +17,19 @@ readingBack a =
     pick (eqb (a .number) 0) (read.Done (a .count))
     (pick (eqb (a .number) 45) read.TooLong
     (pick (eqb (a .number) 40) (read.Odd (a .place))
-    (pick (eqb (a .number) 41) (read.WrongPair WronglyCoded (a .place))
-    read.NoRoom)))
+    (pick (eqb (a .number) 41) (read.WrongPair OutOfRange (a .place))
+    (pick (eqb (a .number) 46) (read.WrongPair Shift (a .place))
+    (pick (eqb (a .number) 47) (read.WrongPair Single (a .place))
+    read.NoRoom)))))
 
 reading-back : (a : Reading) → readingBack (readingOf a) ≡ a
 unfolding readingBack
 reading-back (read.Done n) = refl
 reading-back read.TooLong = refl
 reading-back (read.Odd n) = refl
-reading-back (read.WrongPair WronglyCoded n) = refl
+reading-back (read.WrongPair OutOfRange n) = refl
+reading-back (read.WrongPair Shift n) = refl
+reading-back (read.WrongPair Single n) = refl
 reading-back read.NoRoom = refl
 
 pub reading-one : OneToOne readingOf

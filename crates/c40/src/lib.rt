@@ -9,7 +9,7 @@ pub enum Reading {
     TooLong,
     // 40: an odd number of bytes, this many
     Odd(usize),
-    // 41: what is wrong with the first pair that is wrongly coded, and its place
+    // 41, 46 or 47: what is wrong with the first pair that is wrongly coded, and its place
     WrongPair(Fault, usize),
     // 42: the text does not fit
     NoRoom,

@@ -1,7 +1,7 @@
 // From C40 bytes to text: all pairs judged, the text put down.
 ghost use mathlib.Core.Path.{_≡_};
-ghost use mathlib.Core.Bool.{false};
-ghost use Prim.Native.Nat.{_+_, _≤_};
+ghost use mathlib.Core.Bool.{true, false};
+ghost use Prim.Native.Nat.{_+_, _<_, _≤_};
 ghost use lib.ListN.{length};
 ghost use Rattle.format.specs.Buffer.{over};
 ghost use Rattle.pairs.specs.Chart.{theChart};
@@ -67,6 +67,25 @@ pub(crate) fn full(chart: &[u8; 40], x: u8, y: u8) -> Pair
     Pair::Three(chart[a], chart[b], chart[c])
 }
 
+// What the last pair carries that was judged good: its number and its third value tell how many characters.
+pub(crate) fn last(chart: &[u8; 40], x: u8, y: u8) -> Pair
+    requires { ⌜ (now chart ≡ theChart) × (0 < length (charsOf (pairOf theChart true x y))) ⌝ }
+    ensures { λ r. ⌜ r ≡ pairOf theChart true x y ⌝ }
+{
+    let number = wide(x) * 256 + wide(y);
+    if 64000 < number {
+        return Pair::One(y - 1);
+    }
+    let v = split(number - 1);
+    let a = v.a;
+    let b = v.b;
+    let c = v.c;
+    if c == 0 {
+        return Pair::Two(chart[a], chart[b]);
+    }
+    Pair::Three(chart[a], chart[b], chart[c])
+}
+
 // Puts down the text of bytes that were judged good from the start of `out`, which has room for it.
 pub(crate) fn put(chart: &[u8; 40], bytes: &[u8], out: &mut [u8])
     requires { ⌜ Good (now chart) (now bytes) (now out) ⌝ }
@@ -81,6 +100,6 @@ pub(crate) fn put(chart: &[u8; 40], bytes: &[u8], out: &mut [u8])
         at += 3;
     }
     if i < n {
-        put_pair(pair_of(chart, bytes[i], bytes[i + 1], true), out, at);
+        put_pair(last(chart, bytes[i], bytes[i + 1]), out, at);
     }
 }

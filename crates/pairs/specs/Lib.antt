@@ -1,2 +1,3 @@
 pub mod Chart
 pub mod Pairs
+pub mod Faults

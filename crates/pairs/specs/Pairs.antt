@@ -9,7 +9,7 @@ use lib.Dec.{ltb, eqb}
 use Rattle.format.specs.Choice.{pick}
 use Rattle.format.specs.BigEndian.{be}
 use Rattle.pairs.specs.Chart.{charIn, isIn, shift, valueOf}
-use Rattle.pairs.specs.declared.decode.Fault.the-variants.{WronglyCoded}
+use Rattle.pairs.specs.declared.decode.Fault.the-variants.{OutOfRange, Shift, Single}
 use Rattle.pairs.specs.declared.decode.Pair.{Pair}
 use Rattle.pairs.specs.declared.decode.Pair.the-variants.{Three, Two, One, Wrong}
 
@@ -33,30 +33,28 @@ second n = (n - 1) / 40 % 40
 abbrev pub third : ℕ → ℕ
 third n = (n - 1) % 40
 
--- a pair that carries nothing: one fault for all, until they are told apart
-abbrev pub faulty : Pair
-faulty = Wrong WronglyCoded
-
 -- by a chart: FE stands only at the start of the last pair, and then comes the code plus 1 of a character of the chart
 unfoldable pub single : List ℕ → Bool → ℕ → Pair
-single chart last y = pick last (pick (ltb 0 y) (pick (isIn chart (y - 1)) (One (y - 1)) faulty) faulty) faulty
+single chart last y =
+    pick last (pick (ltb 0 y) (pick (isIn chart (y - 1)) (One (y - 1)) (Wrong Single)) (Wrong Single)) (Wrong Single)
 
 -- values 1 and 2 never occur, and 0 only as the third of the last pair
 unfoldable pub values : List ℕ → Bool → ℕ → ℕ → ℕ → Pair
 values chart last a b c =
-    pick (shift a) faulty
-    (pick (shift b) faulty
+    pick (shift a) (Wrong Shift)
+    (pick (shift b) (Wrong Shift)
     (pick (shift c)
-    (pick (eqb c 0) (pick last (Two (charIn chart a) (charIn chart b)) faulty) faulty)
+    (pick (eqb c 0) (pick last (Two (charIn chart a) (charIn chart b)) (Wrong Shift)) (Wrong Shift))
     (Three (charIn chart a) (charIn chart b) (charIn chart c))))
 
--- a number of 0 or over 64,000 that does not begin with FE is no triple
+-- what a pair carries, or its fault: a number of 0 or over 64,000 that does not begin with FE is no triple
 unfoldable pub pairOf : List ℕ → Bool → ℕ → ℕ → Pair
 pairOf chart last x y =
     pick (eqb x 0xFE) (single chart last y)
     (pick (ltb 0 (number x y))
-    (pick (ltb 64000 (number x y)) faulty (values chart last (first (number x y)) (second (number x y)) (third (number x y))))
-    faulty)
+    (pick (ltb 64000 (number x y)) (Wrong OutOfRange)
+    (values chart last (first (number x y)) (second (number x y)) (third (number x y))))
+    (Wrong OutOfRange))
 
 -- the characters that a pair carries
 abbrev pub charsOf : Pair → List ℕ

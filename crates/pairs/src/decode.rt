@@ -1,7 +1,12 @@
 // What a pair of bytes may carry; `unpack` tells which.
-// What is wrong with a pair of bytes: one kind, which 41 tells.
+// What is wrong with a pair of bytes, one kind for each number; Faults.antt says of each when it is told.
 pub enum Fault {
-    WronglyCoded,
+    // 41: its number is 0 or over 64,000, and it does not begin with FE
+    OutOfRange,
+    // 46: a shift value where none may stand
+    Shift,
+    // 47: FE in a pair that is not the last, or before a code outside the chart
+    Single,
 }
 
 // What a pair of bytes carries.

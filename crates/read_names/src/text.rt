@@ -41,7 +41,7 @@ fn fill(bytes: &[u8], text: &mut [u8]) -> Filled
     }
 }
 
-// A field of as many characters as `text` has room for, by its coding alone.
+// A field of as many characters as `text` has room for, by its coding alone; a pair that is wrongly coded is told at its own place.
 fn coded(at: Cursor, seal: &[u8], text: &mut [u8]) -> Step
     requires { ⌜ (0 < length (now text)) × (length (now text) ≤ 255) ⌝ }
     ensures { λ r. ⌜ stepOf (now (text .exit)) r ≡ read.field (length (now (text .entry))) anyText (at .place) (now (seal .entry)) ⌝ }
@@ -54,11 +54,11 @@ fn coded(at: Cursor, seal: &[u8], text: &mut [u8]) -> Step
     let filled = fill(&seal[start..end], text);
     match filled {
         Filled::Exactly => Step::Past(next),
-        Filled::WrongAt(_) => Step::Not(Rule::WellCoded, start),
+        Filled::WrongAt(pair) => Step::Not(Rule::WellCoded, start + pair),
     }
 }
 
-// A field of text, put into `text`, which has room for just as many characters as it has.
+// A field of text, put into `text`, which has room for just as many characters as it has; a wrong character is told at the field's place.
 pub(crate) fn field(at: Cursor, seal: &[u8], kind: Kind, text: &mut [u8]) -> Step
     requires { ⌜ Fits kind (now text) ⌝ }
     ensures { λ r. ⌜ stepOf (now (text .exit)) r

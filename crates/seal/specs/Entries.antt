@@ -3,7 +3,7 @@
 use mathlib.Core.Path.{_≡_, refl, ap}
 use mathlib.Core.Logic.{_⊎_, inl, inr, ⊎-elim}
 use mathlib.Core.Bool.{Bool, true, false}
-use Prim.Native.Nat.{ℕ, _-_}
+use Prim.Native.Nat.{ℕ, _-_, _%_}
 use mathlib.Core.List.{List, [], _∷_}
 use lib.Dec.{ltb, leb, eqb}
 use lib.IntN.{ℤ, pos}
@@ -11,7 +11,8 @@ use lib.ListN.{length, take, drop}
 use Rattle.format.specs.Choice.{pick}
 use Rattle.format.specs.Answers.{Outcome, done, refused, filled, Result, result, refusal}
 use Rattle.format.specs.Order.{Test, test, inOrder, inRoom, numbers}
-use Rattle.c40.specs.Decode.{decode, textOf}
+use Rattle.pairs.specs.declared.decode.Fault.the-variants as fault
+use Rattle.c40.specs.Decode.{Decoded, text, wrong, decode, textOf, isText, wrongAt}
 use Rattle.c40.specs.Text.{publish}
 use Rattle.c40.specs.Calls as c40
 use Rattle.dates.specs.declared.Date.{Date}
@@ -62,10 +63,31 @@ roomy : (n : ℕ) (s : List ℕ) (room : ℕ) → Answers (n ∷ []) (inRoom n s
 unfolding inRoom
 roomy n s room = ordered (test n 0 (leb (length s) room) ∷ []) s
 
--- C40 reading: 45, 40, 41 or 42; writing: 45, 43 or 44
-pub c40-reading : (bytes : List ℕ) (room : ℕ) → Answers (45 ∷ 40 ∷ 41 ∷ 42 ∷ []) (c40.reading bytes room)
+-- C40 reading: 45, 40, one of 41, 46 and 47, or 42; writing: 45, 43 or 44
+abbrev readingNumbers : List ℕ
+readingNumbers = 45 ∷ 40 ∷ 41 ∷ 46 ∷ 47 ∷ 42 ∷ []
+
+abbrev pairsTold : Decoded → ℕ → Outcome
+pairsTold d room =
+    inOrder (test (c40.wrongNumber d) (wrongAt d) (isText d) ∷ test 42 0 (leb (length (textOf d)) room) ∷ []) (done (textOf d))
+
+pairs-listed : (d : Decoded) (room : ℕ) → Answers readingNumbers (pairsTold d room)
+pairs-listed (text t) room =
+    choose readingNumbers (leb (length t) room) (done t) (refused 42 0) (inl refl) (inr (inr (inr (inr (inr (inr (inl refl))))), refl))
+pairs-listed (wrong fault.OutOfRange at) room = inr (inr (inr (inl refl)), refl)
+pairs-listed (wrong fault.Shift at) room = inr (inr (inr (inr (inl refl))), refl)
+pairs-listed (wrong fault.Single at) room = inr (inr (inr (inr (inr (inl refl)))), refl)
+
+pub c40-reading : (bytes : List ℕ) (room : ℕ) → Answers readingNumbers (c40.reading bytes room)
 unfolding c40.reading
-c40-reading bytes room = ordered (c40.readingTests bytes room) (textOf (decode 0 bytes))
+c40-reading bytes room =
+    let d = decode 0 bytes in
+    let pairs = pairsTold d room in
+    let even = pick (eqb (length bytes % 2) 0) pairs (refused 40 (length bytes)) in
+    choose readingNumbers (leb (length bytes) 4096) even (refused 45 0)
+    (choose readingNumbers (eqb (length bytes % 2) 0) pairs (refused 40 (length bytes)) (pairs-listed d room)
+    (inr (inr (inl refl), refl)))
+    (inr (inl refl, refl))
 
 pub c40-writing : (t : List ℕ) (room : ℕ) → Answers (45 ∷ 43 ∷ 44 ∷ []) (c40.writing t room)
 unfolding c40.writing

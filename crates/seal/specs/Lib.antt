@@ -1,4 +1,5 @@
 pub mod Again
 pub mod FiveSizes
 pub mod Entries
+pub mod PlaceOfFive
 pub mod Conditions

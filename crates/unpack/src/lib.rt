@@ -23,34 +23,34 @@ pub fn split(n: usize) -> Values
     }
 }
 
-// What a pair carries that begins with FE: one character, its code plus 1, and only as the last pair.
+// What a pair over 64,000 carries: one character, FE and its code plus 1, and only as the last pair.
 fn single(chart: &[u8; 40], x: u8, y: u8, last: bool) -> Pair
     requires { ⌜ 64000 < x * 256 + y ⌝ }
     ensures { λ r. ⌜ r ≡ pairOf (now (chart .entry)) last x y ⌝ }
 {
     if x != 0xFE {
-        return Pair::Wrong(Fault::WronglyCoded);
+        return Pair::Wrong(Fault::OutOfRange);
     }
     if !last {
-        return Pair::Wrong(Fault::WronglyCoded);
+        return Pair::Wrong(Fault::Single);
     }
     if y == 0 {
-        return Pair::Wrong(Fault::WronglyCoded);
+        return Pair::Wrong(Fault::Single);
     }
     let c = y - 1;
     if chart[value_of(c)] != c {
-        return Pair::Wrong(Fault::WronglyCoded);
+        return Pair::Wrong(Fault::Single);
     }
     Pair::One(c)
 }
 
-// What the pair `x`, `y` carries by the chart that is lent.
+// What the pair `x`, `y` carries by the chart that is lent, or its fault.
 pub fn pair_of(chart: &[u8; 40], x: u8, y: u8, last: bool) -> Pair
     ensures { λ r. ⌜ r ≡ pairOf (now (chart .entry)) last x y ⌝ }
 {
     let number = wide(x) * 256 + wide(y);
     if number == 0 {
-        return Pair::Wrong(Fault::WronglyCoded);
+        return Pair::Wrong(Fault::OutOfRange);
     }
     if 64000 < number {
         return single(chart, x, y, last);
@@ -60,10 +60,10 @@ pub fn pair_of(chart: &[u8; 40], x: u8, y: u8, last: bool) -> Pair
     let b = v.b;
     let c = v.c;
     if a < 3 {
-        return Pair::Wrong(Fault::WronglyCoded);
+        return Pair::Wrong(Fault::Shift);
     }
     if b < 3 {
-        return Pair::Wrong(Fault::WronglyCoded);
+        return Pair::Wrong(Fault::Shift);
     }
     if 3 <= c {
         return Pair::Three(chart[a], chart[b], chart[c]);
@@ -73,7 +73,7 @@ pub fn pair_of(chart: &[u8; 40], x: u8, y: u8, last: bool) -> Pair
             return Pair::Two(chart[a], chart[b]);
         }
     }
-    Pair::Wrong(Fault::WronglyCoded)
+    Pair::Wrong(Fault::Shift)
 }
 
 // How many characters a pair carries; none where it is wrongly coded.

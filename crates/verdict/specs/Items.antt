@@ -5,6 +5,7 @@ pub mod Laws
 pub mod Fields
 pub mod Sound
 pub mod FieldsSound
+pub mod Wrong
 pub mod Pins
 use mathlib.Core.Bool.{Bool}
 use Prim.Native.Nat.{ℕ, _+_, _-_, _*_}
@@ -103,10 +104,11 @@ abbrev pub judgedBy : Option Rule → List ℕ → ℕ → ℕ → Item (List �
 judgedBy none t at after = is t after
 judgedBy (some rule) t at after = not rule at
 
--- a field of k characters, and the rule that they break, if any; the place of a wrong pair is at hand, and the item's own is told
+-- a field of k characters, and the rule that they break, if any: a wrongly coded pair is told at its own first byte, and a wrong character
+-- alone at the item's (document 02, Ticket 1)
 abbrev pub fieldIn : ℕ → (List ℕ → Option Rule) → ℕ → Exact → Item (List ℕ)
 fieldIn k broken at (exact t) = judgedBy (broken t) t at (at + width k)
-fieldIn k broken at (wrongAt pair) = not rule.WellCoded at
+fieldIn k broken at (wrongAt pair) = not rule.WellCoded (at + pair)
 
 abbrev pub field : ℕ → (List ℕ → Option Rule) → ℕ → List ℕ → Item (List ℕ)
 field k broken at s = whole (width k) at s (λ bytes. fieldIn k broken at (exactly k (decode 0 bytes)))

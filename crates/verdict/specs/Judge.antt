@@ -102,11 +102,10 @@ sizeIn at s n start =
 unfoldable pub signature : ℕ → List ℕ → Way ℕ
 signature at s = next item.SignatureLength (derLength at s) (sizeIn at s)
 
--- header, features, signature
-unfoldable pub reading : List ℕ → Way Report
-reading s =
-    pass (header s)
-    (λ h header-end. pass (features 256 (h .version) [] header-end s)
+-- features and signature, after a header and the place where it ends
+abbrev pub afterHeader : List ℕ → Header → ℕ → Way Report
+afterHeader s h header-end =
+    pass (features 256 (h .version) [] header-end s)
     (λ rows message-end. pass (signature (message-end + 1) s)
     (λ n start.
     is
@@ -119,7 +118,11 @@ reading s =
       signature-place = start;
       signature-size = n;
     })
-    (start + n))))
+    (start + n)))
+
+-- header, features, signature
+unfoldable pub reading : List ℕ → Way Report
+reading s = pass (header s) (afterHeader s)
 
 -- a byte string that is too long is refused before its first item is read
 unfoldable pub judging : List ℕ → Way Report

@@ -2,6 +2,7 @@
 --   Items             each item read at a place: Read, Item, Way, next; mark to derLength
 --     Laws, Fields          a legal value's published form is read as that value
 --     Sound, FieldsSound    and the other way: what is read is a legal value's form
+--     Wrong                 where a text that is wrongly coded is told: at its first wrongly coded pair, exactly
 --   Judge             header, features, signature, judge; Report and Verdict
 --     Complete, Features    the published form of a legal content is accepted
 --     Sound, Seals          what is accepted is the published form of the content reported

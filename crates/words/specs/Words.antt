@@ -52,11 +52,13 @@ writer =
 abbrev pub codecs : List Row
 codecs =
     row 40 "C40 bytes odd in number"
-    ∷ row 41 "C40 pair wrongly coded"
+    ∷ row 41 "C40 pair value of 0 or over 64,000 that does not begin with FE"
     ∷ row 42 "no room for the text"
     ∷ row 43 "character that is not in the chart"
     ∷ row 44 "no room for the C40 bytes"
     ∷ row 45 "text or bytes over the size"
+    ∷ row 46 "C40 shift value where none may stand"
+    ∷ row 47 "C40 FE misplaced or followed by a code outside the chart"
     ∷ []
 
 -- signatures, INTEGERs and the choice of hash

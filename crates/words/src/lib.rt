@@ -13,7 +13,7 @@ use octets::wide;
 pub const LONGEST: usize = 93;
 
 // The table of the words, a line a number: two digits, a space, the words. `pageOf` of specs/Page.antt makes it of the table there.
-const PAGE: [u8; 1228] = *b"\
+const PAGE: [u8; 1368] = *b"\
 00 done\n\
 01 seal longer than 4,096\n\
 02 the input ends before an item is whole\n\
@@ -37,11 +37,13 @@ const PAGE: [u8; 1228] = *b"\
 27 writer: seal would pass 4,096\n\
 28 writer: no room for the whole seal\n\
 40 C40 bytes odd in number\n\
-41 C40 pair wrongly coded\n\
+41 C40 pair value of 0 or over 64,000 that does not begin with FE\n\
 42 no room for the text\n\
 43 character that is not in the chart\n\
 44 no room for the C40 bytes\n\
 45 text or bytes over the size\n\
+46 C40 shift value where none may stand\n\
+47 C40 FE misplaced or followed by a code outside the chart\n\
 60 n is not one of the five\n\
 61 raw length is not 2n\n\
 62 not strict DER, with bytes left over, negative, or too big for n\n\

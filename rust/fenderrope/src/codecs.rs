@@ -7,13 +7,17 @@ use crate::refusal::Refusal;
 ///
 /// # Errors
 ///
-/// 45 `C40_TOO_LONG`, 40 `C40_ODD` at the number of bytes, 41 `C40_PAIR` at the first wrong pair's first byte, 42
-/// `C40_TEXT_ROOM`, judged in this order ([`crate::numbers`]). All of `out` stays.
+/// 45 `C40_TOO_LONG`, 40 `C40_ODD` at the number of bytes, 41 `C40_PAIR`, 46 `C40_SHIFT` or 47 `C40_FE` at the first
+/// faulty pair's first byte, 42 `C40_TEXT_ROOM`, judged in this order ([`crate::numbers`]). The first faulty pair
+/// decides between 41, 46 and 47. All of `out` stays.
 ///
 /// ```
 /// let mut text = [0; 12];
 /// let count = fenderrope::c40_read(&[0xDE, 0x51, 0x58, 0x26], &mut text)?;
 /// assert_eq!(&text[..count], b"VISA01");
+/// // FE may begin no pair but the last.
+/// let refusal = fenderrope::c40_read(&[0xDE, 0x51, 0xFE, 0x45, 0x58, 0x26], &mut text).unwrap_err();
+/// assert_eq!((refusal.number, refusal.place), (47, 2));
 /// # Ok::<(), fenderrope::Refusal>(())
 /// ```
 pub fn c40_read(bytes: &[u8], out: &mut [u8]) -> Result<usize, Refusal> {

@@ -39,6 +39,8 @@ pub const C40_TEXT_ROOM: usize = 42;
 pub const C40_CHARACTER: usize = 43;
 pub const C40_BYTES_ROOM: usize = 44;
 pub const C40_TOO_LONG: usize = 45;
+pub const C40_SHIFT: usize = 46;
+pub const C40_FE: usize = 47;
 
 pub const NO_SIZE: usize = 60;
 pub const RAW_LENGTH: usize = 61;

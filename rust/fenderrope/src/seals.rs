@@ -40,7 +40,8 @@ pub fn read<'a>(seal: &'a [u8], table: &'a mut [usize], text: &'a mut [u8]) -> R
 /// # Errors
 ///
 /// 1 `TOO_LONG` at 4,096; then 2 to 11, item by item from the left ([`crate::numbers`]). The place is the first byte of
-/// the item that was not read, for 10 of the signature's length, for 11 the first extra byte.
+/// the item that was not read, for 5 of its first pair that is wrongly coded or does not fit if it has one, for 10 of
+/// the signature's length, for 11 the first extra byte.
 ///
 /// ```
 /// let refusal = fenderrope::judge(b"").unwrap_err();

@@ -1,4 +1,4 @@
-//! C40 text (document 01, "C40 (2.6)").
+//! C40 text (document 01, "C40 (2.6)"; document 02, Ticket 1).
 
 use crate::{fill, Filled, Refusal};
 
@@ -19,33 +19,59 @@ fn value(character: u8) -> Option<usize> {
     (3..CHART.len()).find(|&value| CHART[value] == character)
 }
 
-/// The text of one pair, or nothing if it is wrongly coded. "Values 1 and 2 never occur; 0 only as the third of the
-/// last pair; FE only at the start of the last pair."
-fn pair(first: u8, second: u8, last: bool, text: &mut Vec<u8>) -> Option<()> {
-    if first == 0xFE {
-        // "One left over is FE and its ASCII code plus 1."
-        let single = second.checked_sub(1).filter(|&single| last && value(single).is_some())?;
-        text.push(single);
-        return Some(());
-    }
-    // "Three values a, b, c make 1600a + 40b + c + 1, big-endian in two bytes."
-    let sum = (usize::from(first) * 256 + usize::from(second)).checked_sub(1)?;
-    let (a, b, c) = (sum / 1600, sum / 40 % 40, sum % 40);
-    text.push(character(a)?);
-    text.push(character(b)?);
-    // "Two left over are completed with 0."
-    if !(last && c == 0) {
-        text.push(character(c)?);
-    }
-    Some(())
+/// "Which fault in the C40?" (document 02, Ticket 1).
+#[derive(Debug, Clone, Copy, PartialEq, Eq)]
+pub(crate) enum Fault {
+    /// "A pair value of 0 or over 64,000 that does not begin with FE."
+    Value,
+    /// "Shift value where none may stand."
+    Shift,
+    /// "FE misplaced or followed by a code outside the chart."
+    Fe,
 }
 
-/// The text of an even number of bytes, or the place of the first pair that is wrongly coded.
-pub(crate) fn decode(bytes: &[u8]) -> Result<Vec<u8>, usize> {
+impl Fault {
+    /// "Split it: 41 stays"; "46 shift value"; "47 FE".
+    fn number(self) -> usize {
+        match self {
+            Fault::Value => 41,
+            Fault::Shift => 46,
+            Fault::Fe => 47,
+        }
+    }
+}
+
+/// The one character behind FE: "one left over is FE and its ASCII code plus 1", and "FE only at the start of the last
+/// pair".
+fn single(code: u8, last: bool) -> Result<u8, Fault> {
+    code.checked_sub(1).filter(|&single| last && value(single).is_some()).ok_or(Fault::Fe)
+}
+
+/// The two or three characters of a pair's value. "Three values a, b, c make 1600a + 40b + c + 1", so none make 0 and
+/// none make more than 64,000.
+fn triple(number: usize, last: bool) -> Result<Vec<u8>, Fault> {
+    let sum = number.checked_sub(1).filter(|&sum| sum < 64_000).ok_or(Fault::Value)?;
+    let values = [sum / 1600, sum / 40 % 40, sum % 40];
+    // "Two left over are completed with 0"; "0 only as the third of the last pair".
+    let carried = if last && values[2] == 0 { 2 } else { 3 };
+    values[..carried].iter().map(|&value| character(value).ok_or(Fault::Shift)).collect()
+}
+
+/// The characters of a pair, "big-endian in two bytes", or what is wrong with it.
+fn pair(first: u8, second: u8, last: bool) -> Result<Vec<u8>, Fault> {
+    if first == 0xFE {
+        return Ok(vec![single(second, last)?]);
+    }
+    triple(usize::from(first) * 256 + usize::from(second), last)
+}
+
+/// The text of an even number of bytes, or the place of the first faulty pair and its fault: "the first faulty pair
+/// decides".
+pub(crate) fn decode(bytes: &[u8]) -> Result<Vec<u8>, (usize, Fault)> {
     let mut text = Vec::with_capacity(bytes.len() / 2 * 3);
     for (index, two) in bytes.chunks_exact(2).enumerate() {
         let last = 2 * index + 2 == bytes.len();
-        pair(two[0], two[1], last, &mut text).ok_or(2 * index)?;
+        text.extend(pair(two[0], two[1], last).map_err(|fault| (2 * index, fault))?);
     }
     Ok(text)
 }
@@ -68,14 +94,14 @@ pub(crate) fn encode(text: &[u8]) -> Result<Vec<u8>, usize> {
     Ok(bytes)
 }
 
-/// Reads C40 bytes: "45, 40, 41, 42".
+/// Reads C40 bytes: "45, 40, 41, 42", with 46 and 47 "both at 41's place in the order".
 pub fn c40_read(bytes: &[u8], out: &mut [u8]) -> Filled {
     let text = if bytes.len() > MOST_BYTES {
         Err(Refusal::of(45))
     } else if bytes.len() % 2 == 1 {
         Err(Refusal { number: 40, place: bytes.len() })
     } else {
-        decode(bytes).map_err(|place| Refusal { number: 41, place })
+        decode(bytes).map_err(|(place, fault)| Refusal { number: fault.number(), place })
     };
     fill(text, 42, out)
 }

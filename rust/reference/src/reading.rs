@@ -1,14 +1,14 @@
-//! The reader (document 01, "Layout" and "The numbers a call answers").
+//! The reader (document 01, "Layout" and "The numbers a call answers"; document 02, Ticket 1).
 //!
 //! A parser takes the bytes that are left and gives what it read and the bytes left after it. A refusal remembers how
-//! many bytes were left where its item began; its place is then the seal's length less that.
+//! many bytes were left where its item began, or the pair that it names; its place is then the seal's length less that.
 
 use std::collections::BTreeSet;
 
 use crate::der::Fault;
 use crate::{c40, dates, der, names, Ends, Header, Part, Reading, Refusal, LONGEST_SEAL, SIGNATURE_SIZES};
 
-/// The number of a refusal, and how many bytes were left at the item's first byte.
+/// The number of a refusal, and how many bytes were left at the byte that it names.
 struct Stopped {
     number: usize,
     left: usize,
@@ -47,32 +47,44 @@ fn item<T>(width: usize, number: usize, rest: &[u8], meaning: impl FnOnce(&[u8])
     meaning(found).map_or_else(|| stop(number, rest), |meant| Ok((meant, after)))
 }
 
-/// C40 text of exactly so many characters: a full last pair, two characters and 0, or one after FE, as the count asks.
-fn text(characters: usize, bytes: &[u8]) -> Option<Vec<u8>> {
-    c40::decode(bytes).ok().filter(|text| text.len() == characters)
+/// The text of an item of so many characters: a full last pair, two characters and 0, or one after FE, as the count
+/// asks. Else the place in it of "the item's first wrongly coded pair, a last pair that does not fit the number of
+/// characters included" (document 02, Ticket 1).
+fn text(characters: usize, coded: &[u8]) -> Result<Vec<u8>, usize> {
+    match c40::decode(coded) {
+        Ok(text) if text.len() == characters => Ok(text),
+        Ok(_) => Err(coded.len() - 2),
+        Err((place, _)) => Err(place),
+    }
+}
+
+/// A text item that means something, or else 5: at the first wrongly coded pair, and "a wrong character alone keeps the
+/// item's first byte". "So k characters take 2 x ceil(k / 3) bytes."
+fn text_item<T>(characters: usize, rest: &[u8], meaning: impl FnOnce(Vec<u8>) -> Option<T>) -> Parsed<'_, T> {
+    let (coded, after) = bytes(2 * characters.div_ceil(3), rest)?;
+    let text = text(characters, coded).or_else(|place| stop(5, &rest[place..]))?;
+    meaning(text).map_or_else(|| stop(5, rest), |meant| Ok((meant, after)))
 }
 
 /// The country. A filler is "carried in C40 as a space".
-fn country(two: &[u8]) -> Option<[u8; 3]> {
-    let carried: [u8; 3] = text(3, two)?.try_into().ok()?;
+fn country(carried: Vec<u8>) -> Option<[u8; 3]> {
+    let carried: [u8; 3] = carried.try_into().ok()?;
     let country = carried.map(|character| if character == b' ' { b'<' } else { character });
     names::is_country(&country).then_some(country)
 }
 
 /// "Version 3: nine characters, six bytes."
 fn names_of_three(rest: &[u8]) -> Parsed<'_, Vec<u8>> {
-    item(6, 5, rest, |six| text(9, six).filter(|text| names::is_signer(&text[..4]) && names::is_reference(&text[4..])))
+    text_item(9, rest, |nine| (names::is_signer(&nine[..4]) && names::is_reference(&nine[4..])).then_some(nine))
 }
 
 /// Version 4: "the first four bytes and then the reference".
 fn names_of_four(rest: &[u8]) -> Parsed<'_, Vec<u8>> {
-    let ((mut signer, length), rest) = item(4, 5, rest, |four| {
-        let mut six = text(6, four).filter(|six| names::is_signer(&six[..4]))?;
+    let ((mut signer, length), rest) = text_item(6, rest, |mut six| {
         let length = names::length_of(&six.split_off(4))?;
-        Some((six, length))
+        names::is_signer(&six).then_some((six, length))
     })?;
-    let reference = |bytes: &[u8]| text(length, bytes).filter(|reference| names::is_reference(reference));
-    let (reference, rest) = item(2 * length.div_ceil(3), 5, rest, reference)?;
+    let (reference, rest) = text_item(length, rest, |reference| names::is_reference(&reference).then_some(reference))?;
     signer.extend(reference);
     Ok((signer, rest))
 }
@@ -90,7 +102,7 @@ fn header(rest: &[u8]) -> Parsed<'_, (Header, Vec<u8>)> {
         [0x03] => Some(4),
         _ => None,
     })?;
-    let (country, rest) = item(2, 5, rest, country)?;
+    let (country, rest) = text_item(3, rest, country)?;
     let (text, rest) = if version == 3 { names_of_three(rest)? } else { names_of_four(rest)? };
     let (issued_on, rest) = item(3, 6, rest, dates::from_bytes)?;
     let (signed_on, rest) = item(3, 6, rest, dates::from_bytes)?;

@@ -1,5 +1,5 @@
-//! The words of the numbers (document 01, "The numbers a call answers"), without places and without what stands in
-//! brackets.
+//! The words of the numbers (document 01, "The numbers a call answers"; document 02, Ticket 1), without places and
+//! without what stands in brackets.
 
 use crate::{fill, Filled};
 
@@ -29,11 +29,13 @@ pub fn words(number: usize) -> &'static str {
         27 => "writer: seal would pass 4,096",
         28 => "writer: no room for the whole seal",
         40 => "C40 bytes odd in number",
-        41 => "C40 pair wrongly coded",
+        41 => "C40 pair value of 0 or over 64,000 that does not begin with FE",
         42 => "no room for the text",
         43 => "character that is not in the chart",
         44 => "no room for the C40 bytes",
         45 => "text or bytes over the size",
+        46 => "C40 shift value where none may stand",
+        47 => "C40 FE misplaced or followed by a code outside the chart",
         60 => "n is not one of the five",
         61 => "raw length is not 2n",
         62 => "not strict DER, with bytes left over, negative, or too big for n",

@@ -2,7 +2,7 @@
 
 mod common;
 
-use common::{hex, read, seal, seal_a, with, HEADER_A, HEADER_FOUR};
+use common::{hex, pair, read, seal, seal_a, with, HEADER_A, HEADER_FOUR};
 use reference::inputs::{lent, lent_table};
 use reference::{judge, Reading};
 
@@ -32,11 +32,6 @@ fn items_of_the_header_in_order() {
     // An item cut short is 2 before its content is judged.
     assert_eq!(read(&hex("DC 02 00")), (2, 2));
     assert_eq!(read(&hex("DC 02 00 00")), (5, 2));
-}
-
-/// The two bytes of three C40 values.
-fn pair(a: usize, b: usize, c: usize) -> String {
-    format!("{:04X}", 1600 * a + 40 * b + c + 1)
 }
 
 #[test]
@@ -70,9 +65,10 @@ fn the_country_has_letters_then_fillers() {
 fn the_nine_character_field_has_full_triples() {
     let good = seal_a();
     for place in [4, 6, 8] {
-        for new in [pair(20, 20, 0), pair(20, 20, 1), pair(3, 20, 20), "FE 42".into(), "00 00".into(), "FA 01".into()] {
-            assert_eq!(read(&with(&good, place, &new)), (5, 4), "{place} {new}");
+        for new in [pair(20, 20, 0), pair(20, 20, 1), "FE 42".into(), "00 00".into(), "FA 01".into()] {
+            assert_eq!(read(&with(&good, place, &new)), (5, place), "{place} {new}");
         }
+        assert_eq!(read(&with(&good, place, &pair(3, 20, 20))), (5, 4), "{place}");
     }
     // The signer's first two are letters, its last two and the reference letters or digits: Z of the reference is no
     // fault.
@@ -101,12 +97,13 @@ fn version_four_names_are_two_items() {
         assert_eq!(read(&with(&good, 4, &format!("{first} {}", pair(b, high, low)))), (5, 4));
     }
     // L is 6: the reference's last pair has only two characters. L is 4: it should begin with FE.
-    assert_eq!(read(&with(&good, 4, &format!("{first} {}", pair(b, zero, 10)))), (5, 8));
-    assert_eq!(read(&with(&good, 4, &format!("{first} {}", pair(b, zero, 8)))), (5, 8));
+    assert_eq!(read(&with(&good, 4, &format!("{first} {}", pair(b, zero, 10)))), (5, 10));
+    assert_eq!(read(&with(&good, 4, &format!("{first} {}", pair(b, zero, 8)))), (5, 10));
     // L is 5: a full last pair, one after FE, a space.
-    for new in [pair(zero, zero, zero), "FE 42".into(), pair(zero, 3, 0), pair(zero, 0, 0), pair(zero, zero, 1)] {
-        assert_eq!(read(&with(&good, 10, &new)), (5, 8));
+    for new in [pair(zero, zero, zero), "FE 42".into(), pair(zero, 0, 0), pair(zero, zero, 1)] {
+        assert_eq!(read(&with(&good, 10, &new)), (5, 10));
     }
+    assert_eq!(read(&with(&good, 10, &pair(zero, 3, 0))), (5, 8));
     assert_eq!(read(&with(&good, 10, &pair(39, zero, 0))), (0, 0));
     // FE before the last pair.
     assert_eq!(read(&with(&good, 8, "FE 42")), (5, 8));

@@ -139,10 +139,11 @@ fn c40_order_and_places() {
     assert_eq!(decoded(&hex("FA 00 FA 00"), 5), Err((42, 0)));
     assert_eq!(decoded(&hex("FE 21"), 1), Ok(b" ".to_vec()));
     assert_eq!(decoded(&[], 0), Ok(vec![]));
-    assert_eq!(decoded(&hex("FE 42 FA 00"), 9), Err((41, 0)));
-    assert_eq!(decoded(&hex("57 81"), 9), Err((41, 0)));
-    for code in ["00", "01", "20", "22", "30", "3B", "41", "5C", "62"] {
-        assert_eq!(decoded(&hex(&format!("FE {code}")), 9), Err((41, 0)));
+    // 46 and 47 have 41's place in the order: behind 45 and 40, before 42.
+    for (pair, number) in [("FA 01", 41), ("00 01", 46), ("57 81", 46), ("FE 00", 47)] {
+        assert_eq!(decoded(&hex(pair).repeat(2049), 0), Err((45, 0)));
+        assert_eq!(decoded(&hex(&format!("{pair} 00")), 0), Err((40, 3)));
+        assert_eq!(decoded(&hex(&format!("FA 00 {pair}")), 0), Err((number, 2)));
     }
     assert_eq!(decoded(&[0xFA, 0x00].repeat(2048), 6144), Ok(vec![b'Z'; 6144]));
     assert_eq!(encoded(&[b'Z'; 6144], 4096), Ok([0xFA, 0x00].repeat(2048)));

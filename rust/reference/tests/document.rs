@@ -44,7 +44,7 @@ fn every_text_of_three_characters_is_one_pair() {
             assert!(text.iter().all(|character| chart.contains(character)));
             assert_eq!(filled(2, |out| c40_write(text, out)), Ok(number.to_be_bytes().to_vec()));
         } else {
-            assert_eq!((answer.number, answer.place), (41, 0));
+            assert!([41, 46, 47].contains(&answer.number) && answer.place == 0);
         }
     }
     assert_eq!(good, 37 * 37 * 37 + 37 * 37 + 37);
@@ -200,7 +200,7 @@ fn days_of_a_seal() {
 
 #[test]
 fn words_of_the_numbers() {
-    let list: Vec<usize> = (0..=12).chain(20..=28).chain(40..=45).chain(60..=63).chain([65]).collect();
+    let list: Vec<usize> = (0..=12).chain(20..=28).chain(40..=47).chain(60..=63).chain([65]).collect();
     let with_words: Vec<usize> = (0..1000).filter(|&number| !words(number).is_empty()).collect();
     assert_eq!(with_words, list);
     assert_eq!(words(usize::MAX), "");

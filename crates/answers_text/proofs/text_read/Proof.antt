@@ -33,14 +33,14 @@ refused-requires-2 c κs = search needs
 enum-known-answer-3 : tie.Need-enum-known-answer-3
 enum-known-answer-3 c = search needs
 
-refused-requires-3 : tie.Need-refused-requires-3
-refused-requires-3 c κs = search needs
+wrong-pair-requires : tie.Need-wrong-pair-requires
+wrong-pair-requires c κs = search needs
 
 enum-told-2 : tie.Need-enum-told-2
 enum-told-2 c = search needs
 
-refused-requires-4 : tie.Need-refused-requires-4
-refused-requires-4 c κs = search needs
+refused-requires-3 : tie.Need-refused-requires-3
+refused-requires-3 c κs = search needs
 
 returns : tie.Need-returns
 returns c = told-by told (c .done .ensures) (c .before .before .answer .given .1)
@@ -52,10 +52,10 @@ returns-3 : tie.Need-returns-3
 returns-3 c = told-by told (c .refused2 .ensures) (c .before .before .answer2 .given .1)
 
 returns-4 : tie.Need-returns-4
-returns-4 c = told-by told (c .refused3 .ensures) (c .before .before .answer3 .given .1)
+returns-4 c = told-by told (c .wrong-pair .ensures) (c .before .before .answer3 .given .1)
 
 returns-5 : tie.Need-returns-5
-returns-5 c = told-by told (c .refused4 .ensures) (c .before .enum-told2 .given .1)
+returns-5 c = told-by told (c .refused3 .ensures) (c .before .enum-told2 .given .1)
 
 pub text-read-spec : {M : Type 1} → statement M
 text-read-spec =
@@ -68,9 +68,9 @@ text-read-spec =
     enum-known-answer-2
     refused-requires-2
     enum-known-answer-3
-    refused-requires-3
+    wrong-pair-requires
     enum-told-2
-    refused-requires-4
+    refused-requires-3
     returns
     returns-2
     returns-3

@@ -15,7 +15,8 @@ use Rattle.format.specs.Answers.{done, refused}
 use Rattle.c40.specs.Text.{Text, publish, width}
 use Rattle.c40.specs.Decode.{Decoded, decode, text, wrong, textOf, isText, wrongAt}
 use Rattle.pairs.specs.declared.decode.Fault.{Fault}
-use Rattle.c40.specs.Calls.{known, reading, writing}
+use Rattle.pairs.specs.declared.decode.Fault.the-variants.{OutOfRange, Shift, Single}
+use Rattle.c40.specs.Calls.{faultNumber, wrongNumber, known, reading, writing}
 
 known-in : (c : ℕ) (t : List ℕ) → InChart c → known (c ∷ t) ≡ suc (known t)
 unfolding known
@@ -57,6 +58,12 @@ unfolding known
 text-known [] h = refl
 text-known (c ∷ t) h = known-in c t (h .0) ∙ ap suc (text-known t (h .1))
 
+-- a fault's number is no 0
+pub fault-some : (fault : Fault) → 0 < faultNumber fault
+fault-some OutOfRange = omega arith
+fault-some Shift = omega arith
+fault-some Single = omega arith
+
 -- reading, by the tests that lead there
 module _ (s : List ℕ) (room : ℕ) where
   pub reading-long : 4096 < length s → reading s room ≡ refused 45 0
@@ -73,11 +80,12 @@ module _ (s : List ℕ) (room : ℕ) where
       pairs :
           (d : Decoded) →
           decode 0 s ≡ d →
-          reading s room ≡ pick (isText d) (pick (leb (length (textOf d)) room) (done (textOf d)) (refused 42 0)) (refused 41 (wrongAt d))
+          reading s room
+          ≡ pick (isText d) (pick (leb (length (textOf d)) room) (done (textOf d)) (refused 42 0)) (refused (wrongNumber d) (wrongAt d))
       unfolding reading
       pairs d e = simp (le-leb (length s) 4096 size, eq-eqb (length s % 2) 0 (omega arith), e)
 
-      pub reading-wrong : (fault : Fault) (at : ℕ) → decode 0 s ≡ wrong fault at → reading s room ≡ refused 41 at
+      pub reading-wrong : (fault : Fault) (at : ℕ) → decode 0 s ≡ wrong fault at → reading s room ≡ refused (faultNumber fault) at
       reading-wrong fault at e = pairs (wrong fault at) e
 
       pub reading-no-room : (t : List ℕ) → decode 0 s ≡ text t → room < length t → reading s room ≡ refused 42 0

@@ -50,7 +50,7 @@ follow-good at (Two a b) d h = refl
 follow-good at (One a) d h = refl
 follow-good at (Wrong fault) d h = absurd (omega arith)
 
-none-by-length : (s : List ℕ) (n k : ℕ) → length s ≡ n - k → k ≤ n → none s ≡ eqb k n
+pub none-by-length : (s : List ℕ) (n k : ℕ) → length s ≡ n - k → k ≤ n → none s ≡ eqb k n
 none-by-length [] n k e h = sym (eq-eqb k n (omega arith))
 none-by-length (x ∷ s) n k e h = sym (ne-eqb k n (λ f. omega arith))
 
@@ -87,6 +87,7 @@ pub record Inner (s : List ℕ) (i : ℕ) (before t : List ℕ) : Type 0 where
   pub next : Sofar s (i + 2) (before ++ charsOf (pairOf theChart false (getD s i 0) (getD s (i + 1) 0)))
 
 pub record Last (s : List ℕ) (i : ℕ) (before t : List ℕ) : Type 0 where
+  pub some : 0 < length (charsOf (pairOf theChart true (getD s i 0) (getD s (i + 1) 0)))
   pub room : length before + length (charsOf (pairOf theChart true (getD s i 0) (getD s (i + 1) 0))) ≤ length t
   pub whole : t ≡ before ++ charsOf (pairOf theChart true (getD s i 0) (getD s (i + 1) 0))
 
@@ -139,4 +140,4 @@ module _ (s : List ℕ) (i : ℕ) (before : List ℕ) (sofar : Sofar s i before)
         let end : decode 0 s ≡ text (before ++ charsOf p) =
         sofar-more (omega arith) p is (good .0) ∙ ap (ahead (before ++ charsOf p)) (decode-end s (i + 2) (omega arith))
         ∙ ap text (append-nil (before ++ charsOf p)) in
-        record { room = good .1; whole = cc }
+        record { some = good .0; room = good .1; whole = cc }

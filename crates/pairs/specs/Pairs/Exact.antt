@@ -1,18 +1,17 @@
 -- A pair carries exactly the characters whose form it is: sound and complete.
 -- Assumes nothing.
 use mathlib.Core.Path.{_≡_, refl, ap, sym, subst, _∙_}
-use mathlib.Core.Bool.{Bool, true, false}
+use mathlib.Core.Bool.{Bool, true}
 use Prim.Native.Nat.{ℕ, _+_, _-_, _/_, _%_, _<_, _≤_}
 use native.Mathlib.Omega.{arith}
 use mathlib.Core.List.{[], _∷_}
-use lib.ListN.{length}
-use Rattle.format.specs.Bytes.{All}
 use Rattle.pairs.specs.Chart.{theChart, char, valueOf, InChart}
 use Rattle.pairs.specs.Chart.Laws.{value-range, value-char, char-in}
-use Rattle.pairs.specs.Pairs.{packedOf, triple, number, first, second, third, pairOf, charsOf, formOf}
-use Rattle.pairs.specs.Pairs.Laws.{triple-is, pair-cases, pair-values, pair-single, values-three, values-two, single-one, apart}
+use Rattle.pairs.specs.Pairs.{packedOf, triple, number, first, second, third, pairOf}
+use Rattle.pairs.specs.Pairs.Laws.{triple-is, fault-told, pair-cases, pair-values, pair-single, values-three, values-two, single-one}
+use Rattle.pairs.specs.Pairs.Laws.{apart}
+use Rattle.pairs.specs.Faults.{Carries}
 use Rattle.pairs.specs.declared.decode.Fault.{Fault}
-use Rattle.pairs.specs.declared.decode.Pair.{Pair}
 use Rattle.pairs.specs.declared.decode.Pair.the-variants.{Three, Two, One, Wrong}
 
 -- three values and their number, there and back
@@ -81,17 +80,12 @@ pair-one a ia =
     ∙ sym (single-one theChart (a + 1) true refl (omega arith) (ap (λ k. char (valueOf k)) e ∙ ia ∙ sym e))
     ∙ ap One e
 
--- sound: what a pair carries is characters of the chart whose form it is; and three of them where it is not the last
-pub record Carries (last : Bool) (x y : ℕ) (p : Pair) : Type 0 where
-  pub is-text : All InChart (charsOf p)
-  pub form : formOf p ≡ x ∷ y ∷ []
-  pub whole : last ≡ false → length (charsOf p) ≡ 3
-
+-- sound: what a pair that is not wrong carries is characters of the chart whose form it is; and three of them where it is not the last
 module _ (last : Bool) (x y : ℕ) (hx : x < 256) (hy : y < 256) where
   pub pair-sound : ((fault : Fault) → pairOf theChart last x y ≡ Wrong fault → ⊥) → Carries last x y (pairOf theChart last x y)
   pair-sound good =
       pair-cases last x y
-      (λ fault e. absurd (good fault e))
+      (λ fault has. absurd (good fault (fault-told last x y fault has)))
       (λ h k a b c e. subst (λ p. Carries last x y p) (sym e) (three h k a b c))
       (λ h k a b c l e. subst (λ p. Carries last x y p) (sym e) (two h k a b c l))
       (λ f h i l e. subst (λ p. Carries last x y p) (sym e) (one f h i l))

@@ -2,7 +2,7 @@
 -- Assumes nothing.
 use mathlib.Core.Path.{_≡_, refl, ap, sym, subst, _∙_}
 use mathlib.Core.Option.{Option}
-use Prim.Native.Nat.{ℕ, _+_, _-_, _≤_}
+use Prim.Native.Nat.{ℕ, _+_, _-_, _<_, _≤_}
 use native.Mathlib.Omega.{arith}
 use mathlib.Core.List.{List}
 use lib.Dec.{ltb}
@@ -15,6 +15,7 @@ use Rattle.causes.specs.declared.Rule.{Rule}
 use Rattle.causes.specs.declared.Rule.the-variants as rule
 use Rattle.verdict.specs.Items.{Item, Exact, exact, wrongAt, is, not, pass, whole, exactly, judgedBy, fieldIn, field}
 use Rattle.verdict.specs.Items.Sound.{length-taken}
+use Rattle.verdict.specs.Items.Wrong.{wrong-first}
 use Rattle.read_items.specs.Meaning.Laws.{whole-is, whole-none, past-whole}
 use Rattle.read_items.specs.Meaning.{wholeOf, past}
 use Rattle.read_names.specs.Meaning.{anyText}
@@ -52,8 +53,15 @@ module _ (k at n : ℕ) (s : List ℕ) (there : (n ≡ at + width k) × (at + wi
   field-coded out e = ap (is out) (there .0) ∙ field-in (exact out) e
 
   pub field-wrong : (pair : ℕ) → wrongAt pair ≡ exactly k (decode 0 (take (n - at) (drop at s)))
-      → not rule.WellCoded at ≡ field k anyText at s
+      → not rule.WellCoded (at + pair) ≡ field k anyText at s
   field-wrong pair e = field-in (wrongAt pair) e
+
+  -- a wrong pair lies in the field
+  pub field-inside : 0 < k → (pair : ℕ) → wrongAt pair ≡ exactly k (decode 0 (take (n - at) (drop at s))) → at + pair + 2 ≤ length s
+  field-inside full pair e =
+      let bytes = take (n - at) (drop at s) in
+      let inside = wrong-first k bytes full (field-wide k at n s there) pair (sym e) .inside in
+      omega (arith, inside, field-wide k at n s there, there .1)
 
 -- any text, and then its rules
 module _ (k : ℕ) (broken : List ℕ → Option Rule) (at : ℕ) (s : List ℕ) where

@@ -50,7 +50,7 @@ kept (some rule) u t at end after e = absurd (unread rule at t after e)
 
 found : (k : ℕ) (broken : List ℕ → Option Rule) (at : ℕ) (d : Decoded) (t : List ℕ) (after : ℕ)
     → fieldIn k broken at (exactly k d) ≡ is t after → Found k d broken at t after
-found k broken at (wrong fault pair) t after e = absurd (unread rule.WellCoded at t after e)
+found k broken at (wrong fault pair) t after e = absurd (unread rule.WellCoded (at + pair) t after e)
 found k broken at (text u) t after e =
     by-test (eqb (length u) k)
     (λ b.
@@ -62,7 +62,10 @@ found k broken at (text u) t after e =
       keeps = subst (λ z. broken z ≡ none) (p .1) (p .0);
       place = p .2;
     })
-    (λ b. absurd (unread rule.WellCoded at t after (sym (ap (λ c. fieldIn k broken at (pick c (exact u) (wrongAt (width k - 2)))) b) ∙ e)))
+    (λ b.
+    absurd
+    (unread rule.WellCoded (at + (width k - 2)) t after
+    (sym (ap (λ c. fieldIn k broken at (pick c (exact u) (wrongAt (width k - 2)))) b) ∙ e)))
 
 pub record FieldRead (k : ℕ) (broken : List ℕ → Option Rule) (at : ℕ) (s t : List ℕ) (after : ℕ) : Type 0 where
   pub is-text : TextOf k t

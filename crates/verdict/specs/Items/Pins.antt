@@ -11,8 +11,9 @@ use Rattle.dates.specs.Days.{isDay}
 use Rattle.format.specs.BigEndian.{val}
 use Rattle.grammar.specs.Content.{three, four}
 use Rattle.causes.specs.declared.Rule.the-variants as rule
-use Rattle.verdict.specs.Items.{is, not, wrongAt, exactly, inCountry, inSix, inNine, inReference, mark, version, country, names, date}
-use Rattle.verdict.specs.Items.{last, derLength, featureLength}
+use Rattle.causes.specs.declared.Item.the-variants as item
+use Rattle.verdict.specs.Items.{is, not, why, wrongAt, exactly, inCountry, inSix, inNine, inReference, mark, version, country, names}
+use Rattle.verdict.specs.Items.{date, last, derLength, featureLength}
 
 -- the first two bytes
 marks : (mark 0 (0xDC ∷ []) ≡ is tt 1) × (mark 0 (0xDD ∷ []) ≡ not rule.IsMark 0) × (mark 0 [] ≡ not rule.There 0)
@@ -22,19 +23,41 @@ versions :
     (version 1 (0xDC ∷ 2 ∷ []) ≡ is three 2) × (version 1 (0xDC ∷ 3 ∷ []) ≡ is four 2) × (version 1 (0xDC ∷ 4 ∷ []) ≡ not rule.IsVersion 1)
 versions = (refl, refl, refl)
 
--- `D<<`, and FA 01, which is no C40
+-- `D<<`; FA 01, which is no C40, and FE 42, which is one character
 countries :
     (country 0 (0x6A ∷ 0xBC ∷ []) ≡ is (68 ∷ 60 ∷ 60 ∷ []) 2)
-    × (country 0 (0xFA ∷ 0x01 ∷ []) ≡ not rule.WellCoded 0)
+    × (country 1 (0xDC ∷ 0xFA ∷ 0x01 ∷ []) ≡ not rule.WellCoded 1)
+    × (country 1 (0xDC ∷ 0xFE ∷ 0x42 ∷ []) ≡ not rule.WellCoded 1)
     × (country 0 (0x6A ∷ []) ≡ not rule.There 0)
 unfolding decode pairOf single values theChart valueOf
-countries = (refl, refl, refl)
+countries = (refl, refl, refl, refl)
 
--- the place that is carried of a pair that is wrongly coded, and of a last pair that does not fit
+-- the place of a pair that is wrongly coded, and of a last pair that does not fit
 pairs :
     (exactly 6 (decode 0 (0xDE ∷ 0x51 ∷ 0xFA ∷ 0x01 ∷ [])) ≡ wrongAt 2) × (exactly 4 (text (86 ∷ 73 ∷ 83 ∷ 65 ∷ 48 ∷ 49 ∷ [])) ≡ wrongAt 2)
 unfolding decode pairOf single values theChart valueOf
 pairs = (refl, refl)
+
+-- version 3, nine characters after a byte: `1TAB00001` has a wrong character, and is told at the item; with its second or third pair
+-- wrongly coded, that pair is told
+nine-pairs :
+    (names three 1 (0 ∷ 0x24 ∷ 0x77 ∷ 0x5E ∷ 0x65 ∷ 0x19 ∷ 0xA6 ∷ []) ≡ not (why item.Names rule.SignerCharacters) 1)
+    × (names three 1 (0 ∷ 0x24 ∷ 0x77 ∷ 0xFA ∷ 0x01 ∷ 0x19 ∷ 0xA6 ∷ []) ≡ not (why item.Names rule.WellCoded) 3)
+    × (names three 1 (0 ∷ 0x24 ∷ 0x77 ∷ 0x5E ∷ 0x65 ∷ 0xFE ∷ 0x42 ∷ []) ≡ not (why item.Names rule.WellCoded) 5)
+unfolding decode pairOf single values theChart valueOf
+nine-pairs = (refl, refl, refl)
+
+-- version 4: the two pairs of `UTAB04`, the second of them short; `UTAB00`; and the reference by L: one character where two are due, three
+-- where one is, a space that fits, and a wrong pair behind one with a wrong character
+four-pairs :
+    (names four 1 (0 ∷ 0xD9 ∷ 0xB7 ∷ 0xFE ∷ 0x42 ∷ []) ≡ not (why item.SignerAndLength rule.WellCoded) 3)
+    × (names four 1 (0 ∷ 0xD9 ∷ 0xB7 ∷ 0x5E ∷ 0x65 ∷ []) ≡ not (why item.SignerAndLength rule.NotZero) 1)
+    × (names four 0 (0xD9 ∷ 0xB7 ∷ 0x5E ∷ 0x67 ∷ 0xFE ∷ 0x42 ∷ []) ≡ not (why item.Reference rule.WellCoded) 4)
+    × (names four 0 (0xD9 ∷ 0xB7 ∷ 0x5E ∷ 0x69 ∷ 0x19 ∷ 0xA6 ∷ 0x19 ∷ 0xA6 ∷ []) ≡ not (why item.Reference rule.WellCoded) 6)
+    × (names four 0 (0xD9 ∷ 0xB7 ∷ 0x5E ∷ 0x66 ∷ 0xFE ∷ 0x21 ∷ []) ≡ not (why item.Reference rule.ReferenceCharacters) 4)
+    × (names four 0 (0xD9 ∷ 0xB7 ∷ 0x5E ∷ 0x69 ∷ 0x6A ∷ 0xBC ∷ 0xFE ∷ 0x41 ∷ []) ≡ not (why item.Reference rule.WellCoded) 6)
+unfolding decode pairOf single values theChart valueOf
+four-pairs = (refl, refl, refl, refl, refl, refl)
 
 -- the first rule that is broken: `UT<` with its filler first; `UTAB` with a digit first, no digits or 00; a space in the reference
 in-country : (inCountry (85 ∷ 84 ∷ 32 ∷ []) ≡ none) × (inCountry (32 ∷ 85 ∷ 84 ∷ []) ≡ some rule.CountryCode)

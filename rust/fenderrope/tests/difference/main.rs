@@ -7,12 +7,14 @@ mod back;
 mod days;
 mod lent;
 mod library;
+mod pairs;
 mod show;
 mod types;
 mod words;
 mod wrapper;
 mod wrong;
 
+use std::collections::BTreeSet;
 use std::env;
 use std::io::{stdout, Write};
 use std::time::Instant;
@@ -31,8 +33,8 @@ fn setting(name: &str, otherwise: u64) -> u64 {
     }
 }
 
-/// Puts drawn calls to the programs and to the reference; how often each answer was given and the calendar decided, or
-/// the first difference.
+/// Puts drawn calls to the programs and to the reference; how often each answer was given, and the calendar or a pair
+/// decided, or the first difference.
 fn compare(seed: u64, count: u64, programs: &[Program]) -> Result<Counts, String> {
     let (mut inputs, mut counts) = (Inputs::new(seed), Counts::default());
     for at in 0..count {
@@ -44,6 +46,9 @@ fn compare(seed: u64, count: u64, programs: &[Program]) -> Result<Counts, String
         *counts.answers.entry(expected.answer.told().0).or_default().entry(call.name()).or_default() += 1;
         if let Some(decided) = days::decided(&call, &expected) {
             *counts.dates.entry(decided).or_default().entry(call.name()).or_default() += 1;
+        }
+        for kind in pairs::decided(&call, &expected) {
+            *counts.pairs.entry(kind).or_default() += 1;
         }
     }
     Ok(counts)
@@ -78,4 +83,6 @@ fn the_library_answers_as_the_reference_does() {
     for decided in [days::PAST_ITS_MONTH, days::LEAP_DAY] {
         assert_eq!(counts.dates[decided].len(), 5, "a date {decided}: not by every call that takes dates");
     }
+    let pairs = pairs::ALL.iter().flat_map(|(refusal, kinds)| kinds.iter().map(|kind| (*refusal, *kind)));
+    assert_eq!(counts.pairs.into_keys().collect::<BTreeSet<_>>(), pairs.collect(), "not every kind of faulty pair");
 }

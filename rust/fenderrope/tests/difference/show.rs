@@ -4,14 +4,17 @@ use std::collections::BTreeMap;
 
 use reference::inputs::{Call, Outcome};
 
+use crate::pairs;
+
 /// How often, by call.
 type ByCall = BTreeMap<&'static str, u64>;
 
-/// How often each call gave each number, and how often the calendar decided.
+/// How often each call gave each number, how often the calendar decided, and how often a pair or a character did.
 #[derive(Debug, Default)]
 pub struct Counts {
     pub answers: BTreeMap<usize, ByCall>,
     pub dates: BTreeMap<&'static str, ByCall>,
+    pub pairs: BTreeMap<pairs::Kind, u64>,
 }
 
 fn hex(bytes: &[u8]) -> String {
@@ -50,7 +53,8 @@ pub fn outcome(outcome: &Outcome) -> String {
     format!("{answer:?}\n  table {table:X?}\n  bytes {}", hex(bytes))
 }
 
-/// One line for each number: how often it was given, and by which calls. Then the same for what the calendar decided.
+/// One line for each number: how often it was given, and by which calls. Then the same for what the calendar decided,
+/// and for each refusal of a pair or a character where it stood and what was wrong.
 pub fn counts(counts: &Counts) -> String {
     let times = |by_call: &ByCall| {
         let calls: Vec<_> = by_call.iter().map(|(name, count)| format!("{name} {count}")).collect();
@@ -58,5 +62,10 @@ pub fn counts(counts: &Counts) -> String {
     };
     let answers = counts.answers.iter().map(|(number, by_call)| format!("{number:6} {}", times(by_call)));
     let dates = counts.dates.iter().map(|(decided, by_call)| format!("date {decided}\n       {}", times(by_call)));
-    answers.chain(dates).collect()
+    let pairs = pairs::ALL.iter().map(|(refusal, kinds)| {
+        let times = |kind| counts.pairs.get(&(*refusal, kind)).unwrap_or(&0);
+        let kinds: Vec<_> = kinds.iter().map(|kind| format!("{kind} {}", times(kind))).collect();
+        format!("pair {refusal}\n       {}\n", kinds.join(", "))
+    });
+    answers.chain(dates).chain(pairs).collect()
 }

@@ -5,7 +5,7 @@ use std::ops::RangeInclusive;
 use reference::inputs::{run, Answer, Call, Outcome, Reference};
 use reference::{Date, Dated, Reading};
 
-use crate::compare;
+use crate::{compare, pairs};
 
 /// The reference's outcome, changed by the fault; the difference that the comparison tells must show `shown`.
 fn noticed(fault: impl Fn(&Call, &mut Outcome), shown: &str) {
@@ -22,7 +22,7 @@ fn noticed(fault: impl Fn(&Call, &mut Outcome), shown: &str) {
 #[test]
 fn no_fault_is_no_difference() {
     let right = |call: &Call| Ok(run(&Reference, call));
-    assert_eq!(compare(1, 50_000, &[("right", &right)]).map(|counts| counts.answers.len()), Ok(33));
+    assert_eq!(compare(1, 50_000, &[("right", &right)]).map(|counts| counts.answers.len()), Ok(35));
 }
 
 /// A program that takes this day in the months given.
@@ -44,6 +44,36 @@ fn day_32_is_noticed() {
 #[test]
 fn february_30_is_noticed() {
     noticed(takes(30, 2..=2), "month: 2, day: 30");
+}
+
+/// A program that says 41 of every faulty pair.
+#[test]
+fn one_number_for_all_faulty_pairs_is_noticed() {
+    for number in [46, 47] {
+        let fault = move |_: &Call, outcome: &mut Outcome| {
+            if let Answer::Filled(filled) = &mut outcome.answer {
+                filled.number = if filled.number == number { 41 } else { filled.number };
+            }
+        };
+        noticed(fault, &format!("number: {number}"));
+    }
+}
+
+/// A program that gives 5 the item's first byte where the item's wrong pair is of some kind.
+#[test]
+fn the_items_first_byte_for_its_wrong_pair_is_noticed() {
+    for (refusal, first) in [(pairs::NINE, 4), (pairs::SIGNER, 4), (pairs::REFERENCE, 8)] {
+        for kind in [pairs::LAST, pairs::NO_FIT, pairs::BEFORE] {
+            let fault = |call: &Call, outcome: &mut Outcome| {
+                let of_that_kind = pairs::decided(call, outcome).contains(&(refusal, kind));
+                match &mut outcome.answer {
+                    Answer::Reading(reading) if of_that_kind => reading.place = first,
+                    _ => {}
+                }
+            };
+            noticed(fault, "number: 5");
+        }
+    }
 }
 
 #[test]

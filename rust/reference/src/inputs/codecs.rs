@@ -21,27 +21,25 @@ fn over(random: &mut Random, size: usize) -> Vec<u8> {
 pub(super) fn c40_read(random: &mut Random) -> Call {
     let text = text(random);
     let mut bytes = c40::encode(&text).unwrap_or_default();
-    match random.below(20) {
+    match random.below(22) {
         0 => bytes = over(random, 4096),
         1 => bytes.truncate(random.below(bytes.len() + 1) | 1),
         2 => bytes.push(random.byte()),
-        3..=5 if !bytes.is_empty() => {
-            for _ in 0..random.within(1, 2) {
-                let at = 2 * random.below(bytes.len() / 2);
-                bytes[at..at + 2].copy_from_slice(&forms::wrong_pair(random));
-            }
+        3..=7 => {
+            let times = random.within(1, 3);
+            forms::spoil_pairs(random, &mut bytes, times);
         }
-        6 => bytes.extend(forms::wrong_pair(random)),
-        7 => {
+        8 => bytes.extend(forms::wrong_pair(random)),
+        9 => {
             let count = random.below(12);
             bytes = random.bytes(count);
         }
-        8 => {
+        10 => {
             let at = random.below(bytes.len());
             let byte = random.byte();
             bytes.get_mut(at).into_iter().for_each(|old| *old = byte);
         }
-        9 => bytes.extend([0xFE, random.pick(b"\x20\x21\x22\x30\x31\x3A\x3B\x41\x42\x5B\x5C\x62\x00\x01\xFF")]),
+        11 => bytes.extend([0xFE, random.pick(b"\x20\x21\x22\x30\x31\x3A\x3B\x41\x42\x5B\x5C\x62\x00\x01\xFF")]),
         _ => {}
     }
     let room = if random.one_in(2) { text.len() + random.below(9) } else { random.room(text.len()) };

@@ -1,9 +1,9 @@
 //! Seals that are damaged: in one item, of which a wrong form is put in its place, or in their bytes.
 
 use super::random::Random;
-use super::seals::{join, Draft, Kind, Piece, LETTERS, LETTERS_AND_DIGITS};
-use super::{days, forms};
-use crate::{c40, der, LONGEST_SEAL};
+use super::seals::{join, Draft, Kind, Piece};
+use super::{days, forms, names};
+use crate::{der, LONGEST_SEAL};
 
 /// The draft's bytes after so many damages. Items are damaged first, then bytes.
 pub(super) fn seal(random: &mut Random, draft: &Draft, times: usize) -> Vec<u8> {
@@ -66,21 +66,20 @@ fn find(random: &mut Random, pieces: &[Piece], kinds: &[Kind]) -> Option<usize> 
 /// One wrong item in place of a right one.
 fn item(random: &mut Random, draft: &Draft, pieces: &mut Vec<Piece>) {
     use Kind::*;
-    let kinds: &[Kind] = match random.below(26) {
+    let kinds: &[Kind] = match random.below(28) {
         0 => &[Mark],
         1 => &[Version],
         2 => &[Country],
-        3..=5 => &[Names, Signer, Reference],
-        6 => &[Reference, Names],
-        7..=8 => &[Day],
-        9..=10 => &[LastByte],
-        11..=13 => return repeat_tag(random, pieces),
-        14 => &[Tag, Value, End],
-        15..=17 => &[Length, SignatureLength],
-        18..=19 => &[SignatureLength],
-        20..=22 => return other_signature(random, pieces),
-        23 => return cut_length(random, pieces),
-        24 => return cut_item(random, pieces),
+        3..=8 => &[Names, Signer, Reference],
+        9..=10 => &[Day],
+        11..=12 => &[LastByte],
+        13..=15 => return repeat_tag(random, pieces),
+        16 => &[Tag, Value, End],
+        17..=19 => &[Length, SignatureLength],
+        20..=21 => &[SignatureLength],
+        22..=24 => return other_signature(random, pieces),
+        25 => return cut_length(random, pieces),
+        26 => return cut_item(random, pieces),
         _ => return too_many_tags(random, draft, pieces),
     };
     let Some(index) = find(random, pieces, kinds) else { return };
@@ -88,8 +87,7 @@ fn item(random: &mut Random, draft: &Draft, pieces: &mut Vec<Piece>) {
     pieces[index].1 = match kind {
         Mark => vec![random.pick(&[0x00, 0xDD, 0xCD, 0xFF])],
         Version => vec![random.pick(&[0x00, 0x01, 0x02, 0x03, 0x04, 0x05, 0x82, 0xDC, 0xFF])],
-        Country => wrong_country(random),
-        Names | Signer | Reference => wrong_names(random, *kind, bytes),
+        Country | Names | Signer | Reference => names::wrong(random, *kind, bytes),
         Day => days::wrong_number(random).to_be_bytes()[5..].to_vec(),
         LastByte => vec![random.pick(&[0x00, 0xFF])],
         Tag | End => vec![random.pick(&[0x00, 0xFE, 0xFF])],
@@ -100,61 +98,6 @@ fn item(random: &mut Random, draft: &Draft, pieces: &mut Vec<Piece>) {
             random.bytes(count)
         }
     };
-}
-
-/// Two bytes that are no country, or a country with wrong characters.
-fn wrong_country(random: &mut Random) -> Vec<u8> {
-    let letter = random.pick(LETTERS);
-    let digit = random.pick(b"0123456789");
-    let texts = [
-        [digit, letter, letter],
-        [letter, digit, letter],
-        [letter, letter, digit],
-        [letter, b' ', letter],
-        [b' ', letter, letter],
-        *b"   ",
-    ];
-    match random.below(8) {
-        0 => c40::encode(&[letter, letter]).unwrap_or_default(),
-        1 => vec![0xFE, letter + 1],
-        2 => forms::wrong_pair(random).to_vec(),
-        _ => c40::encode(&random.pick(&texts)).unwrap_or_default(),
-    }
-}
-
-/// A text field with a pair that is wrongly coded, with a wrong character, with another end, or with another length L.
-fn wrong_names(random: &mut Random, kind: Kind, bytes: &[u8]) -> Vec<u8> {
-    let mut text = c40::decode(bytes).unwrap_or_default();
-    let at = 2 * random.below(bytes.len() / 2);
-    let last = bytes.len() - bytes.len().min(2);
-    let letter = random.pick(LETTERS);
-    let ends = [[0xFE, letter + 1], forms::pair(14, random.within(4, 39), 0), forms::pair(4, 14, random.within(4, 39))];
-    let mut wrong = bytes.to_vec();
-    match random.below(8) {
-        0 | 1 if wrong.len() > 1 => wrong[at..at + 2].copy_from_slice(&forms::wrong_pair(random)),
-        2 | 3 if wrong.len() > 1 => wrong[last..].copy_from_slice(&random.pick(&ends)),
-        4 | 5 if kind == Kind::Signer && text.len() == 6 => {
-            let digits = [
-                *b"00",
-                *b"00",
-                *b"0G",
-                *b"G0",
-                *b" 5",
-                *b"5 ",
-                *b"FF",
-                [random.pick(b"0F"), random.pick(LETTERS_AND_DIGITS)],
-            ];
-            text[4..].copy_from_slice(&random.pick(&digits));
-            wrong = c40::encode(&text).unwrap_or_default();
-        }
-        _ => {
-            let wide = if kind == Kind::Signer { text.len().min(4) } else { text.len() };
-            let place = random.below(wide);
-            text.get_mut(place).into_iter().for_each(|character| *character = random.pick(b" 7"));
-            wrong = c40::encode(&text).unwrap_or_default();
-        }
-    }
-    wrong
 }
 
 /// A feature with a tag that an earlier one has; where there is none, two features with one tag.

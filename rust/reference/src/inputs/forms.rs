@@ -1,29 +1,63 @@
 //! Wrong forms of single items: C40 pairs and DER lengths.
 
 use super::random::Random;
+use crate::c40::Fault;
 
 /// A pair of values, coded as they come.
 pub(super) fn pair(a: usize, b: usize, c: usize) -> [u8; 2] {
     ((1600 * a + 40 * b + c + 1) as u16).to_be_bytes()
 }
 
-/// A pair that is wrongly coded, everywhere or at least where it is not the last.
-pub(super) fn wrong_pair(random: &mut Random) -> [u8; 2] {
-    let mut values = [random.within(3, 39), random.within(3, 39), random.within(3, 39)];
-    let code = random.byte();
-    match random.below(10) {
-        0 => [0x00, 0x00],
-        1 => [0xFA, random.within(1, 255) as u8],
-        2 => (random.within(64001, 65535) as u16).to_be_bytes(),
-        3 => [0xFE, random.pick(&[0x00, 0x01, 0x20, 0x22, 0x30, 0x3B, 0x41, 0x5C, 0x61, 0xFF])],
-        4 => [0xFE, random.pick(&[0x21, 0x31, 0x3A, 0x42, 0x5B])],
-        5 => [0xFE, code],
-        6 => pair(values[0], 0, 0),
-        7 => pair(values[0], values[1], random.below(3)),
-        _ => {
-            values[random.below(3)] = random.below(3);
+/// A pair with this fault, wherever it stands.
+pub(super) fn faulty_pair(random: &mut Random, fault: Fault) -> [u8; 2] {
+    match fault {
+        Fault::Value => {
+            let (below_fe, above_fe) = (random.within(64_001, 0xFDFF), random.within(0xFF00, 0xFFFF));
+            let value = random.pick(&[0, 0, 64_001, 0xFDFF, 0xFF00, 0xFFFF, below_fe, above_fe]);
+            (value as u16).to_be_bytes()
+        }
+        Fault::Shift => {
+            let mut values = [random.within(3, 39), random.within(3, 39), random.within(3, 39)];
+            match random.below(4) {
+                0 => values[0] = random.below(3),
+                1 => values[1] = random.below(3),
+                2 => values[2] = random.within(1, 2),
+                _ => values = random.pick(&[[0, 0, 0], [values[0], 0, 0], [0, values[1], 0], [39, 39, 2]]),
+            }
             pair(values[0], values[1], values[2])
         }
+        Fault::Fe => {
+            let above_z = random.within(0x5C, 0xFF) as u8;
+            [0xFE, random.pick(&[0x00, 0x01, 0x20, 0x22, 0x30, 0x3B, 0x41, 0x5C, 0x61, 0xFF, above_z])]
+        }
+    }
+}
+
+/// A pair that is well coded only where it is the last: two characters and 0, or one behind FE.
+pub(super) fn short_pair(random: &mut Random) -> [u8; 2] {
+    let two = pair(random.within(3, 39), random.within(3, 39), 0);
+    let one = [0xFE, random.pick(&[0x21, 0x31, 0x3A, 0x42, 0x5B])];
+    random.pick(&[one, two])
+}
+
+/// A pair that is wrongly coded, everywhere or at least where it is not the last.
+pub(super) fn wrong_pair(random: &mut Random) -> [u8; 2] {
+    let fault = random.pick(&[Fault::Value, Fault::Shift, Fault::Fe]);
+    if random.one_in(4) {
+        short_pair(random)
+    } else {
+        faulty_pair(random, fault)
+    }
+}
+
+/// Puts wrong pairs in the place of some: the first, the last or any.
+pub(super) fn spoil_pairs(random: &mut Random, bytes: &mut [u8], times: usize) {
+    let pairs = bytes.len() / 2;
+    for _ in 0..times {
+        let (first, any, last) = (0, random.below(pairs), pairs.saturating_sub(1));
+        let at = 2 * random.pick(&[first, any, any, last]);
+        let wrong = wrong_pair(random);
+        bytes.get_mut(at..at + 2).into_iter().for_each(|old| old.copy_from_slice(&wrong));
     }
 }
 

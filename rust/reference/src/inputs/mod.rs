@@ -12,6 +12,7 @@ mod codecs;
 mod damage;
 mod days;
 mod forms;
+mod names;
 mod outcome;
 mod random;
 mod seals;
@@ -63,7 +64,7 @@ impl Call {
 
 /// Every answer that a call can give.
 pub fn answers() -> impl Iterator<Item = usize> {
-    (0..=12).chain(20..=28).chain(40..=45).chain(60..=63).chain([65])
+    (0..=12).chain(20..=28).chain(40..=47).chain(60..=63).chain([65])
 }
 
 /// The calls that follow from one seed, without end.

@@ -10,6 +10,11 @@ pub fn hex(digits: &str) -> Vec<u8> {
     digits.chunks(2).map(|two| u8::from_str_radix(std::str::from_utf8(two).unwrap(), 16).unwrap()).collect()
 }
 
+/// The two bytes of three C40 values, in hexadecimal.
+pub fn pair(a: usize, b: usize, c: usize) -> String {
+    format!("{:04X}", 1600 * a + 40 * b + c + 1)
+}
+
 /// The header zone of Seal A.
 pub const HEADER_A: &str = "DC 02 D9 C5 D9 B7 5E 65 19 A6 31 9E F5 31 9E F5 01 02";
 

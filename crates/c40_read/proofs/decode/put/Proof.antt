@@ -1,6 +1,5 @@
 -- `decode::put` meets its contract. The loop's invariant: these characters stand in `out`, and the rest is still to be decoded.
 -- Assumes nothing.
-use borrow.Author.Needs.{needs}
 use native.Mathlib.Omega.{arith}
 use mathlib.Core.Path.{_≡_, _∙_, refl, ap, sym, subst}
 use Prim.Native.Nat.{ℕ, _+_, _-_, _%_, _≤_}
@@ -10,7 +9,6 @@ use lib.ListN.{length}
 use Rattle.format.specs.Buffer.{over}
 use Rattle.format.specs.Buffer.Laws.{Held, held-start, held-more, held-length}
 use Rattle.pairs.specs.Pairs.{charsOf}
-use Rattle.pairs.specs.Pairs.Laws.{by-chart}
 use Rattle.c40.specs.Decode.{textOf, decode}
 use Rattle.c40.specs.Decode.Laws.{Sofar, Inner, Last, sofar-start, sofar-inner, sofar-last, sofar-end}
 use Rattle.c40_read.proofs.decode.put.Statement.{statement}
@@ -39,7 +37,7 @@ from-put c = from-full (c .before .before .before .before)
 abbrev on-loop : tie.Then1 Inv-loop μ-loop → tie.At-loop Inv-loop μ-loop
 on-loop c = c .before .before
 
-abbrev from-last : tie.After-pair-of Inv-loop μ-loop → tie.Then1 Inv-loop μ-loop
+abbrev from-last : tie.After-last Inv-loop μ-loop → tie.Then1 Inv-loop μ-loop
 from-last c = c .before .before .before
 
 abbrev from-put-last : tie.After-slice-known3 Inv-loop μ-loop → tie.Then1 Inv-loop μ-loop
@@ -110,24 +108,23 @@ loop-again c =
           (omega (arith, inv .5 .many)),
     )
 
-shared-slice-read-pair-of : tie.Need-shared-slice-read-pair-of Inv-loop μ-loop
-shared-slice-read-pair-of c = omega arith
+shared-slice-read-last : tie.Need-shared-slice-read-last Inv-loop μ-loop
+shared-slice-read-last c = omega arith
 
-add-pair-of : tie.Need-add-pair-of Inv-loop μ-loop
-add-pair-of c = omega arith
+add-last : tie.Need-add-last Inv-loop μ-loop
+add-last c = omega arith
 
-shared-slice-read-pair-of-2 : tie.Need-shared-slice-read-pair-of-2 Inv-loop μ-loop
-shared-slice-read-pair-of-2 c = omega arith
+shared-slice-read-last-2 : tie.Need-shared-slice-read-last-2 Inv-loop μ-loop
+shared-slice-read-last-2 c = omega arith
 
-pair-of-requires : tie.Need-pair-of-requires Inv-loop μ-loop
-pair-of-requires c κs = search needs
+last-requires : tie.Need-last-requires Inv-loop μ-loop
+last-requires c κs = let on = c .before .before in (start (on-loop on) .pre .is-chart, last on .some)
 
 put-pair-requires-2 : tie.Need-put-pair-requires-2 Inv-loop μ-loop
 put-pair-requires-2 c κs =
     let on = from-last (c .before) in
     let inv = on-loop on .loop .inv in
-    let is = by-chart _ _ _ (start (on-loop on) .pre .is-chart) (c .before .pair-of .ensures) in
-    let many = ap (λ p. length (charsOf p)) is in
+    let many = ap (λ p. length (charsOf p)) (c .before .last .ensures) in
     let room = last on .room in
     omega (arith, many, inv .5 .many, held-length _ _ _ _ (inv .5) (inv .2))
 
@@ -141,13 +138,12 @@ returns c =
     let on = from-put-last c in
     let out = now (start (on-loop on) .args .out) in
     let inv = on-loop on .loop .inv in
-    let pair = c .before .before .before .before .pair-of in
-    let is = by-chart _ _ _ (start (on-loop on) .pre .is-chart) (pair .ensures) in
-    let many = ap (λ p. length (charsOf p)) is in
+    let pair = c .before .before .before .before .last in
+    let many = ap (λ p. length (charsOf p)) (pair .ensures) in
     let room = last on .room in
     let held = held-more _ _ _ _ (inv .5) (charsOf (pair .result)) _ _ (c .before .before .put-pair2 .ensures) refl
     (omega (arith, many, inv .5 .many)) in
-    held .is ∙ ap (λ p. over out 0 (inv .3 ++ charsOf p)) is ∙ ap (over out 0) (sym (last on .whole))
+    held .is ∙ ap (λ p. over out 0 (inv .3 ++ charsOf p)) (pair .ensures) ∙ ap (over out 0) (sym (last on .whole))
 
 same-length-2 : tie.Need-same-length-2 Inv-loop μ-loop
 same-length-2 c =
@@ -178,10 +174,10 @@ put-spec =
     add-at
     loop-less
     loop-again
-    shared-slice-read-pair-of
-    add-pair-of
-    shared-slice-read-pair-of-2
-    pair-of-requires
+    shared-slice-read-last
+    add-last
+    shared-slice-read-last-2
+    last-requires
     put-pair-requires-2
     same-length
     returns

@@ -3,11 +3,13 @@
 use borrow.Author.Needs.{needs}
 use native.Mathlib.Omega.{arith}
 use mathlib.Core.Path.{_≡_, _∙_, ap, sym}
-use Prim.Native.Nat.{ℕ, _+_, _≤_}
-use lib.ListN.{length}
+use Prim.Native.Nat.{ℕ, _+_, _-_, _≤_}
+use lib.ListN.{length, take, drop}
 use Rattle.c40.specs.Text.{width}
+use Rattle.c40.specs.Decode.{decode}
+use Rattle.verdict.specs.Items.{wrongAt, exactly}
 use Rattle.read_names.specs.Meaning.{exactOf}
-use Rattle.read_names.specs.Meaning.Field.{field-cut, field-place, field-wide, field-coded, field-wrong}
+use Rattle.read_names.specs.Meaning.Field.{field-cut, field-place, field-wide, field-coded, field-wrong, field-inside}
 use Rattle.read_names.proofs.text.coded.Statement.{statement}
 use Rattle.read_names.proofs.text.coded.Tie as tie
 
@@ -24,6 +26,9 @@ next c = c .before .next .given .0 .0 .place
 -- where the bytes are there, from where they fill the text or do not
 abbrev from-fill : tie.After-fill → tie.After-known-told
 from-fill c = c .before .before .before
+
+abbrev from-wrong : tie.After-known-told2 → tie.After-fill
+from-wrong c = c .before .before .before .before .before
 
 -- the next place, and that the bytes up to it are there
 place : (c : tie.After-known-told)
@@ -68,14 +73,32 @@ returns-2 c =
     field-coded (length (args .text .now)) (args .at .place) (next told) (args .seal .now) (place told) out
     (sym (ap (exactOf out) (c .enum-told2 .given .1)) ∙ on .fill .ensures)
 
+-- the pair that is wrong, as the bytes say it
+wrong-pair : (c : tie.After-known-told2)
+    → let told = from-fill (from-wrong c) in
+    let args = start (skipped told) .args in
+    wrongAt (c .before .filled .given .0 .0)
+    ≡ exactly (length (args .text .now)) (decode 0 (take (next told - args .at .place) (drop (args .at .place) (args .seal .now))))
+wrong-pair c =
+    let on = from-wrong c in
+    sym (ap (exactOf (on .fill .last .1 .0)) (c .before .filled .given .1)) ∙ on .fill .ensures
+
+enum-known-filled : tie.Need-enum-known-filled
+enum-known-filled c = search needs
+
+add-step : tie.Need-add-t22
+add-step c =
+    let told = from-fill (from-wrong c) in
+    let args = start (skipped told) .args in
+    let inside =
+    field-inside (length (args .text .now)) (args .at .place) (next told) (args .seal .now) (place told) (omega arith) _ (wrong-pair c) in
+    omega (arith, inside)
+
 returns-3 : tie.Need-returns-3
 returns-3 c =
-    let on = c .before .before .before .before in
-    let told = from-fill on in
+    let told = from-fill (from-wrong c) in
     let args = start (skipped told) .args in
-    let out = on .fill .last .1 .0 in
-    field-wrong (length (args .text .now)) (args .at .place) (next told) (args .seal .now) (place told) _
-    (sym (ap (exactOf out) (c .enum-told3 .given .1)) ∙ on .fill .ensures)
+    field-wrong (length (args .text .now)) (args .at .place) (next told) (args .seal .now) (place told) _ (wrong-pair c)
 
 add-threes : tie.Need-add-threes
 add-threes c = search needs
@@ -97,9 +120,6 @@ enum-told c = search needs
 
 enum-told-2 : tie.Need-enum-told-2
 enum-told-2 c = search needs
-
-enum-told-3 : tie.Need-enum-told-3
-enum-told-3 c = search needs
 
 same-length : tie.Need-same-length
 same-length c = search needs
@@ -123,7 +143,8 @@ coded-spec =
     part-fill-end
     fill-requires
     enum-told-2
-    enum-told-3
+    enum-known-filled
+    add-step
     same-length
     returns-2
     same-length-2
