@@ -2,7 +2,7 @@
 // first number, and a walk over a table goes from place to place by WIDTH, so that no index is multiplied.
 ghost use mathlib.Core.Path.{_≡_};
 ghost use Prim.Native.Nat.{_*_};
-ghost use Rattle.rows.specs.Rows.{width, foundAt, rowPut, isWhole};
+ghost use Rattle.rows.specs.Rows.{width, foundAt, rowPut};
 
 // A feature's tag, the place of its value and its length.
 pub struct Row {
@@ -25,15 +25,6 @@ pub const WIDTH: usize = 3;
 // How many numbers are room for the rows of every seal: it has at most 255 features.
 pub const MOST: usize = 255 * WIDTH;
 
-// Whether a table has whole rows and no number over: the threes in its length, WIDTH being 3, make up the length.
-pub fn is_whole(table: &[usize]) -> bool
-    ensures answer { λ r. ⌜ r ≡ isWhole (now (table .entry)) ⌝ }
-    ensures wide { λ r. do ⌜ ((← ⟦WIDTH⟧ .entry) ≡ width) × ((← ⟦MOST⟧ .entry) ≡ 255 * width) ⌝ }
-{
-    let n = table.len();
-    octets::threes(n) * WIDTH == n
-}
-
 // The row whose first number stands at a place, where the table has all its numbers.
 pub fn row_at(table: &[usize], at: usize) -> Found
     ensures { λ r. ⌜ r ≡ foundAt (now (table .entry)) at ⌝ }
@@ -54,7 +45,8 @@ pub fn row_at(table: &[usize], at: usize) -> Found
 
 // Puts a row down, its first number at a place; where it does not fit, nothing is put down. Every other number of the table stays.
 pub fn put_row(row: Row, table: &mut [usize], at: usize)
-    ensures { λ r. ⌜ now (table .exit) ≡ rowPut row (now (table .entry)) at ⌝ }
+    ensures written { λ r. ⌜ now (table .exit) ≡ rowPut row (now (table .entry)) at ⌝ }
+    ensures wide { λ r. do ⌜ ((← ⟦WIDTH⟧ .entry) ≡ width) × ((← ⟦MOST⟧ .entry) ≡ 255 * width) ⌝ }
 {
     let n = table.len();
     if n < at {

@@ -1,10 +1,10 @@
 -- Laws of the rows of a table, by place: what each test of the row there makes of the judging.
 -- Assumes nothing.
-use mathlib.Core.Path.{_≡_, refl, ap, sym, _∙_}
+use mathlib.Core.Path.{_≡_, refl, ap, ap₂, sym, _∙_}
 use mathlib.Core.Bool.{Bool, true, false}
-use Prim.Native.Nat.{ℕ, _+_, _<_, _≤_}
+use Prim.Native.Nat.{ℕ, _+_, _%_, _<_, _≤_}
 use native.Mathlib.Omega.{arith}
-use borrow.Author.Tests.{lt-leb, le-leb, eqb-true, eqb-false}
+use borrow.Author.Tests.{lt-leb, le-leb, ne-eqb, eqb-true, eqb-false}
 use mathlib.Core.List.{List, [], _∷_}
 use lib.Dec.{leb, eqb}
 use lib.ListN.{length, getD, drop, set, replicate, length-set, length-replicate, getD-replicate}
@@ -14,7 +14,7 @@ use Rattle.format.specs.Choice.{both, either}
 use Rattle.grammar.specs.Content.{Version, three, four}
 use Rattle.rows.specs.declared.Row.{Row}
 use Rattle.rows.specs.Rows.{width, rowAt, rowsOf, Whole, isWhole}
-use Rattle.rows.specs.Rows.Laws.{rows-here, rows-end, whole-true, whole-is}
+use Rattle.rows.specs.Rows.Laws.{rows-here, rows-end, whole-is}
 use Rattle.verdict.specs.Judge.{used}
 use Rattle.write_rows.specs.Tests.{isRow, areRows, isTable, areShort, areValues}
 
@@ -78,28 +78,36 @@ marks-more before marks m long r small x h =
     ∙ m x h
     ∙ ap (λ b. markOf (either b (used x before))) (sym s))
 
--- how far the judging of the rows has come, and the marks of their tags
+-- how far the judging of the rows has come: to the end of a row inside the table, with the marks of their tags
 pub record Judged (n : ℕ) (t : List ℕ) (at : ℕ) (marks : List ℕ) : Type 0 where
   pub before : List Row
-  pub whole : Whole t
+  pub inside : at ≤ length t
+  pub whole : at % width ≡ 0
   pub same : areRows n [] (rowsOf t) ≡ areRows n before (rowsOf (drop at t))
   pub long : length marks ≡ 255
   pub each : (x : ℕ) → x < 255 → getD marks x 0 ≡ markOf (used x before)
 
-pub table-not : (n : ℕ) (t : List ℕ) → isWhole t ≡ false → false ≡ isTable n t
-table-not n t e = sym (ap (λ b. both b (areRows n [] (rowsOf t))) e)
-
-pub judged-start : (n : ℕ) (t : List ℕ) → isWhole t ≡ true → Judged n t 0 (replicate 255 0)
-judged-start n t e =
+pub judged-start : (n : ℕ) (t : List ℕ) → Judged n t 0 (replicate 255 0)
+judged-start n t =
     let z : ℕ = 0 in
-    record { before = []; whole = whole-true t e; same = refl; long = length-replicate 255 z; each = marks-start }
+    record { before = []; inside = omega arith; whole = refl; same = refl; long = length-replicate 255 z; each = marks-start }
+
+none-both : (b : Bool) → both b false ≡ false
+none-both true = refl
+none-both false = refl
 
 module _ (n : ℕ) (t : List ℕ) (at : ℕ) (marks : List ℕ) (j : Judged n t at marks) where
-  table-is : (b : Bool) → areRows n [] (rowsOf t) ≡ b → b ≡ isTable n t
-  table-is b e = sym (ap (λ z. both z (areRows n [] (rowsOf t))) (whole-is t (j .whole)) ∙ e)
-
-  pub judged-end : length t < at + width → true ≡ isTable n t
-  judged-end h = table-is true (j .same ∙ ap (areRows n (j .before)) (rows-end t at h) ∙ are-none n (j .before))
+  -- no row is left: the table is in whole rows where it ends here
+  pub judged-end : length t < at + width → eqb at (length t) ≡ isTable n t
+  judged-end h =
+      let good : areRows n [] (rowsOf t) ≡ true = j .same ∙ ap (areRows n (j .before)) (rows-end t at h) ∙ are-none n (j .before) in
+      by-test (eqb at (length t))
+      (λ s.
+      let all : Whole t = omega (arith, j .whole, eqb-true at (length t) s) in
+      s ∙ sym (ap₂ both (whole-is t all) good))
+      (λ s.
+      let over : Whole t → ⊥ = λ w. eqb-false at (length t) s (omega (arith, j .whole, j .inside, w)) in
+      s ∙ sym (ap (λ b. both b (areRows n [] (rowsOf t))) (ne-eqb (length t % width) 0 over)))
 
   -- the row that stands here
   module _ (here : at + width ≤ length t) (r : Row) (e : r ≡ rowAt t at) where
@@ -112,7 +120,7 @@ module _ (n : ℕ) (t : List ℕ) (at : ℕ) (marks : List ℕ) (j : Judged n t 
         ∙ are-cons n (j .before) r (rowsOf (drop (at + width) t))
 
     stops : isRow n (j .before) r ≡ false → false ≡ isTable n t
-    stops f = table-is false (on ∙ ap (λ b. both b rest) f)
+    stops f = sym (ap (both (isWhole t)) (on ∙ ap (λ b. both b rest) f) ∙ none-both (isWhole t))
 
     pub judged-tag : 254 < r .tag → false ≡ isTable n t
     judged-tag h = stops (row-tag n (j .before) r h)
@@ -134,7 +142,8 @@ module _ (n : ℕ) (t : List ℕ) (at : ℕ) (marks : List ℕ) (j : Judged n t 
         pub judged-more : r .place + r .size ≤ n → Judged n t (at + width) (set marks (r .tag) 1)
         judged-more h = record {
           before = r ∷ j .before;
-          whole = j .whole;
+          inside = here;
+          whole = omega (arith, j .whole);
           same = on ∙ ap (λ b. both b rest) (row-good n (j .before) r small new h);
           long = length-set marks (r .tag) 1 ∙ j .long;
           each = marks-more (j .before) marks (j .each) (j .long) r small;

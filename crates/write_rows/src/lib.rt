@@ -6,7 +6,6 @@ ghost use Rattle.write_rows.specs.Tests.{isTable, areValues};
 use rows::Found;
 use rows::Row;
 use rows::WIDTH;
-use rows::is_whole;
 use rows::row_at;
 use versions::Version;
 
@@ -21,18 +20,15 @@ fn is_inside(row: Row, size: usize) -> bool
 }
 
 // Whole rows, no tag over 254 or used twice, and every value inside a buffer of so many bytes. The tags so far are marked, so that one
-// walk over the rows judges them.
+// walk over the rows judges them; they are whole where the walk ends at the table's end, however many numbers a row has.
 pub fn are_rows(table: &[usize], size: usize) -> bool
     ensures { λ r. ⌜ r ≡ isTable size (now (table .entry)) ⌝ }
 {
-    if !is_whole(table) {
-        return false;
-    }
     let mut marks = [0u8; 255];
     let mut at: usize = 0;
     loop {
         let Found::Is(row) = row_at(table, at) else {
-            return true;
+            return at == table.len();
         };
         let tag = row.tag;
         if 254 < tag {

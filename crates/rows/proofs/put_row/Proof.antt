@@ -2,7 +2,7 @@
 -- Assumes nothing.
 use borrow.Author.Needs.{needs}
 use native.Mathlib.Omega.{arith}
-use mathlib.Core.Path.{_∙_}
+use mathlib.Core.Path.{refl, _∙_}
 use denote.Ref.{now}
 use lib.ListN.{length-set}
 use Rattle.format.specs.Buffer.Laws.{over-three}
@@ -12,10 +12,10 @@ use Rattle.rows.proofs.put_row.Statement.{statement}
 use Rattle.rows.proofs.put_row.Tie as tie
 
 returns : tie.Need-returns
-returns c = let a = c .before .args in put-none (now (a .table)) (a .at) (a .row) (omega arith)
+returns c = let a = c .before .args in (put-none (now (a .table)) (a .at) (a .row) (omega arith), (refl, refl))
 
 returns-2 : tie.Need-returns-2
-returns-2 c = let a = c .before .before .args in put-none (now (a .table)) (a .at) (a .row) (omega arith)
+returns-2 c = let a = c .before .before .args in (put-none (now (a .table)) (a .at) (a .row) (omega arith), (refl, refl))
 
 mul-table : tie.Need-mul-table
 mul-table c = search needs
@@ -47,9 +47,11 @@ same-length c = search needs
 returns-3 : tie.Need-returns-3
 unfolding numbers
 returns-3 c =
-    let a = c .before .before .args in
-    over-three (now (a .table)) (a .at) (a .row .tag) (a .row .place) (a .row .size) (omega arith)
-    ∙ put-row (now (a .table)) (a .at) (a .row) (omega arith)
+    let a = c .before .before .args in (
+      over-three (now (a .table)) (a .at) (a .row .tag) (a .row .place) (a .row .size) (omega arith)
+          ∙ put-row (now (a .table)) (a .at) (a .row) (omega arith),
+      (refl, refl),
+    )
 
 pub put-row-spec : {M : Type 1} → statement M
 put-row-spec =

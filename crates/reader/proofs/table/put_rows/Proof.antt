@@ -145,7 +145,7 @@ loop-again c =
     let told = on-tag sized in
     let on = in-loop told in
     put-more _ _ _ _ _ _ _ _ (on .before .loop .inv) (on .loop-test .taken) _ _ (tag-read told) _ _ (size-read sized) _
-    (put .put-row .ensures)
+    (put .put-row .ensures .0)
 
 same-length-3 : tie.Need-same-length-3 Inv-loop μ-loop
 same-length-3 c = put-length _ _ _ _ _ _ _ _ (c .before .loop .inv)
