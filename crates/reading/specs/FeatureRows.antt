@@ -14,7 +14,7 @@ unfoldable pub rowsAt : ℕ → Version → ℕ → List ℕ → Way (List Row)
 rowsAt zero v at s = is [] at
 rowsAt (suc more) v at s =
     next item.Tag (byte at s (plainIn at))
-    (λ x at. pass (row v x at s)
+    (λ x at′. pass (row v x at at′ s)
     (λ r at. through (λ rows. r ∷ rows) (rowsAt more v at s)))
 
 -- the rows that are there, and that they are there

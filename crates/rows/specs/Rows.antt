@@ -21,9 +21,13 @@ width = 3
 unfoldable pub numbers : Row → List ℕ
 numbers r = r .tag ∷ r .place ∷ r .size ∷ []
 
--- the row of a tag and its value's place and length
+-- the row of a feature as a writer is given it: its tag, its value's place and length
 abbrev pub valued : ℕ → ℕ → ℕ → Row
 valued tag place size = record { tag = tag; place = place; size = size }
+
+-- and as a reader finds it: its tag, where that stands, its value's place and length
+abbrev pub rowOf : ℕ → ℕ → ℕ → ℕ → Row
+rowOf tag start place size = record { tag = tag; place = place; size = size }
 
 -- the row whose first number stands at a place
 unfoldable pub rowAt : List ℕ → ℕ → Row

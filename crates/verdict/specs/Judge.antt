@@ -3,6 +3,7 @@
 pub mod Complete
 pub mod Listed
 pub mod Features
+pub mod HeaderSound
 pub mod Sound
 pub mod Seals
 pub mod Pins
@@ -16,6 +17,7 @@ use Rattle.format.specs.Choice.{pick, either}
 use Rattle.fields.specs.Signature.{isSignature}
 use Rattle.grammar.specs.Content.{Version, Header}
 pub use Rattle.rows.specs.declared.Row.{Row}
+use Rattle.rows.specs.Rows.{rowOf}
 use Rattle.causes.specs.Causes.{ruleNumber}
 use Rattle.causes.specs.declared.Item.the-variants as item
 use Rattle.causes.specs.declared.Rule.the-variants as rule
@@ -72,12 +74,12 @@ tagIn rows at x = pick (used x rows) (not rule.NotUsedBefore at) (is x (at + 1))
 unfoldable pub tag : List Row → ℕ → List ℕ → Item ℕ
 tag rows at s = byte at s (tagIn rows at)
 
-abbrev pub valueIn : ℕ → ℕ → ℕ → List ℕ → Item Row
-valueIn tag n at value = is (record { tag = tag; place = at; size = n }) (at + n)
+abbrev pub valueIn : ℕ → ℕ → ℕ → ℕ → List ℕ → Item Row
+valueIn tag start n at value = is (rowOf tag start at n) (at + n)
 
--- length and value of a feature whose tag was read
-unfoldable pub row : Version → ℕ → ℕ → List ℕ → Way Row
-row v tag at s = next item.Length (featureLength v at s) (λ n at. next item.Value (whole n at s (valueIn tag n at)) is)
+-- length and value of a feature whose tag was read; the feature starts where its tag stands
+unfoldable pub row : Version → ℕ → ℕ → ℕ → List ℕ → Way Row
+row v tag start at s = next item.Length (featureLength v at s) (λ n at. next item.Value (whole n at s (valueIn tag start n at)) is)
 
 -- the features from a place on, after those before, up to FF; the place is that of FF. There are fewer than 256, as no tag is used twice.
 unfoldable pub features : ℕ → Version → List Row → ℕ → List ℕ → Way (List Row)
@@ -85,7 +87,7 @@ features zero v rows at s = not (why item.Tag rule.NotUsedBefore) at
 features (suc more) v rows at s =
     next item.Tag (tag rows at s)
     (λ x at′. pick (eqb x 0xFF) (is rows at)
-    (pass (row v x at′ s) (λ r at. features more v (rows ++ (r ∷ [])) at s)))
+    (pass (row v x at at′ s) (λ r at. features more v (rows ++ (r ∷ [])) at s)))
 
 -- the signature after FF: its size; that is judged before its bytes are looked for, and nothing follows them
 abbrev pub rawIn : ℕ → ℕ → List ℕ → Item ℕ

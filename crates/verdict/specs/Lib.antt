@@ -5,7 +5,7 @@
 --     Wrong                 where a text that is wrongly coded is told: at its first wrongly coded pair, exactly
 --   Judge             header, features, signature, judge; Report and Verdict
 --     Complete, Features    the published form of a legal content is accepted
---     Sound, Seals          what is accepted is the published form of the content reported
+--     HeaderSound, Sound, Seals    what is accepted is the published form of the content reported
 --     Listed                every refusal has a number of document 01's list
 --     Causes                each item and rule by an input that is refused there
 --   Report            what is reported, turned back into a content

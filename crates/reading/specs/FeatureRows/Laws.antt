@@ -40,7 +40,7 @@ pub record Again (v : Version) (before : List Row) (at : ℕ) (s : List ℕ) (ro
 one-more :
     (v : Version) (before : List Row) (at mid after : ℕ) (s : List ℕ) (x : ℕ) (r : Row) (rows : List Row) (end : ℕ) →
     byte at s (plainIn at) ≡ is x mid →
-    row v x mid s ≡ is r after →
+    row v x at mid s ≡ is r after →
     Again v (before ++ (r ∷ [])) after s rows end →
     Again v before at s rows end
 unfolding rowsAt
@@ -61,7 +61,7 @@ features-again (suc more) v before at s rows end e =
     let i = steps-on item.Tag (tag before at s) _ rows end e in
     let x = i .value in
     let plain = tag-plain before at s x (i .at) (i .read) in
-    let rest = pass (row v x (i .at) s) (λ r at. features more v (before ++ (r ∷ [])) at s) in
+    let rest = pass (row v x at (i .at) s) (λ r at. features more v (before ++ (r ∷ [])) at s) in
     by-test (eqb x 0xFF)
     (λ f.
     let g : _≡_ {A = Way (List Row)} (is before at) (is rows end) = sym (ap (λ b. pick b (is before at) rest) f) ∙ i .goes-on in
@@ -74,7 +74,7 @@ features-again (suc more) v before at s rows end e =
     })
     (λ f.
     let g : rest ≡ is rows end = sym (ap (λ b. pick b (is before at) rest) f) ∙ i .goes-on in
-    let j = steps (row v x (i .at) s) (λ r at. features more v (before ++ (r ∷ [])) at s) rows end g in
+    let j = steps (row v x at (i .at) s) (λ r at. features more v (before ++ (r ∷ [])) at s) rows end g in
     let ih = features-again more v (before ++ (j .value ∷ [])) (j .at) s rows end (j .goes-on) in
     one-more v before at (i .at) (j .at) s x (j .value) rows end plain (j .read) ih)
 

@@ -14,6 +14,7 @@ use Rattle.grammar.specs.Content.{Version, Feature}
 use Rattle.grammar.specs.Publish.{lengthOf, messageZone}
 use Rattle.grammar.specs.Legal.{Unused, LegalFeatures}
 use Rattle.causes.specs.declared.Rule.the-variants as rule
+use Rattle.rows.specs.Rows.{rowOf}
 use Rattle.verdict.specs.Items.{is, not, whole, byte, featureLength}
 use Rattle.verdict.specs.Items.Laws.{byte-there, whole-there, feature-length-there}
 use Rattle.verdict.specs.Judge.{Row, used, tag, row, features, tagIn, valueIn}
@@ -23,7 +24,7 @@ unfoldable pub rowsOf : Version → ℕ → List Feature → List Row
 rowsOf v at [] = []
 rowsOf v at (f ∷ fs) =
     let place = at + 1 + length (lengthOf v (length (f .value))) in
-    record { tag = f .tag; place = place; size = length (f .value) } ∷ rowsOf v (place + length (f .value)) fs
+    rowOf (f .tag) at place (length (f .value)) ∷ rowsOf v (place + length (f .value)) fs
 
 -- a tag is used by none of the rows if it was not among the tags before
 abbrev Fresh : List Row → List ℕ → Type 0
@@ -92,17 +93,17 @@ features-there (suc more) v (f ∷ fs) tags rows p t l fresh ff less small =
     let l2 : length p2 ≡ length p + 1 + w = omega (arith, length-append p1 (lengthOf v n), l1) in
     let l3 : length p3 ≡ length p + 1 + w + n = omega (arith, length-append p2 (f .value), l2) in
     let zone : length (messageZone v (f ∷ fs)) ≡ 1 + w + n + length (messageZone v fs) = zone-size v f fs in
-    let r : Row = record { tag = x; place = length p + 1 + w; size = n } in
+    let r : Row = rowOf x (length p) (length p + 1 + w) n in
     let i0 : byte (length p) s (tagIn rows (length p)) ≡ is x (length p + 1) =
     ap (λ z. byte (length p) z (tagIn rows (length p))) e0 ∙ byte-there p x (lengthOf v n ++ (f .value ++ rest)) (tagIn rows (length p))
     ∙ ap (λ b. pick b (not rule.NotUsedBefore (length p)) (is x (length p + 1))) (fresh x (l .1)) in
     let i1 : featureLength v (length p + 1) s ≡ is n (length p + 1 + w) =
     ap (featureLength v (length p + 1)) e1 ∙ ap (λ k. featureLength v k (p1 ++ (lengthOf v n ++ (f .value ++ rest)))) (sym l1)
     ∙ feature-length-there v p1 n (f .value ++ rest) (omega arith) ∙ ap (λ k. is n (k + w)) l1 in
-    let i2 : whole n (length p + 1 + w) s (valueIn x n (length p + 1 + w)) ≡ is r (length p + 1 + w + n) =
-    ap (λ z. whole n (length p + 1 + w) z (valueIn x n (length p + 1 + w))) e2
-    ∙ ap (λ k. whole n k (p2 ++ (f .value ++ rest)) (valueIn x n (length p + 1 + w))) (sym l2)
-    ∙ whole-there n p2 (f .value) rest (valueIn x n (length p + 1 + w)) refl in
+    let i2 : whole n (length p + 1 + w) s (valueIn x (length p) n (length p + 1 + w)) ≡ is r (length p + 1 + w + n) =
+    ap (λ z. whole n (length p + 1 + w) z (valueIn x (length p) n (length p + 1 + w))) e2
+    ∙ ap (λ k. whole n k (p2 ++ (f .value ++ rest)) (valueIn x (length p) n (length p + 1 + w))) (sym l2)
+    ∙ whole-there n p2 (f .value) rest (valueIn x (length p) n (length p + 1 + w)) refl in
     let other : eqb x 0xFF ≡ false = ne-eqb x 0xFF (λ e. omega (arith, l .0)) in
     let fresh′ : Fresh (rows ++ (r ∷ [])) (x ∷ tags) = λ y u. used-end y rows r (fresh y (u .1)) (ne-eqb y x (u .0)) in
     let ff′ : used 0xFF (rows ++ (r ∷ [])) ≡ false = used-end 0xFF rows r ff (ne-eqb 0xFF x (λ e. omega (arith, l .0))) in

@@ -6,7 +6,7 @@ use mathlib.Core.Bool.{Bool, true, false}
 use Prim.Native.Nat.{ℕ, zero, suc, _+_, _≤_, _<_}
 use native.Mathlib.Omega.{arith}
 use borrow.Author.Tests.{eqb-true, eqb-false, ltb-false}
-use mathlib.Core.List.{List, [], _∷_, _++_, map, append-assoc, append-nil}
+use mathlib.Core.List.{List, [], _∷_, _++_, append-assoc, append-nil}
 use lib.Dec.{ltb, eqb}
 use lib.ListN.{length, take, drop, getD, drop-of-length-le}
 use Rattle.format.specs.Choice.{pick, either}
@@ -14,133 +14,21 @@ use Rattle.format.specs.Choice.Laws.{by-test, not-true}
 use Rattle.format.specs.Bytes.{Bytes}
 use Rattle.format.specs.Bytes.Laws.{bytes-drop, bytes-take}
 use Rattle.der.specs.Length.{form as derForm}
-use Rattle.c40.specs.Text.{publish as c40}
-use Rattle.versions.specs.Versions.{versionByte}
-use Rattle.grammar.specs.Content.{Version, Header, Feature, Content}
-use Rattle.grammar.specs.Publish.{carried, names as namesForm, lengthOf, headerZone, messageZone, signatureZone, signedBytes, publish}
-use Rattle.grammar.specs.Legal.{LastByte, LegalHeader, Unused, ValueSize, LegalFeatures, SignatureSize, n28, n32, n48, n64, n66, Legal}
-use Rattle.grammar.specs.Zones.{header-parts}
-use Rattle.dates.specs.declared.Date.{Date}
-use Rattle.dates.specs.Days.{Day, publish as publishedDay}
+use Rattle.grammar.specs.Content.{Version, Feature, Content}
+use Rattle.grammar.specs.Publish.{lengthOf, headerZone, messageZone, signatureZone, signedBytes, publish}
+use Rattle.grammar.specs.Legal.{Unused, ValueSize, LegalFeatures, SignatureSize, n28, n32, n48, n64, n66, Legal}
 use Rattle.causes.specs.Causes.{ruleNumber}
 use Rattle.causes.specs.declared.Rule.the-variants as rule
 use Rattle.causes.specs.declared.Item.the-variants as item
-use Rattle.verdict.specs.Items.{Item, Way, is, not, why, next, pass, whole, mark, version, country, names, date, last, derLength}
-use Rattle.verdict.specs.Items.{Names, featureLength}
+use Rattle.rows.specs.Rows.{rowOf}
+use Rattle.verdict.specs.Items.{Item, Way, is, not, why, next, pass, whole, derLength, featureLength}
 use Rattle.verdict.specs.Items.Sound.{Stands, stands-append, steps, steps-on, stands, length-taken, same-value, same-place, passed}
-use Rattle.verdict.specs.Items.Sound.{mark-read, version-read, last-read, date-read, der-read, feature-length-read, byte-read}
+use Rattle.verdict.specs.Items.Sound.{der-read, feature-length-read, byte-read}
 use Rattle.verdict.specs.Items.Laws.{unread, whole-read}
-use Rattle.verdict.specs.Items.FieldsSound.{country-read, names-read}
 use Rattle.verdict.specs.Judge.{Row, Report, Verdict, accepted, refused, header, used, tagIn, tag, valueIn, row, features}
 use Rattle.verdict.specs.Judge.{rawIn, endIn, sizeIn, signature, verdict, reading, judging, judge}
+use Rattle.verdict.specs.Judge.HeaderSound.{header-read}
 use Rattle.fields.specs.Signature.{isSignature}
-
--- a header of these fields
-fieldsOf : Version → List ℕ → Names → Date → Date → ℕ → ℕ → Header
-fieldsOf v c n issued signed definition category = record {
-  version = v;
-  country = c;
-  signer = n .signer;
-  reference = n .reference;
-  issued = issued;
-  signed = signed;
-  definition = definition;
-  category = category;
-}
-
--- what was read from the dates on
-record RestRead (v : Version) (c : List ℕ) (n : Names) (at : ℕ) (s : List ℕ) (h : Header) (end : ℕ) : Type 0 where
-  issued : Date
-  signed : Date
-  definition : ℕ
-  category : ℕ
-  issued-day : Day issued
-  signed-day : Day signed
-  definition-last : LastByte definition
-  category-last : LastByte category
-  same : fieldsOf v c n issued signed definition category ≡ h
-  there : Stands (publishedDay issued ++ (publishedDay signed ++ (definition ∷ category ∷ []))) at end s
-
-rest-read :
-    (v : Version) (c : List ℕ) (n : Names) (at : ℕ) (s : List ℕ) (h : Header) (end : ℕ) →
-    Bytes s →
-    next item.Issued (date at s)
-    (λ issued at. next item.Signed (date at s)
-    (λ signed at. next item.Definition (last at s)
-    (λ definition at. next item.Category (last at s) (λ category at. is (fieldsOf v c n issued signed definition category) at))))
-    ≡ is h end →
-    RestRead v c n at s h end
-rest-read v c n at s h end bytes e =
-    let i0 = steps-on item.Issued (date at s) _ h end e in
-    let i1 = steps-on item.Signed (date (i0 .at) s) _ h end (i0 .goes-on) in
-    let i2 = steps-on item.Definition (last (i1 .at) s) _ h end (i1 .goes-on) in
-    let i3 = steps-on item.Category (last (i2 .at) s) _ h end (i2 .goes-on) in
-    let r0 = date-read at s (i0 .value) (i0 .at) bytes (i0 .read) in
-    let r1 = date-read (i0 .at) s (i1 .value) (i1 .at) bytes (i1 .read) in
-    let r2 = last-read (i1 .at) s (i2 .value) (i2 .at) (i2 .read) in
-    let r3 = last-read (i2 .at) s (i3 .value) (i3 .at) (i3 .read) in
-    let g = fieldsOf v c n (i0 .value) (i1 .value) (i2 .value) (i3 .value) in
-    let place = same-place g h (i3 .at) end (i3 .goes-on) in
-    let a2 = stands-append _ _ _ _ _ s (r2 .1) (r3 .1) in
-    let a1 = stands-append _ _ _ _ _ s (r1 .1) a2 in
-    let a0 = stands-append _ _ _ _ _ s (r0 .1) a1 in
-    record {
-      issued = i0 .value;
-      signed = i1 .value;
-      definition = i2 .value;
-      category = i3 .value;
-      issued-day = r0 .0;
-      signed-day = r1 .0;
-      definition-last = r2 .0;
-      category-last = r3 .0;
-      same = same-value g h (i3 .at) end (i3 .goes-on);
-      there =
-          subst (λ k. Stands (publishedDay (i0 .value) ++ (publishedDay (i1 .value) ++ (i2 .value ∷ i3 .value ∷ []))) at k s) place a0;
-    }
-
--- the parts of a header that stand one after another are its zone
-zone-stands :
-    (g : Header) (s : List ℕ) (a b c d end : ℕ) →
-    Stands (0xDC ∷ []) 0 a s →
-    Stands (versionByte (g .version) ∷ []) a b s →
-    Stands (c40 (map carried (g .country))) b c s →
-    Stands (namesForm (g .version) (g .signer) (g .reference)) c d s →
-    Stands (publishedDay (g .issued) ++ (publishedDay (g .signed) ++ (g .definition ∷ g .category ∷ []))) d end s →
-    Stands (headerZone g) 0 end s
-zone-stands g s a b c d end mark version country names rest =
-    let on3 = stands-append _ _ c d end s names rest in
-    let on2 = stands-append _ _ b c end s country on3 in
-    let on1 = stands-append _ _ a b end s version on2 in
-    let on0 = stands-append _ _ 0 a end s mark on1 in
-    subst (λ u. Stands u 0 end s) (sym (header-parts g []) ∙ append-nil (headerZone g)) on0
-
-pub header-read : (s : List ℕ) (h : Header) (end : ℕ) → Bytes s → header s ≡ is h end → LegalHeader h × Stands (headerZone h) 0 end s
-unfolding header fieldsOf
-header-read s h end bytes e =
-    let i0 = steps-on item.Mark (mark 0 s) _ h end e in
-    let i1 = steps-on item.Version (version (i0 .at) s) _ h end (i0 .goes-on) in
-    let i2 = steps-on item.Country (country (i1 .at) s) _ h end (i1 .goes-on) in
-    let i3 = steps (names (i1 .value) (i2 .at) s) _ h end (i2 .goes-on) in
-    let q = rest-read (i1 .value) (i2 .value) (i3 .value) (i3 .at) s h end bytes (i3 .goes-on) in
-    let r0 = mark-read 0 s (i0 .value) (i0 .at) (i0 .read) in
-    let r1 = version-read (i0 .at) s (i1 .value) (i1 .at) (i1 .read) in
-    let r2 = country-read (i1 .at) s (i2 .value) (i2 .at) bytes (i2 .read) in
-    let r3 = names-read (i1 .value) (i2 .at) s (i3 .value) (i3 .at) bytes (i3 .read) in
-    let g = fieldsOf (i1 .value) (i2 .value) (i3 .value) (q .issued) (q .signed) (q .definition) (q .category) in
-    let legal : LegalHeader g =
-    record {
-      country = r2 .0;
-      signer = r3 .0 .signer;
-      reference = r3 .0 .reference;
-      size = r3 .0 .size;
-      issued = q .issued-day;
-      signed = q .signed-day;
-      definition = q .definition-last;
-      category = q .category-last;
-    } in
-    let there : Stands (headerZone g) 0 end s =
-    zone-stands g s (i0 .at) (i1 .at) (i2 .at) (i3 .at) end r0 r1 (r2 .1) (r3 .1) (q .there) in
-    (subst LegalHeader (q .same) legal, subst (λ (z : Header). Stands (headerZone z) 0 end s) (q .same) there)
 
 -- a tag that no row has was not among the tags before
 abbrev Covers : List Row → List ℕ → Type 0
@@ -195,18 +83,22 @@ record RowRead (v : Version) (x at : ℕ) (s : List ℕ) (r : Row) (after : ℕ)
   bytes : Bytes value
   there : Stands (lengthOf v (length value) ++ value) at after s
 
-row-read : (v : Version) (x at : ℕ) (s : List ℕ) (r : Row) (after : ℕ) → Bytes s → row v x at s ≡ is r after → RowRead v x at s r after
+row-read :
+    (v : Version) (x start at : ℕ) (s : List ℕ) (r : Row) (after : ℕ) →
+    Bytes s →
+    row v x start at s ≡ is r after →
+    RowRead v x at s r after
 unfolding row
-row-read v x at s r after all e =
-    let k = steps-on item.Length (featureLength v at s) (λ n at. next item.Value (whole n at s (valueIn x n at)) is) r after e in
+row-read v x start at s r after all e =
+    let k = steps-on item.Length (featureLength v at s) (λ n at. next item.Value (whole n at s (valueIn x start n at)) is) r after e in
     let n = k .value in
     let m = k .at in
     let l = feature-length-read v at s n m all (k .read) in
-    let j = steps-on item.Value (whole n m s (valueIn x n m)) is r after (k .goes-on) in
-    let w = whole-read n m s (valueIn x n m) (j .value) (j .at) (j .read) in
+    let j = steps-on item.Value (whole n m s (valueIn x start n m)) is r after (k .goes-on) in
+    let w = whole-read n m s (valueIn x start n m) (j .value) (j .at) (j .read) in
     let b = take n (drop m s) in
     let many : length b ≡ n = length-taken n m s (w .there) in
-    let q : Row = record { tag = x; place = m; size = n } in
+    let q : Row = rowOf x start m n in
     let same = same-value q (j .value) (m + n) (j .at) (w .read) ∙ same-value (j .value) r (j .at) after (j .goes-on) in
     let place = same-place q (j .value) (m + n) (j .at) (w .read) ∙ same-place (j .value) r (j .at) after (j .goes-on) in
     let here : Stands b m after s =
@@ -259,16 +151,16 @@ features-read (suc more) v rows at s out end tags bytes covers e =
     by-test (eqb x 0xFF)
     (λ f.
     let g : _≡_ {A = Way (List Row)} (is rows at) (is out end) =
-    sym (ap (λ b. pick b (is rows at) (pass (row v x (i .at) s) (λ r at. features more v (rows ++ (r ∷ [])) at s))) f) ∙ i .goes-on in
+    sym (ap (λ b. pick b (is rows at) (pass (row v x at (i .at) s) (λ r at. features more v (rows ++ (r ∷ [])) at s))) f) ∙ i .goes-on in
     let place = same-place rows out at end g in
     let ff : Stands (0xFF ∷ []) at (at + 1) s =
     subst (λ y. Stands (y ∷ []) at (at + 1) s) (eqb-true x 0xFF f) (subst (λ k. Stands (x ∷ []) at k s) (t .there .size) (t .there)) in
     ended v tags at end s place ff)
     (λ f.
-    let g : pass (row v x (i .at) s) (λ r at. features more v (rows ++ (r ∷ [])) at s) ≡ is out end =
-    sym (ap (λ b. pick b (is rows at) (pass (row v x (i .at) s) (λ r at. features more v (rows ++ (r ∷ [])) at s))) f) ∙ i .goes-on in
-    let j = steps (row v x (i .at) s) (λ r at. features more v (rows ++ (r ∷ [])) at s) out end g in
-    let r = row-read v x (i .at) s (j .value) (j .at) bytes (j .read) in
+    let g : pass (row v x at (i .at) s) (λ r at. features more v (rows ++ (r ∷ [])) at s) ≡ is out end =
+    sym (ap (λ b. pick b (is rows at) (pass (row v x at (i .at) s) (λ r at. features more v (rows ++ (r ∷ [])) at s))) f) ∙ i .goes-on in
+    let j = steps (row v x at (i .at) s) (λ r at. features more v (rows ++ (r ∷ [])) at s) out end g in
+    let r = row-read v x at (i .at) s (j .value) (j .at) bytes (j .read) in
     let covers′ : Covers (rows ++ (j .value ∷ [])) (x ∷ tags) = λ y u.
     let p = unused-end y rows (j .value) u in
     ((λ same. eqb-false y (j .value .tag) (p .1) (same ∙ sym (r .is-row))), covers y (p .0)) in

@@ -20,6 +20,7 @@ use Rattle.causes.specs.declared.Item.the-variants as item
 use Rattle.causes.specs.declared.Rule.{Rule}
 use Rattle.causes.specs.declared.Rule.the-variants as rule
 use Rattle.verdict.specs.Items.{is, not, why, pass, whole, byte, plainIn, featureLength}
+use Rattle.rows.specs.Rows.{rowOf}
 use Rattle.read_items.specs.Meaning.{past, through}
 use Rattle.read_items.specs.Meaning.Laws.{Read, read-byte, judged-byte, byte-none, Past, past-whole, judged, whole-none}
 use Rattle.verdict.specs.Judge.{Row, used, tagIn, tag, valueIn, row, features}
@@ -99,31 +100,31 @@ module _ (more : ℕ) (v : Version) (rows : List Row) (at : ℕ) (s : List ℕ) 
   features-used x after b e = rw (judged-byte at s x after (tagIn rows at) b, e) refl
 
   features-row : (x after : ℕ) → Read at s x after → used x rows ≡ false → (x ≡ 0xFF → ⊥)
-      → features (suc more) v rows at s ≡ pass (row v x after s) (λ r at. features more v (rows ++ (r ∷ [])) at s)
+      → features (suc more) v rows at s ≡ pass (row v x at after s) (λ r at. features more v (rows ++ (r ∷ [])) at s)
   unfolding features tag
   features-row x after b e other =
       rw (judged-byte at s x after (tagIn rows at) b, e, ne-eqb x 0xFF other)
-      (ap (λ k. pass (row v x k s) (λ r at. features more v (rows ++ (r ∷ [])) at s)) (sym (b .reached)))
+      (ap (λ k. pass (row v x at k s) (λ r at. features more v (rows ++ (r ∷ [])) at s)) (sym (b .reached)))
 
 -- what a row is, by its length and value
-module _ (v : Version) (x at : ℕ) (s : List ℕ) where
-  row-refused : (rule : Rule) (place : ℕ) → not rule place ≡ featureLength v at s → row v x at s ≡ not (why item.Length rule) place
+module _ (v : Version) (x start at : ℕ) (s : List ℕ) where
+  row-refused : (rule : Rule) (place : ℕ) → not rule place ≡ featureLength v at s → row v x start at s ≡ not (why item.Length rule) place
   unfolding row
   row-refused rule place e = rw (sym e) refl
 
   row-cut : (n value : ℕ) → is n value ≡ featureLength v at s → not rule.There value ≡ whole n value s (past n value)
-      → row v x at s ≡ not (why item.Value rule.There) value
+      → row v x start at s ≡ not (why item.Value rule.There) value
   unfolding row
-  row-cut n value e w = rw (sym e, sym (whole-none n value s (valueIn x n value) w)) refl
+  row-cut n value e w = rw (sym e, sym (whole-none n value s (valueIn x start n value) w)) refl
 
   row-is :
       (n value after : ℕ) →
       is n value ≡ featureLength v at s →
       Past n value s after →
-      row v x at s ≡ is (record { tag = x; place = value; size = n }) after
+      row v x start at s ≡ is (rowOf x start value n) after
   unfolding row
   row-is n value after e p =
-      rw (sym e, judged n value s after (valueIn x n value) p) (ap (is (record { tag = x; place = value; size = n })) (sym (p .reached)))
+      rw (sym e, judged n value s after (valueIn x start n value) p) (ap (is (rowOf x start value n)) (sym (p .reached)))
 
 -- what is known at the place of a tag, after these rows
 pub record Turn (v : Version) (s : List ℕ) (from : ℕ) (rows : List Row) (at : ℕ) : Type 0 where
@@ -155,20 +156,21 @@ module _ (v : Version) (s : List ℕ) (from : ℕ) (rows : List Row) (at : ℕ) 
   -- a new tag
   module _ (x after : ℕ) (e : is x after ≡ byte at s (plainIn at)) (other : x ≡ 0xFF → ⊥)
       (none : (i : ℕ) → i < length rows → getD (tagsOf rows) i 0 ≡ x → ⊥) where
-    on : features 256 v [] from s ≡ pass (row v x after s) (λ r at. features (free 255 (tagsOf rows)) v (rows ++ (r ∷ [])) at s)
+    on : features 256 v [] from s ≡ pass (row v x at after s) (λ r at. features (free 255 (tagsOf rows)) v (rows ++ (r ∷ [])) at s)
     on = turn .same ∙ features-row (free 255 (tagsOf rows)) v rows at s x after (read-byte at s x after e) (used-none x rows none) other
 
     -- fewer than 255 rows stand before it
     pub walk-room : x < 256 → length rows < 255
     walk-room small =
-        let r : Row = record { tag = x; place = after; size = 0 } in
+        let r : Row = rowOf x at after 0 in
         omega (arith, turn .room, free-row 255 rows r (omega (arith, other)) (used-none x rows none))
 
     -- whose length is not read
     pub walk-unsized : (rule : Rule) (place : ℕ) → not rule place ≡ featureLength v after s
         → features 256 v [] from s ≡ not (why item.Length rule) place
     walk-unsized rule place l =
-        on ∙ ap (λ i. pass i (λ r at. features (free 255 (tagsOf rows)) v (rows ++ (r ∷ [])) at s)) (row-refused v x after s rule place l)
+        on ∙ ap (λ i. pass i (λ r at. features (free 255 (tagsOf rows)) v (rows ++ (r ∷ [])) at s))
+        (row-refused v x at after s rule place l)
 
     module _ (n value : ℕ) (l : is n value ≡ featureLength v after s) where
       -- whose value is cut
@@ -176,16 +178,16 @@ module _ (v : Version) (s : List ℕ) (from : ℕ) (rows : List Row) (at : ℕ) 
           → features 256 v [] from s ≡ not (why item.Value rule.There) value
       walk-short w =
           on ∙ ap (λ i. pass i (λ r at. features (free 255 (tagsOf rows)) v (rows ++ (r ∷ [])) at s))
-          (row-cut v x after s n value l w)
+          (row-cut v x at after s n value l w)
 
       -- whose value is there
       pub walk-more :
           (end : ℕ) →
           x < 256 →
           is tt end ≡ whole n value s (past n value) →
-          Turn v s from (rows ++ (record { tag = x; place = value; size = n } ∷ [])) end
+          Turn v s from (rows ++ (rowOf x at value n ∷ [])) end
       walk-more end small w =
-          let r : Row = record { tag = x; place = value; size = n } in
+          let r : Row = rowOf x at value n in
           let p = past-whole n value s end w in
           let less : free 255 (tagsOf rows) ≡ suc (free 255 (tagsOf (rows ++ (r ∷ [])))) =
           free-row 255 rows r (omega (arith, other)) (used-none x rows none) in
@@ -193,7 +195,7 @@ module _ (v : Version) (s : List ℕ) (from : ℕ) (rows : List Row) (at : ℕ) 
             same =
                 on
                 ∙ ap (λ i. pass i (λ r at. features (free 255 (tagsOf rows)) v (rows ++ (r ∷ [])) at s))
-                (row-is v x after s n value end l p)
+                (row-is v x at after s n value end l p)
                 ∙ ap (λ k. features k v (rows ++ (r ∷ [])) end s) less;
             room = omega (arith, turn .room, less, length-append rows (r ∷ []));
             no-mark = used-end 0xFF rows r ∙ ap (λ b. either b (used 0xFF rows)) (ne-eqb 0xFF x (λ z. other (sym z))) ∙ turn .no-mark;
@@ -271,7 +273,7 @@ module _ (v : Version) (s : List ℕ) (from : ℕ) (tags : List ℕ) (count at x
 
     pub new-more : (end : ℕ) → Bytes s → is tt end ≡ whole n value s (past n value) → Kept v s from (set tags count x) (count + 1) end
     new-more end bytes w =
-        let r : Row = record { tag = x; place = value; size = n } in
+        let r : Row = rowOf x at value n in
         let k = new .kept in
         let here : count < length tags = omega (arith, new-room bytes, k .size) in
         record {

@@ -16,7 +16,7 @@ use Rattle.verdict.specs.Items.Laws.{unread, whole-read}
 use Rattle.verdict.specs.Items.Sound.{steps, steps-on, same-value, same-place}
 use Rattle.read_items.specs.Meaning.{through}
 use Rattle.rows.specs.declared.Row.{Row}
-use Rattle.rows.specs.Rows.{width, numbers, rowPut, table}
+use Rattle.rows.specs.Rows.{width, numbers, rowOf, rowPut, table}
 use Rattle.rows.specs.Rows.Laws.{length-numbers, table-end, put-row}
 use Rattle.verdict.specs.Judge.{valueIn, row}
 use Rattle.reading.specs.Calls.{then}
@@ -32,23 +32,24 @@ ended (is rows end) a = record { end = end; is-read = refl }
 ended (not why place) a = absurd a
 
 -- the parts of a row that was read
-record RowParts (v : Version) (x at : ℕ) (s : List ℕ) (r : Row) (after : ℕ) : Type 0 where
+record RowParts (v : Version) (x start at : ℕ) (s : List ℕ) (r : Row) (after : ℕ) : Type 0 where
   n : ℕ
   value : ℕ
   sized : featureLength v at s ≡ is n value
   there : value + n ≤ length s
-  is-row : record { tag = x; place = value; size = n } ≡ r
+  is-row : rowOf x start value n ≡ r
   reached : value + n ≡ after
 
-row-parts : (v : Version) (x at : ℕ) (s : List ℕ) (r : Row) (after : ℕ) → row v x at s ≡ is r after → RowParts v x at s r after
+row-parts : (v : Version) (x start at : ℕ) (s : List ℕ) (r : Row) (after : ℕ) → row v x start at s ≡ is r after →
+    RowParts v x start at s r after
 unfolding row
-row-parts v x at s r after e =
-    let k = steps-on item.Length (featureLength v at s) (λ n at. next item.Value (whole n at s (valueIn x n at)) is) r after e in
+row-parts v x start at s r after e =
+    let k = steps-on item.Length (featureLength v at s) (λ n at. next item.Value (whole n at s (valueIn x start n at)) is) r after e in
     let n = k .value in
     let m = k .at in
-    let j = steps-on item.Value (whole n m s (valueIn x n m)) is r after (k .goes-on) in
-    let w = whole-read n m s (valueIn x n m) (j .value) (j .at) (j .read) in
-    let q : Row = record { tag = x; place = m; size = n } in
+    let j = steps-on item.Value (whole n m s (valueIn x start n m)) is r after (k .goes-on) in
+    let w = whole-read n m s (valueIn x start n m) (j .value) (j .at) (j .read) in
+    let q : Row = rowOf x start m n in
     record {
       n = n;
       value = m;
@@ -76,7 +77,7 @@ record Ahead (more : ℕ) (v : Version) (at : ℕ) (s : List ℕ) (rest : List R
   plain : byte at s (plainIn at) ≡ is x mid
   r : Row
   after : ℕ
-  parts : RowParts v x mid s r after
+  parts : RowParts v x at mid s r after
   others : Behind r (rowsAt more v after s) rest end
 
 ahead :
@@ -87,15 +88,15 @@ unfolding rowsAt
 ahead more v at s rest end e =
     let i =
     steps-on item.Tag (byte at s (plainIn at))
-    (λ x at. pass (row v x at s) (λ r at. through (λ rows. r ∷ rows) (rowsAt more v at s))) rest end e in
-    let j = steps (row v (i .value) (i .at) s) (λ r at. through (λ rows. r ∷ rows) (rowsAt more v at s)) rest end (i .goes-on) in
+    (λ x at′. pass (row v x at at′ s) (λ r at. through (λ rows. r ∷ rows) (rowsAt more v at s))) rest end e in
+    let j = steps (row v (i .value) at (i .at) s) (λ r at. through (λ rows. r ∷ rows) (rowsAt more v at s)) rest end (i .goes-on) in
     record {
       x = i .value;
       mid = i .at;
       plain = i .read;
       r = j .value;
       after = j .at;
-      parts = row-parts v (i .value) (i .at) s (j .value) (j .at) (j .read);
+      parts = row-parts v (i .value) at (i .at) s (j .value) (j .at) (j .read);
       others = behind (j .value) (rowsAt more v (j .at) s) rest end (j .goes-on);
     }
 
@@ -186,12 +187,12 @@ module _ (v : Version) (s : List ℕ) (count from : ℕ) (entry out : List ℕ) 
         put-value = omega (arith, same-size, same-start, found .2 .parts .there)
 
         abbrev here : Row
-        here = record { tag = x; place = value; size = n }
+        here = rowOf x at value n
 
         is-next : here ≡ found .2 .r
         is-next =
-            ap₂ (λ y k. record { tag = y; place = k; size = n }) same-tag same-start
-            ∙ ap (λ k. record { tag = found .2 .x; place = found .2 .parts .value; size = k }) same-size ∙ found .2 .parts .is-row
+            ap₂ (λ y k. rowOf y at k n) same-tag same-start
+            ∙ ap (λ k. rowOf (found .2 .x) at (found .2 .parts .value) k) same-size ∙ found .2 .parts .is-row
 
         -- the table has room for its row
         pub put-room : to + width ≤ length out
