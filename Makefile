@@ -16,7 +16,7 @@
 #             an x86-64 machine)
 # make vectors  reckon the files of cases anew from document 01 (needs python3)
 # make install    put what was made under PREFIX (below DESTDIR): programs, library, header, pkg-config file, man pages,
-#                 docs, example
+#                 docs with their pictures, examples
 # make uninstall  remove what make install put there
 # make clean  remove what was made
 # What rt prints stands in target/log/make-*: its last line is shown, and all of it where it fails. The gate's rt ci
@@ -24,7 +24,7 @@
 # All that is built is for x86-64. What stands after tests/x86 is run on another machine too, by a toolchain that is
 # laid there once, or is named as not run.
 
-VERSION := 0.4.0
+VERSION := 0.5.0
 PREFIX ?= /usr/local
 FUZZ_SECONDS ?= 60
 
@@ -109,12 +109,13 @@ vectors:
 	@python3 -B vectors/all_cases.py crates/vectors
 
 # Builds nothing, so that it can be run by another user than the one who built. Each call has a page that leads to the
-# library's.
+# library's. The pictures stand where README's links look for them.
 install:
 	@test -f $(LIST) || { echo "missing: $(LIST); run make list" >&2; exit 1; }
 	@test -f $(LIB) || { echo "missing: $(LIB); run make lib" >&2; exit 1; }
 	@test -f $(CHECKER) || { echo "missing: $(CHECKER); run make checker" >&2; exit 1; }
-	install -d "$(TO)/bin" "$(TO)/include" "$(TO)/lib/pkgconfig" "$(MAN)/man1" "$(MAN)/man3" "$(DOC)/examples"
+	install -d "$(TO)/bin" "$(TO)/include" "$(TO)/lib/pkgconfig" "$(MAN)/man1" "$(MAN)/man3"
+	install -d "$(DOC)/docs" "$(DOC)/examples"
 	install -m 755 $(LIST) "$(TO)/bin/fenderrope-list"
 	install -m 755 $(CHECKER) "$(TO)/bin/fenderrope-check"
 	install -m 644 include/fenderrope.h "$(TO)/include/fenderrope.h"
@@ -126,7 +127,8 @@ install:
 	for call in $(CALLS); do echo '.so man3/fenderrope.3' >"$(MAN)/man3/$$call.3" || exit; done
 	chmod 644 $(CALLS:%="$(MAN)/man3/%.3")
 	install -m 644 README.md docs/*.md "$(DOC)"
-	install -m 644 examples/hall.c examples/seal-a "$(DOC)/examples"
+	install -m 644 docs/*.svg "$(DOC)/docs"
+	install -m 644 examples/hall.c examples/frames.c examples/seal-a examples/seal-five "$(DOC)/examples"
 
 uninstall:
 	rm -f "$(TO)/bin/fenderrope-list" "$(TO)/bin/fenderrope-check" "$(TO)/include/fenderrope.h"

@@ -16,7 +16,7 @@ const maker makers[MAKERS] = {MAKER(c), MAKER(rust), MAKER(fr)};
 
 static given g;
 static uint8_t seal[4096], text[6144], bytes[6144], ders[SIGNATURES][144], integers[INTEGERS][10];
-static size_t table[765], size, sizes[SIGNATURES], widths[INTEGERS];
+static size_t table[FR_TABLE_MOST], size, sizes[SIGNATURES], widths[INTEGERS];
 static signatures raws;
 
 /* calls a call so many times on input k, and gives how many were refused */
@@ -50,7 +50,7 @@ static void ready_integers(void) {
 
 static void ready_nothing(void) {}
 
-static size_t run_read(const maker *m, size_t times) { LOOP(m->read(seal, size, table, 765, text, 259)); }
+static size_t run_read(const maker *m, size_t times) { LOOP(m->read(seal, size, table, FR_TABLE_MOST, text, FR_TEXT_MOST)); }
 static size_t run_judge(const maker *m, size_t times) { LOOP(m->judge(seal, size)); }
 static size_t run_write(const maker *m, size_t times) { LOOP(write_given(m, &g, bytes)); }
 static size_t run_c40_read(const maker *m, size_t times) { LOOP(m->c40_read(bytes, 4096, text, 6144)); }

@@ -2,13 +2,15 @@
 #include "inputs.h"
 #include <string.h>
 
+/* a feature, with a place of its tag that no seal has, as a writer ignores it */
 static void add(given *g, size_t tag, size_t size) {
     size_t *row = g->rows + g->numbers;
-    row[0] = tag;
-    row[1] = g->size;
-    row[2] = size;
+    row[FR_ROW_TAG] = tag;
+    row[FR_ROW_TAG_PLACE] = SIZE_MAX - tag;
+    row[FR_ROW_VALUE_PLACE] = g->size;
+    row[FR_ROW_VALUE_LENGTH] = size;
     for (size_t i = 0; i < size; i++) g->values[g->size++] = (uint8_t)(tag + i);
-    g->numbers += 3;
+    g->numbers += FR_ROW;
 }
 
 static given start(size_t version, size_t reference, size_t raw) {

@@ -8,7 +8,7 @@
 typedef struct {
     fr_header header;
     uint8_t text[259], values[4096], signature[132];
-    size_t characters, rows[768], numbers, size, raw, room;
+    size_t characters, rows[FR_TABLE_MOST + FR_ROW], numbers, size, raw, room;
 } given;
 
 /* a seal of 150 bytes: a reference of 5 characters, three features and a signature of 64 bytes */

@@ -6,7 +6,7 @@
 
 /* what a call gave: the fields of its answer, and the buffers that it was lent */
 typedef struct {
-    size_t fields[20], table[800];
+    size_t fields[20], table[FR_TABLE_MOST + 2 * FR_ROW];
     uint8_t bytes[6200];
 } seen;
 
@@ -21,6 +21,11 @@ static void judge_same(const char *call) {
                     call, got[0].fields[0], got[i].fields[0], got[0].fields[1], got[i].fields[1]);
             exit(1);
         }
+}
+
+/* stops unless the input of a call gave this number, as it was meant to */
+static void expect(size_t number) {
+    if (got[0].fields[0] != number) fprintf(stderr, "bench: input for %zu gives %zu\n", number, got[0].fields[0]), exit(1);
 }
 
 /* makes a call by each maker m, which leaves what it gave in s */
@@ -70,9 +75,27 @@ static void see_dated(seen *s, fr_dated d) {
     see_date(s->fields + 3, d.date);
 }
 
-static void same_seal(const uint8_t *seal, size_t n, size_t numbers, size_t room) {
+static void same_read(const uint8_t *seal, size_t n, size_t numbers, size_t room) {
     SAME(see_reading(s, m->read(seal, n, s->table, numbers, s->bytes, room)));
+}
+
+/* with room for every seal */
+static void same_seal(const uint8_t *seal, size_t n) {
+    same_read(seal, n, FR_TABLE_MOST, FR_TEXT_MOST);
     SAME(see_reading(s, m->judge(seal, n)));
+}
+
+/* a good seal with a table exact, a row longer, a row shorter and all between, with one number less a feature, and with text room exact and one short */
+static void same_rooms(const uint8_t *seal, size_t n, const given *g) {
+    size_t exact = g->numbers, fewer = exact / FR_ROW * (FR_ROW - 1);
+    for (size_t numbers = exact - FR_ROW; numbers <= exact + FR_ROW; numbers++) {
+        same_read(seal, n, numbers, g->characters);
+        expect(numbers < exact ? 12 : 0);
+    }
+    same_read(seal, n, fewer, g->characters);
+    expect(12);
+    same_read(seal, n, exact, g->characters - 1);
+    expect(12);
 }
 
 /* the values that a byte is changed to */
@@ -81,22 +104,20 @@ static const uint8_t others[] = {0, 1, 3, 0x30, 0x7F, 0x80, 0x81, 0x82, 0xFA, 0x
 /* whole, cut short anywhere, with one more, with too little room, and with a byte changed before place `front` or in the last 140 */
 static void same_seals(const given *g, size_t front) {
     static uint8_t seal[4200];
-    size_t n = write_given(makers, g, seal).count, count = g->numbers;
-    for (size_t k = 0; k <= n + 1; k++) same_seal(seal, k, 765, 259);
-    same_seal(seal, n, count, g->characters);
-    same_seal(seal, n, count - 1, g->characters);
-    same_seal(seal, n, count, g->characters - 1);
+    size_t n = write_given(makers, g, seal).count;
+    for (size_t k = 0; k <= n + 1; k++) same_seal(seal, k);
+    same_rooms(seal, n, g);
     for (size_t i = 0; i < n; i++) {
         uint8_t kept = seal[i];
         if (i >= front && i + 140 < n) continue;
         for (size_t k = 0; k < sizeof others; k++) {
             seal[i] = others[k];
-            same_seal(seal, n, 765, 259);
+            same_seal(seal, n);
         }
         seal[i] = kept;
     }
     memset(seal, 0, sizeof seal);
-    same_seal(seal, 4097, 765, 259);
+    same_seal(seal, 4097);
 }
 
 /* pairs that are text of three characters, good or with a space, of two and of one, and pairs with each fault */
@@ -114,7 +135,7 @@ static void same_pairs(const given *g, size_t reach) {
             for (size_t a = 0; a < PAIRS * PAIRS; a++) {
                 memcpy(seal + i, pairs[a / PAIRS], 2);
                 memcpy(seal + k, pairs[a % PAIRS], 2);
-                same_seal(seal, n, 765, 259);
+                same_seal(seal, n);
             }
             memcpy(seal, kept, n);
         }
@@ -136,6 +157,14 @@ static void same_names(void) {
 
 static void same_write(given g) { SAME(see_filled(s, write_given(m, &g, s->bytes))); }
 
+/* one row over the first `size` values, whatever stands in them */
+static void one_row(given *g, size_t size) {
+    g->size = size;
+    g->rows[FR_ROW_VALUE_PLACE] = 0;
+    g->rows[FR_ROW_VALUE_LENGTH] = size;
+    g->numbers = FR_ROW;
+}
+
 /* written, with room from none to enough, and refused by each number from 20 to 28 */
 static void same_writes(const given *g) {
     given b[9];
@@ -145,16 +174,40 @@ static void same_writes(const given *g) {
     b[1].text[g->characters - 1] = '<';
     b[2].header.signed_on = (fr_date){2, 30, 2000};
     b[3].header.category = 255;
-    b[4].rows[3] = g->rows[0];
-    b[5].header.version = 3, b[5].header.length = 5, b[5].characters = 9, b[5].size = 256, b[5].rows[1] = 0, b[5].rows[2] = 256, b[5].numbers = 3;
+    b[4].rows[FR_ROW + FR_ROW_TAG] = g->rows[FR_ROW_TAG];
+    b[5].header.version = 3, b[5].header.length = 5, b[5].characters = 9, one_row(b + 5, 256);
     b[6].raw = 65;
-    b[7].size = 4096, b[7].rows[1] = 0, b[7].rows[2] = 4096, b[7].numbers = 3, b[7].header.version = 4;
+    b[7].header.version = 4, one_row(b + 7, 4096);
     b[8].room = 149;
     for (size_t i = 0; i < 9; i++) {
         same_write(b[i]);
-        if (got[0].fields[0] != 20 + i) fprintf(stderr, "bench: input for %zu gives %zu\n", 20 + i, got[0].fields[0]), exit(1);
+        expect(20 + i);
     }
     for (given one = *g; one.room-- > 0;) same_write(one);
+}
+
+/* tables of each length from none to one number past the rows: written where it is in whole rows, else 24 */
+static void same_tables(const given *g) {
+    given one = *g;
+    for (one.numbers = 0; one.numbers <= g->numbers + 1; one.numbers++) {
+        same_write(one);
+        expect(one.numbers % FR_ROW == 0 ? 0 : 24);
+    }
+}
+
+/* numbers of every size by chance as the places of the tags: the same seal */
+static void same_tag_places(given g) {
+    static uint8_t seal[FR_SEAL_MOST];
+    size_t n = write_given(makers, &g, seal).count;
+    for (unsigned round = 0; round < 64; round++) {
+        for (size_t i = FR_ROW_TAG_PLACE; i < g.numbers; i += FR_ROW) {
+            fill_bytes((uint8_t *)(g.rows + i), sizeof *g.rows);
+            g.rows[i] >>= round;
+        }
+        same_write(g);
+        expect(0);
+        if (got[0].fields[2] != n || memcmp(got[0].bytes, seal, n)) fprintf(stderr, "bench: the tags' places change a seal\n"), exit(1);
+    }
 }
 
 static void same_text(void) {
@@ -270,6 +323,12 @@ size_t compare_all(void) {
     same_writes(&three);
     same_writes(&four);
     same_write(full);
+    same_tables(&three);
+    same_tables(&four);
+    same_tables(&full);
+    same_tag_places(three);
+    same_tag_places(four);
+    same_tag_places(full);
     same_text();
     same_dates();
     same_integers();

@@ -4,9 +4,10 @@
  *   hall FILE             says which press the lock tag in FILE locks, or why it is no lock tag
  *   hall make NAME FILE   makes a version 4 lock tag for the press NAME and writes it to FILE
  *
- * The press is named by feature 11: 1 to 12 upper-case letters and digits, in C40. The status is 0 where a press is
- * locked or a tag made, 1 where FILE is refused or is no lock tag, and 2 where something else is wrong; standard error
- * then says what.
+ * The press is named by feature 11: 1 to 12 upper-case letters and digits, in C40. The line of a locked press ends
+ * with the frame that a camera overlay draws around the feature: the place of its tag in FILE, and how many bytes tag,
+ * length and value are together. The status is 0 where a press is locked or a tag made, 1 where FILE is refused or is
+ * no lock tag, and 2 where something else is wrong; standard error then says what.
  *
  * Signing is the signing unit's work: make gives it the signed bytes on standard output and takes the raw signature, 64
  * bytes, from standard input. So is verifying: what is printed is what the tag says, not that it is genuine.
@@ -64,14 +65,16 @@ static int show(const char *path) {
     fclose(file);
     fr_reading r = fr_read(seal, length, table, FR_TABLE_MOST, text, sizeof text);
     if (r.number != 0) return say(1, "refused %zu at %zu: %s\n", r.number, r.place, words_of(r.number));
-    const size_t *row = table, *end = table + 3 * r.count;
-    while (row < end && row[0] != PRESS) row += 3;
+    const size_t *row = table, *end = table + FR_ROW * r.count;
+    while (row < end && row[FR_ROW_TAG] != PRESS) row += FR_ROW;
     if (row == end) return say(1, "no lock tag: no press is named\n");
     char name[NAME_MOST];
-    fr_filled n = fr_c40_read(seal + row[1], row[2], (uint8_t *)name, sizeof name);
-    if (!is_name(n, name, n.count)) return say(1, "no lock tag: no name of a press at %zu\n", row[1]);
-    return say(0, "locked %.*s, signer %.4s, reference %.*s\n", (int)n.count, name, (const char *)text,
-               (int)r.header.length, (const char *)text + 4);
+    size_t place = row[FR_ROW_VALUE_PLACE], size = row[FR_ROW_VALUE_LENGTH];
+    fr_filled n = fr_c40_read(seal + place, size, (uint8_t *)name, sizeof name);
+    if (!is_name(n, name, n.count)) return say(1, "no lock tag: no name of a press at %zu\n", place);
+    size_t frame = row[FR_ROW_TAG_PLACE]; /* what the overlay draws: the whole feature, up to its value's end */
+    return say(0, "locked %.*s, signer %.4s, reference %.*s, frame at %zu length %zu\n", (int)n.count, name,
+               (const char *)text, (int)r.header.length, (const char *)text + 4, frame, place + size - frame);
 }
 
 /* Today by UTC; no date, which the writer refuses, where the clock has none. */
@@ -89,9 +92,10 @@ static int make(const char *name, const char *path) {
     fr_header header = {4, {'U', 'T', 'O'}, 5, day, day, 1, 2};
     fr_filled v = fr_c40_write((const uint8_t *)name, strlen(name), value, sizeof value);
     if (!is_name(v, name, strlen(name))) return wrong("a press's name is 1 to 12 upper-case letters and digits");
-    size_t row[3] = {PRESS, 0, v.count};
+    /* the value's place is 0, and the writer ignores the tag's */
+    size_t row[FR_ROW] = {[FR_ROW_TAG] = PRESS, [FR_ROW_VALUE_LENGTH] = v.count};
     /* the signature is still zeros */
-    fr_filled s = fr_write(header, text, 9, row, 3, value, v.count, signature, SIGNATURE, seal, sizeof seal);
+    fr_filled s = fr_write(header, text, 9, row, FR_ROW, value, v.count, signature, SIGNATURE, seal, sizeof seal);
     if (s.number != 0) {
         fprintf(stderr, "hall: refused %zu at %zu: %s\n", s.number, s.place, words_of(s.number));
         return 1;
@@ -101,7 +105,7 @@ static int make(const char *name, const char *path) {
     size_t taken = fread(signature, 1, sizeof signature, stdin);
     if (ferror(stdin)) return failed("standard input");
     if (taken != SIGNATURE) return wrong("the raw signature is not 64 bytes");
-    s = fr_write(header, text, 9, row, 3, value, v.count, signature, SIGNATURE, seal, sizeof seal);
+    s = fr_write(header, text, 9, row, FR_ROW, value, v.count, signature, SIGNATURE, seal, sizeof seal);
     FILE *file = fopen(path, "wb");
     if (!file) return failed(path);
     if (fwrite(seal, 1, s.count, file) != s.count || fflush(file) != 0 || fclose(file) != 0) return failed(path);

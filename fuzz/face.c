@@ -1,6 +1,7 @@
 /*
  * Fuzzing of the C face. The same bytes serve as a seal, as C40, as DER and as the arguments of a writing. Held to: no crash, no lent byte changed on a
- * refusal and none outside what is written, what is read writes back the same, and what is written reads back the same.
+ * refusal and none outside what is written, what is read writes back the same, and what is written reads back the same. The rows of a seal frame its
+ * features, one after another, and the places of the tags change nothing of a writing.
  *
  * The library is compiled code that the fuzzer cannot look into. So each buffer is lent against a page that must not be touched, before it or behind it,
  * and the fuzzer is told the number and place of each answer as its counters.
@@ -111,42 +112,92 @@ static void filled(enum call call, fr_filled f, size_t room) {
     MUST(f.count <= room && kept(OUT, f.count) && (f.number == 0 ? f.place == 0 : f.count == 0));
 }
 
-/* The seal that was read is written back as it was, in just its room and in no less. */
-static void write_back(fr_reading r, size_t size) {
-    const uint8_t *seal = rooms[SEAL].at, *text = rooms[TEXT].at;
-    const size_t *rows = (const size_t *)(const void *)rooms[TABLE].at;
-    size_t text_length = 4 + r.header.length;
-    uint8_t *out = (uint8_t *)lend(OUT, NULL, size - 1);
-    fr_filled f = fr_write(r.header, text, text_length, rows, 3 * r.count, seal, size, seal + r.signature.place, r.signature.length, out, size - 1);
-    filled(WRITE, f, size - 1);
-    MUST(f.number == 28);
-    out = (uint8_t *)lend(OUT, NULL, size);
-    f = fr_write(r.header, text, text_length, rows, 3 * r.count, seal, size, seal + r.signature.place, r.signature.length, out, size);
-    filled(WRITE, f, size);
-    MUST(f.number == 0 && f.count == size && memcmp(out, seal, size) == 0 && kept(SEAL, 0));
+/* What all bytes of the input choose: a fault, and numbers of any size, one after another. */
+static uint32_t choice;
+static uint64_t drawn;
+
+static void choose(const uint8_t *data, size_t size) {
+    choice = 2166136261u;
+    for (size_t i = 0; i < size; i++) choice = (choice ^ data[i]) * 16777619u;
+    drawn = choice;
 }
 
-/* With a number or a byte less than needed the answer is 12. */
-static void no_room(const uint8_t *seal, size_t size, size_t count, size_t length) {
-    size_t *table = (size_t *)lend(TABLE, NULL, 3 * count * sizeof(size_t));
-    uint8_t *text = (uint8_t *)lend(TEXT, NULL, 4 + length - 1);
-    fr_reading r = fr_read(seal, size, table, 3 * count, text, 4 + length - 1);
+static size_t any(void) {
+    drawn = drawn * 6364136223846793005u + 1442695040888963407u;
+    return (size_t)(drawn << 6) >> (drawn >> 58);
+}
+
+/* Lends the rows with other places of their tags. */
+static const size_t *with_other_places(const size_t *rows, size_t numbers) {
+    static size_t other[FR_TABLE_MOST];
+    if (numbers != 0) memcpy(other, rows, numbers * sizeof *rows);
+    for (size_t i = FR_ROW_TAG_PLACE; i < numbers; i += FR_ROW) other[i] = any();
+    return (const size_t *)lend(ROWS, other, numbers * sizeof *rows);
+}
+
+/* Writes the seal that was read, by these rows over its own bytes, in so much room. */
+static fr_filled rewrite(fr_reading r, size_t size, const size_t *rows, size_t room) {
+    const uint8_t *seal = rooms[SEAL].at;
+    uint8_t *out = (uint8_t *)lend(OUT, NULL, room);
+    fr_filled f = fr_write(r.header, rooms[TEXT].at, 4 + r.header.length, rows, FR_ROW * r.count, seal, size, seal + r.signature.place,
+                           r.signature.length, out, room);
+    filled(WRITE, f, room);
+    MUST(kept(SEAL, 0) && (f.number != 0 || (f.count == size && memcmp(out, seal, size) == 0)));
+    return f;
+}
+
+/* The seal that was read is written back as it was, in just its room and in no less, and with any places of the tags. */
+static void write_back(fr_reading r, size_t size) {
+    const size_t *rows = (const size_t *)(const void *)rooms[TABLE].at;
+    MUST(rewrite(r, size, rows, size - 1).number == 28);
+    MUST(rewrite(r, size, rows, size).number == 0);
+    MUST(rewrite(r, size, with_other_places(rows, FR_ROW * r.count), size).number == 0 && kept(ROWS, 0));
+}
+
+/* Reads into a table of so many numbers, and so much room for text. */
+static fr_reading read_into(const uint8_t *seal, size_t size, size_t numbers, size_t room) {
+    size_t *table = (size_t *)lend(TABLE, NULL, numbers * sizeof(size_t));
+    uint8_t *text = (uint8_t *)lend(TEXT, NULL, room);
+    return fr_read(seal, size, table, numbers, text, room);
+}
+
+static void too_short(const uint8_t *seal, size_t size, size_t numbers, size_t room) {
+    fr_reading r = read_into(seal, size, numbers, room);
     refused(r);
     MUST(r.number == 12 && r.place == 0);
+}
+
+/* With just the room, or one more, which is no whole row, the answer is the same; with one less, or a number less a feature, it is 12. */
+static void in_rooms(const uint8_t *seal, size_t size, fr_reading whole) {
+    size_t count = whole.count, numbers = FR_ROW * count, room = 4 + whole.header.length;
+    for (size_t more = 0; more < 2; more++)
+        MUST(same_reading(read_into(seal, size, numbers + more, room + more), whole) && kept(TABLE, numbers * sizeof(size_t)) && kept(TEXT, room));
+    too_short(seal, size, numbers, room - 1);
     if (count == 0) return;
-    table = (size_t *)lend(TABLE, NULL, (3 * count - 1) * sizeof(size_t));
-    text = (uint8_t *)lend(TEXT, NULL, 4 + length);
-    r = fr_read(seal, size, table, 3 * count - 1, text, 4 + length);
-    refused(r);
-    MUST(r.number == 12 && r.place == 0);
+    too_short(seal, size, numbers - 1, room);
+    too_short(seal, size, (FR_ROW - 1) * count, room);
+}
+
+/* The rows of a seal: features one after another from the header's end to FF, each of its tag, its length in just the bytes it takes, and its value. */
+static void framed(fr_reading r, const uint8_t *seal, const size_t *row) {
+    size_t at = r.ends.header, end = r.ends.message;
+    for (size_t i = 0; i < r.count; i++, row += FR_ROW) {
+        size_t size = row[FR_ROW_VALUE_LENGTH], width = r.header.version == 3 || size < 128 ? 1 : size < 256 ? 2 : 3;
+        MUST(at < end && row[FR_ROW_TAG_PLACE] == at && seal[at] == row[FR_ROW_TAG]);
+        MUST(end - at > width && row[FR_ROW_VALUE_PLACE] == at + 1 + width && size <= end - at - 1 - width);
+        at += 1 + width + size;
+    }
+    MUST(at == end && seal[at] == 0xFF);
 }
 
 static fr_reading read_whole(const void *bytes, size_t size) {
     const uint8_t *seal = (const uint8_t *)lend(SEAL, bytes, size);
-    size_t *table = (size_t *)lend(TABLE, NULL, FR_TABLE_MOST * sizeof(size_t));
-    uint8_t *text = (uint8_t *)lend(TEXT, NULL, FR_TEXT_MOST);
-    fr_reading r = fr_read(seal, size, table, FR_TABLE_MOST, text, FR_TEXT_MOST);
+    fr_reading r = read_into(seal, size, FR_TABLE_MOST, FR_TEXT_MOST);
     MUST(same_reading(r, fr_judge(seal, size)));
+    if (r.number != 0) return r;
+    MUST(r.place == 0 && r.ends.header <= r.ends.message && r.ends.message < r.signature.place && r.ends.seal == size);
+    MUST(r.signature.place + r.signature.length == size && kept(SEAL, 0) && r.count <= FR_FEATURES_MOST);
+    framed(r, seal, (const size_t *)(const void *)rooms[TABLE].at);
     return r;
 }
 
@@ -158,11 +209,9 @@ static void read_seal(const uint8_t *data, size_t size) {
         return;
     }
     seen(READ, 0, r.count);
-    MUST(r.place == 0 && r.ends.header <= r.ends.message && r.ends.message < r.signature.place && r.ends.seal == size);
-    MUST(r.signature.place + r.signature.length == size && kept(SEAL, 0));
-    MUST(kept(TABLE, 3 * r.count * sizeof(size_t)) && kept(TEXT, 4 + r.header.length));
+    MUST(kept(TABLE, FR_ROW * r.count * sizeof(size_t)) && kept(TEXT, 4 + r.header.length));
     write_back(r, size);
-    no_room(rooms[SEAL].at, size, r.count, r.header.length);
+    in_rooms(rooms[SEAL].at, size, r);
 }
 
 /* The input as a source of numbers; past its end all are 0. */
@@ -200,8 +249,9 @@ static fr_date take_date(void) {
 
 /* Arguments of a writing, in most cases legal ones. */
 static fr_header header;
+enum { ROWS_MOST = 16 };
 static uint8_t text[300], values[FR_SEAL_MOST], signature[200];
-static size_t rows[3 * 16], text_length, values_length, rows_length, signature_length;
+static size_t rows[FR_ROW * ROWS_MOST], text_length, values_length, rows_length, signature_length;
 
 static void take_header(void) {
     static const char letters[] = "ABCDEFGHIJKLMNOPQRSTUVWXYZ0123456789";
@@ -220,20 +270,24 @@ static void take_header(void) {
     if (rarely()) header.length = take(1);
 }
 
-/* Values, the input over and over; rows over them, and a signature. */
+/* A row over the values, its tag rarely over 254, its tag's place any number. */
+static void take_row(size_t *row, size_t i, size_t longest) {
+    row[FR_ROW_TAG] = rarely() ? take(8) : (take(1) + 17 * i) % 255;
+    row[FR_ROW_TAG_PLACE] = any();
+    row[FR_ROW_VALUE_PLACE] = most(values_length + 1);
+    size_t left = row[FR_ROW_VALUE_PLACE] < values_length ? values_length - row[FR_ROW_VALUE_PLACE] : 0;
+    row[FR_ROW_VALUE_LENGTH] = most((left < longest ? left : longest) + 1);
+}
+
+/* Values, the input over and over; rows over them, rarely with a part of one more, and a signature. */
 static void take_rows(const uint8_t *data, size_t size) {
     static const size_t sizes[] = {56, 64, 96, 128, 132};
-    size_t count = take(1) % 16, n = most(5), longest = take(1) % 2 == 0 ? FR_SEAL_MOST : 255;
+    size_t count = take(1) % ROWS_MOST, n = most(5), longest = take(1) % 2 == 0 ? FR_SEAL_MOST : 255;
     values_length = size == 0 ? 0 : take(2) % (FR_SEAL_MOST + 1);
     for (size_t i = 0; i < values_length; i++) values[i] = data[i % size];
-    for (size_t i = 0; i < count; i++) {
-        rows[3 * i] = rarely() ? take(8) : (take(1) + 17 * i) % 255;
-        rows[3 * i + 1] = most(values_length + 1);
-        size_t left = rows[3 * i + 1] < values_length ? values_length - rows[3 * i + 1] : 0;
-        rows[3 * i + 2] = most((left < longest ? left : longest) + 1);
-    }
-    rows_length = 3 * count + (rarely() ? 1 : 0);
-    if (rows_length > 3 * 16) rows_length = 3 * 16;
+    memset(rows, 0, sizeof rows);
+    for (size_t i = 0; i < count; i++) take_row(rows + FR_ROW * i, i, longest);
+    rows_length = FR_ROW * count + (rarely() ? take(1) % FR_ROW : 0);
     signature_length = n < 5 ? sizes[n] : n % 200;
     for (size_t i = 0; i < signature_length; i++) signature[i] = (uint8_t)take(1);
 }
@@ -243,22 +297,18 @@ static void read_back(size_t count) {
     fr_reading r = read_whole(rooms[OUT].at, count);
     const uint8_t *seal = rooms[SEAL].at;
     const size_t *table = (const size_t *)(const void *)rooms[TABLE].at;
-    MUST(r.number == 0 && same_header(r.header, header) && memcmp(rooms[TEXT].at, text, text_length) == 0 && r.count == rows_length / 3);
+    MUST(r.number == 0 && same_header(r.header, header) && memcmp(rooms[TEXT].at, text, text_length) == 0 && r.count == rows_length / FR_ROW);
     for (size_t i = 0; i < r.count; i++) {
-        const size_t *given = rows + 3 * i, *got = table + 3 * i;
-        MUST(got[0] == given[0] && got[2] == given[2] && got[1] + got[2] <= count && memcmp(seal + got[1], values + given[1], got[2]) == 0);
+        const size_t *given = rows + FR_ROW * i, *got = table + FR_ROW * i;
+        size_t size = got[FR_ROW_VALUE_LENGTH];
+        MUST(got[FR_ROW_TAG] == given[FR_ROW_TAG] && size == given[FR_ROW_VALUE_LENGTH]);
+        MUST(memcmp(seal + got[FR_ROW_VALUE_PLACE], values + given[FR_ROW_VALUE_PLACE], size) == 0);
     }
     MUST(r.signature.length == signature_length && memcmp(seal + r.signature.place, signature, signature_length) == 0);
 }
 
-/* A copy of `count` bytes with one fault that all bytes of the input choose: cut, a byte longer, or one bit changed. Gives its length. */
-static uint32_t choice;
+/* A copy of `count` bytes with the fault chosen: cut, a byte longer, or one bit changed. Gives its length. */
 static uint8_t damaged[SIZE + 1];
-
-static void choose(const uint8_t *data, size_t size) {
-    choice = 2166136261u;
-    for (size_t i = 0; i < size; i++) choice = (choice ^ data[i]) * 16777619u;
-}
 
 static size_t damage(const uint8_t *bytes, size_t count) {
     size_t at = count == 0 ? 0 : (choice >> 8) % count;
@@ -268,21 +318,32 @@ static size_t damage(const uint8_t *bytes, size_t count) {
     return choice % 8 == 0 ? at : choice % 8 == 1 ? count + 1 : count;
 }
 
-static void write_seal(const uint8_t *data, size_t size) {
-    next = data, rest = size;
-    take_header();
-    take_rows(data, size);
-    size_t room = rarely() ? take(2) % (SIZE + 1) : FR_SEAL_MOST;
+/* Writes by the arguments, with these rows, into OUT. */
+static fr_filled write_given(const size_t *given, size_t room) {
     const uint8_t *bytes = (const uint8_t *)lend(VALUES, values, values_length), *given_text = (const uint8_t *)lend(TEXT, text, text_length);
     const uint8_t *raw = (const uint8_t *)lend(SIGNATURE, signature, signature_length);
-    const size_t *given = (const size_t *)lend(ROWS, rows, rows_length * sizeof(size_t));
     uint8_t *out = (uint8_t *)lend(OUT, NULL, room);
     fr_filled f = fr_write(header, given_text, text_length, given, rows_length, bytes, values_length, raw, signature_length, out, room);
     filled(WRITE, f, room);
     MUST(kept(VALUES, 0) && kept(TEXT, 0) && kept(SIGNATURE, 0) && kept(ROWS, 0) && (f.number == 0 || (f.number >= 20 && f.number <= 28)));
+    return f;
+}
+
+/* Writes twice, the second time with other places of the tags: the same answer and bytes. */
+static void write_seal(const uint8_t *data, size_t size) {
+    static uint8_t first[SIZE];
+    next = data, rest = size;
+    take_header();
+    take_rows(data, size);
+    size_t room = rarely() ? take(2) % (SIZE + 1) : FR_SEAL_MOST;
+    fr_filled f = write_given((const size_t *)lend(ROWS, rows, rows_length * sizeof(size_t)), room);
+    MUST(rows_length % FR_ROW == 0 || (f.number >= 20 && f.number <= 24));
+    memcpy(first, rooms[OUT].low, SIZE);
+    fr_filled again = write_given(with_other_places(rows, rows_length), room);
+    MUST(again.number == f.number && again.count == f.count && memcmp(first, rooms[OUT].low, SIZE) == 0);
     if (f.number != 0) return;
     read_back(f.count);
-    size_t length = damage(out, f.count);
+    size_t length = damage(rooms[OUT].at, f.count);
     read_seal(damaged, length);
 }
 

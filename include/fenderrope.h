@@ -35,19 +35,26 @@ extern "C" {
 #endif
 
 /* The version of this header and its library. */
-#define FR_VERSION "0.4.0"
+#define FR_VERSION "0.5.0"
 
 /* Sizes that hold for every legal seal (document 01, "Sizes"). */
 #define FR_SEAL_MOST 4096      /* bytes of a seal */
 #define FR_TEXT_MOST 259       /* signer and reference: 4 + 255 characters */
 #define FR_FEATURES_MOST 255   /* features of a seal */
-#define FR_TABLE_MOST 765      /* numbers of a table: a row of three a feature */
+#define FR_TABLE_MOST 1020     /* numbers of a table: a row a feature */
 #define FR_SIGNATURE_MOST 132  /* bytes of a raw signature */
 #define FR_DER_MOST 141        /* bytes of a signature in DER */
 #define FR_C40_MOST 4096       /* bytes of C40 */
 #define FR_CHARACTERS_MOST 6144 /* characters of text in C40 */
 #define FR_INTEGER_MOST 10     /* bytes of a DER INTEGER */
-#define FR_WORDS_MOST 93       /* bytes of the longest words that fr_words gives */
+#define FR_WORDS_MOST 92       /* bytes of the longest words that fr_words gives */
+
+/* A row of a table: how many numbers it has, and which of them stands where. */
+#define FR_ROW 4               /* numbers of a row */
+#define FR_ROW_TAG 0           /* the tag */
+#define FR_ROW_TAG_PLACE 1     /* place of the tag in the seal: the feature begins there; fr_write ignores it */
+#define FR_ROW_VALUE_PLACE 2   /* place of the value in the seal, for fr_write in `values` */
+#define FR_ROW_VALUE_LENGTH 3  /* length of the value */
 
 /*
  * The numbers that a call answers, each with its words, which fr_words gives too. A number that is retired is not given
@@ -69,7 +76,7 @@ enum fr_number {
     FR_TAG_USED = 9,          /* tag already used */
     FR_SIGNATURE_LENGTH = 10, /* signature length is not 56, 64, 96, 128 or 132 */
     FR_BYTES_AFTER = 11,      /* bytes after the signature */
-    FR_READ_ROOM = 12,        /* seal good, but the lent table has under 3 numbers a feature, or the text room is under
+    FR_READ_ROOM = 12,        /* seal good, but the lent table has under 4 numbers a feature, or the text room is under
                                  4 + L */
 
     /* fr_write, in this order; fr_date_to_number gives 22 */
@@ -77,7 +84,7 @@ enum fr_number {
     FR_WRITE_NAMES = 21,      /* writer: country, signer or reference */
     FR_WRITE_DATE = 22,       /* writer: date */
     FR_WRITE_LAST_BYTES = 23, /* writer: definition reference or category */
-    FR_WRITE_ROWS = 24,       /* writer: table not in threes, tag over 254 or used twice, or a value outside the values
+    FR_WRITE_ROWS = 24,       /* writer: table not in fours, tag over 254 or used twice, or a value outside the values
                                  buffer */
     FR_WRITE_VALUE = 25,      /* writer: value over 255 bytes in version 3 */
     FR_WRITE_SIGNATURE = 26,  /* writer: signature length */
@@ -180,10 +187,14 @@ typedef struct fr_hashed {
 } fr_hashed;
 
 /*
- * Reads a seal: 0, or the first of 1 to 12 that holds. On 0 a row of three numbers for each feature stands in `table`,
- * in the seal's order: tag, place of the value in the seal, length of the value; and signer and reference stand in
- * `text`, 4 + header.length characters without an end mark. 12 asks for 3 * count numbers and 4 + header.length bytes,
- * which fr_judge gives of the same seal; FR_TABLE_MOST and FR_TEXT_MOST are enough for every seal.
+ * Reads a seal: 0, or the first of 1 to 12 that holds. On 0 a row of four numbers for each feature stands in `table`,
+ * in the seal's order: tag, place of the tag, place of the value, length of the value; and signer and reference stand
+ * in `text`, 4 + header.length characters without an end mark. 12 asks for 4 * count numbers and 4 + header.length
+ * bytes, which fr_judge gives of the same seal; FR_TABLE_MOST and FR_TEXT_MOST are enough for every seal.
+ *
+ * The whole feature, tag, length and value, is the part of the seal from its tag's place to its value's end. Features
+ * lie one after another: the first begins at ends.header, each other where the one before ends, and the last ends at
+ * ends.message.
  *
  * The place is the first byte of the item that was not read, and for 5 of its first C40 pair that is wrongly coded or
  * does not fit the number of characters, if it has one; for 1 it is 4,096, for 10 the first byte of the length, for 11
@@ -198,7 +209,8 @@ fr_reading fr_judge(const uint8_t *seal, size_t seal_length);
 /*
  * Writes a seal: 0, or the first of 20 to 28 that holds, with place 0. `text` is signer and reference, and
  * header.length must be text_length - 4, else 21; in version 3 it is 5. `rows` are rows as fr_read gives them, over
- * `values`; the seal's own bytes can be lent as `values` with the rows that fr_read gave.
+ * `values`; the second number of each, the tag's place, is ignored, whatever it is. The seal's own bytes can be lent
+ * as `values` with the rows that fr_read gave.
  */
 fr_filled fr_write(fr_header header, const uint8_t *text, size_t text_length,
                    const size_t *rows, size_t rows_length, const uint8_t *values, size_t values_length,

@@ -33,14 +33,15 @@ static size_t build(size_t version, const uint8_t *signature, size_t signature_l
     uint8_t values[400];
     fr_filled c40 = fr_c40_write((const uint8_t *)name, strlen(name), values, sizeof values);
     size_t more = version == 3 ? 255 : 300;
-    size_t rows[6] = {11, 0, c40.count, 12, c40.count, more};
+    size_t rows[2 * FR_ROW] = {11, 0, 0, c40.count, 12, 0, c40.count, more}; /* the places of the tags are ignored */
     fr_dated day = fr_date_from_number(11152026);
     fr_header header = {version, {'D', '<', '<'}, version == 3 ? 5 : 7, day.date, day.date, 1, 2};
     const char *text = version == 3 ? "UTAB00001" : "UTAB0000001";
     if (c40.number != 0) fail("name", c40.number);
     if (day.number != 0) fail("date", day.number);
     for (size_t i = 0; i < more; i++) values[c40.count + i] = (uint8_t)i;
-    fr_filled w = fr_write(header, (const uint8_t *)text, strlen(text), rows, 6, values, c40.count + more, signature, signature_length, out, room);
+    fr_filled w = fr_write(header, (const uint8_t *)text, strlen(text), rows, 2 * FR_ROW, values, c40.count + more,
+                           signature, signature_length, out, room);
     if (w.number != 0) fail("write", w.number);
     return w.count;
 }
@@ -71,8 +72,8 @@ static void open_seal(const char *path, const char *signed_path, const char *der
     if (r.number != 0) fail("read", r.number);
     fr_filled d = fr_signature_to_der(r.signature.length / 2, seal + r.signature.place, r.signature.length, der, sizeof der);
     if (d.number != 0) fail("signature to DER", d.number);
-    if (r.count != 2 || table[0] != 11) fail("features", r.count);
-    fr_filled c40 = fr_c40_read(seal + table[1], table[2], name, sizeof name);
+    if (r.count != 2 || table[FR_ROW_TAG] != 11 || table[FR_ROW_TAG_PLACE] != r.ends.header) fail("features", r.count);
+    fr_filled c40 = fr_c40_read(seal + table[FR_ROW_VALUE_PLACE], table[FR_ROW_VALUE_LENGTH], name, sizeof name);
     if (c40.number != 0) fail("name", c40.number);
     save(fopen(signed_path, "wb"), signed_path, seal, r.ends.message);
     save(fopen(der_path, "wb"), der_path, der, d.count);

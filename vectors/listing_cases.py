@@ -86,7 +86,8 @@ def listing(answer):
     days = ["{2:04}-{0:02}-{1:02}".format(*day) for day in (c.issued, c.signed)]
     lines = ["accepted", f"version {c.version}", f"country {c.country}", f"signer {c.text[:4]}", f"reference {c.text[4:]}",
              f"issued {days[0]}", f"signed {days[1]}", f"definition {c.definition}", f"category {c.category}",
-             *("feature {} at {} length {}".format(*row) for row in c.rows), "signature at {} length {}".format(*c.signature)]
+             *(f"feature {row.tag} at {row.value_place} length {row.value_length}" for row in c.rows),
+             "signature at {} length {}".format(*c.signature)]
     return "".join(line + "\n" for line in lines)
 
 

@@ -11,7 +11,7 @@ import re
 import seal_cases
 from c40_cases import PAIR_OF, S0, S1, S2, SYMBOLS, read as read_text
 from seal_cases import A, H, PAIRS_NOT_TEXT, PLAIN, SHORT_PAIRS, VERSIONS, enter
-from seals import BOTH, Dice, Seal, c40, ended, good, mixed, read, refused, wrong, wrong_pair
+from seals import BOTH, Dice, Seal, by_reference, c40, ended, good, mixed, refused, wrong, wrong_pair
 
 CHAPTERS = {}   # chapter: [(heading, cases)]
 family = functools.partial(enter, CHAPTERS)
@@ -172,7 +172,7 @@ def by_chance(dice):
 
 DICE = Dice(4641)
 family("several", "Seals by chance with one or two pairs of country, signer, L and reference replaced: by the reference.",
-       [(data, 21, 30, read(data, 21, 30)) for data in (by_chance(DICE) for _ in range(120))])
+       by_reference(by_chance(DICE) for _ in range(120)))
 
 
 # ---- Checks and output ----------------------------------------------------------------------

@@ -8,12 +8,14 @@ import functools
 import re
 
 from c40_cases import CHART, PAIR_OF, S0, S1, S2
-from seals import (Answer, MOST, SIZES, Seal, c40, cuts, ended, good, judge, mixed_cases, padded, read, refused, wrong,
-                   wrong_pair)
+from der_cases import length_bytes
+from seals import (Answer, MOST, MOST_LENT, ROW, SIZES, TABLE, Seal, c40, cuts, ended, good, judge, mixed_cases, padded, read,
+                   refused, wrong, wrong_pair)
 
 H = bytes.fromhex
 CHAPTERS = {}   # chapter: [(heading, cases)]
 VERSIONS = (3, 4)
+FILE = 64000    # bytes of a file of cases or of its answers, headings apart: the program's buffers have 65,536
 
 
 def enter(chapters, chapter, heading, *groups):
@@ -169,6 +171,23 @@ family("features", "The features end with the input: 2 at the tag that is missin
          for version in VERSIONS for seal in (PLAIN[version], BASES[version], LONGEST) for front in [seal.before("end")]),
        *(refused(2, 20, A.before("tag0") + bytes([11, size]) + b"\xFF" * (size - 1)) for size in (128, 129, 130, 132, 255)))
 
+# ---- Where features begin -------------------------------------------------------------------
+family("places", "Document 02, Ticket 10: the row of Seal A's feature is 10, 18, 20, 4. The first tag stands where the header "
+       "ends: version 3, and references of 1 to 255 characters.",
+       good(A, Seal(3, features=[(0, b""), VISA])),
+       good(*(Seal(4, reference=("7A0" * 85)[:size], features=[VISA, (0, b"")])
+              for size in (*range(1, 13), 31, 32, 99, 127, 128, 129, 250, 251, 252, 253, 254, 255))))
+family("places", "Each next tag stands where the value before it ends, after a length of one byte, of two and of three.",
+       good(*(Seal(version, features=[(1, b"\1" * size), (2, b""), (3, b"\3" * size)]) for version in VERSIONS
+              for size in (0, 1, 2, 126, 127, 128, 129, 254, 255))),
+       good(*(Seal(4, features=[(3, b"\1" * a), (2, b"\2" * b), (1, b"\3" * c), (0, b"")]) for a, b, c in (
+           (256, 0, 1), (0, 256, 127), (127, 128, 256), (257, 255, 128), (128, 1000, 0), (1000, 127, 1000)))))
+family("places", "Values that could be features, with the tags of those before and behind, and FF: no tag is sought in them.",
+       good(*(Seal(version, features=features) for version in VERSIONS for features in (
+           [(1, b"\2\1\7"), (2, b"\1\1\7"), (3, b"\3\0")], [(2, b"\2"), (1, b"\2\2\2"), (0, b"\0" * 5), (10, b"\x0A\x04")],
+           [(5, b"\xFF\x38"), (6, b"\xFF"), (254, b"\xFE\0\xFF")],
+           [(18, b"\x12" * 18), (20, b"\x14" * 20), (22, b"\x16" * 22)]))))
+
 # ---- DER lengths ----------------------------------------------------------------------------
 NOT_SHORTEST = [H(form) for form in (
     "8100 8101 8138 8140 8160 817F 820000 820001 820038 82007F 820080 820084 8200FF 83000000 83000038 8300007F 83000080 "
@@ -258,18 +277,28 @@ family("sizes", "Each number at its first place, after a header of 18 bytes: 5 a
 
 
 def with_rooms(seal, *rooms):
-    """A good seal with exact room, with more, also no multiple of three, and with one short of either: then 12."""
-    numbers, size = 3 * len(seal.content.rows), len(seal.content.text)
-    rooms = rooms or [(numbers + a, size + b) for a in (-3, -2, -1, 0, 1, 2) for b in (-1, 0, 1)] + [
-        (0, 0), (0, size), (numbers, 0), (800, 300), (800, size - 1), (numbers - 1, 300), (numbers // 2, size)]
+    """A good seal with exact room, with more, also no whole rows, with one short of either, and one short a feature: then
+    12."""
+    count, size = len(seal.content.rows), len(seal.content.text)
+    numbers, fewer = ROW * count, (ROW - 1) * count
+    rooms = rooms or [(numbers + a, size + b) for a in range(-ROW, ROW) for b in (-1, 0, 1)] + [
+        (0, 0), (0, size), (numbers, 0), (MOST_LENT, 300), (MOST_LENT, size - 1), (numbers - 1, 300), (numbers // 2, size),
+        (fewer, size), (fewer, 300), (fewer + 1, size)]
     return [(seal.data(), table, room, Answer(0, 0, seal.content) if table >= numbers and room >= size else Answer(12))
             for table, room in sorted({(a, b) for a, b in rooms if a >= 0})]
 
 
-family("rooms", "Room for the table, 3 numbers a feature, and for the text, 4 + L: exact, more, and short, which is 12.",
+family("rooms", "Room for the table, 4 numbers a feature, and for the text, 4 + L: exact, more, and short, which is 12.",
        *map(with_rooms, (*PLAIN.values(), A, B, Seal(4, reference="7"), LONGEST,
                          Seal(4, reference="0" * 255, features=[VISA, (1, b""), (2, b"\xFF")]))),
-       *(with_rooms(seal, (764, 9), (765, 8), (765, 9), (766, 10), (800, 300), (0, 9)) for seal in (MANY[3], DOWN[4])))
+       *(with_rooms(seal, (TABLE - 1, 9), (TABLE, 8), (TABLE, 9), (TABLE + 1, 10), (MOST_LENT, 300), (0, 9))
+         for seal in (MANY[3], DOWN[4])))
+family("threes", "Document 02, Ticket 10: 3 numbers a feature are 12. One to six features with every room from 3 a feature to "
+       "past 4 a feature, and 255 features with some of these.",
+       *(with_rooms(seal, *((table, 9) for table in range((ROW - 1) * count, ROW * count + 3))) for version in VERSIONS
+         for count in range(1, 7) for seal in [Seal(version, features=[(9 - k, b"\x0A" * k) for k in range(count)])]),
+       *(with_rooms(seal, *((table, 9) for table in (765, 766, 767, 768, TABLE - 3, TABLE - 2, TABLE - 1, TABLE)))
+         for seal in (MANY[4], DOWN[3])))
 family("rooms", "12 is last: with no room every other number is answered as it is with room.",
        [(data, 0, 0, answer) for seal in (A, B) for data, _, _, answer in (
            *refused(1, MOST, seal.data() + bytes(4096)), *refused(2, 0, b""), *wrong(3, seal, "mark", b"\0"),
@@ -301,8 +330,8 @@ def changed(seal):
         elif name == "size":
             answer = Answer(10 if b < 128 else 8, at)
         else:
-            answer = read(new, 9, 12)
-        yield new, 9, 12, answer
+            answer = read(new, 3 * ROW, 12)
+        yield new, 3 * ROW, 12, answer
 
 
 family("changed3", "Seal A with each byte changed to 00, 7F, 80 and FF: names, dates, tags and lengths by the reference.",
@@ -325,7 +354,7 @@ def case_line(data, table, room):
     line = f"s {table} {room}" + "".join(runs).upper()
     halves = [run.partition("*") for run in line.split()[3:]]
     assert b"".join(H(digits) * int(count or 1) for digits, _, count in halves) == data, line
-    assert len(data) < 8192 and table <= 800 and room <= 300, line     # what the program has room for
+    assert len(data) < 8192 and table <= MOST_LENT and room <= 300, line     # what the program has room for
     return line
 
 
@@ -355,17 +384,49 @@ def check_reference():
         seal = Seal(4, reference=reference)
         assert seal.parts["names"] + seal.parts["reference"] == H(form)
     assert Seal(3, country="D<<").parts["country"] == H("6ABC") and len(PLAIN[3].data()) == 76 and LONGEST.at("end") == 186
+    assert ROW == 4 and A.content.rows == [(10, 18, 20, 4)], "document 02, Ticket 10"
+    assert B.content.rows == [(10, 22, 24, 4), (0, 28, 30, 0), (254, 30, 32, 3)]
+
+
+def check_places(data, content):
+    """The features lie one after another from the header's end to FF, each from its tag to its value's end as published."""
+    place = content.ends[0]
+    for tag, tag_place, value_place, size in content.rows:
+        form = bytes([tag]) + (bytes([size]) if content.version == 3 else length_bytes(size))
+        assert tag_place == place and data[place:].startswith(form) and value_place == place + len(form), (data.hex(), place)
+        place = value_place + size
+    assert place == content.ends[1] and data[place] == 0xFF, (data.hex(), place)
+
+
+def in_files(chapter, entries):
+    """Entries (heading, line of a case, its answer) as files: name, lines, answers. They have the chapter's name, and where
+    one has not room for all, its name and 1, 2 and so on."""
+    files, sizes = [], (FILE, FILE)
+    for heading, line, answer in entries:
+        sizes = sizes[0] + len(line) + 1, sizes[1] + len(answer) + 1
+        if max(sizes) > FILE:
+            files.append(([], []))
+            sizes, shown = (len(line) + 1, len(answer) + 1), None
+        lines, answers = files[-1]
+        lines += [line] if heading == shown else ["# " + heading, line]
+        answers.append(answer)
+        shown = heading
+    names = [chapter] if len(files) == 1 else [f"{chapter}{k + 1}" for k in range(len(files))]
+    return [(name, *file) for name, file in zip(names, files)]
+
+
+def checked(families):
+    """The entries of a chapter. The reference must agree with each answer."""
+    for heading, cases in families:
+        for data, table, room, answer in cases:
+            assert read(data, table, room) == answer, (heading, data.hex(), answer, read(data, table, room))
+            if answer.number == 0:
+                check_places(data, answer.content)
+            yield heading, case_line(data, table, room), answer_line(data, answer)
 
 
 def chapters(of=CHAPTERS):
-    """Each chapter: its name, the lines of its cases, and of their answers."""
+    """Each file of a chapter: its name, the lines of its cases, and of their answers."""
     check_reference()
     for chapter, families in of.items():
-        lines, replies = [], []
-        for heading, cases in families:
-            lines.append("# " + heading)
-            for data, table, room, answer in cases:
-                assert read(data, table, room) == answer, (heading, data.hex(), answer, read(data, table, room))
-                lines.append(case_line(data, table, room))
-                replies.append(answer_line(data, answer))
-        yield chapter, lines, replies
+        yield from in_files(chapter, checked(families))

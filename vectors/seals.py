@@ -21,7 +21,13 @@ SIGNER = "[A-Z]{2}[A-Z0-9]{2}"
 COUNTRY = "[A-Z]{3}|[A-Z]{2} |[A-Z] {2}"
 CUT = "cut"
 
-# What a reader reports of a good seal. `text` is signer and reference, a row is (tag, value place, value length).
+# A feature's row in a table: the numbers that it has, in their order (document 02, Ticket 10), and how many they are.
+Row = collections.namedtuple("Row", "tag tag_place value_place value_length")
+ROW = len(Row._fields)
+TABLE = 255 * ROW            # numbers enough for the rows of every seal
+MOST_LENT = TABLE + 35       # the most numbers that the program has room for
+
+# What a reader reports of a good seal. `text` is signer and reference.
 Content = collections.namedtuple("Content", "country version text issued signed definition category ends signature rows")
 Answer = collections.namedtuple("Answer", "number place content", defaults=(0, None))
 
@@ -133,20 +139,20 @@ def judge(seal):
     said = {name: value for name, _, value in items}
     places = {name: place for name, place, _ in items}      # of "tag" the last, which is FF
     names = said["names"] if said["version"] == 3 else said["names"][:4] + said["reference"]
-    tags = [value for name, _, value in items if name == "tag"][:-1]
+    tags = [(value, place) for name, place, value in items if name == "tag"][:-1]
     values = [(place, len(value)) for name, place, value in items if name == "value"]
     return Answer(0, 0, Content(
         said["country"].replace(" ", "<"), said["version"], names, said["issued"], said["signed"],
         said["definition"], said["category"],
         (next(place for name, place, _ in items if name == "tag"), places["tag"], len(seal)),
-        (places["raw"], len(said["raw"])), [(tag, *value) for tag, value in zip(tags, values)]))
+        (places["raw"], len(said["raw"])), [Row(*tag, *value) for tag, value in zip(tags, values)]))
 
 
 def read(seal, table, room):
     """The answer with so many numbers of table and so much room for text."""
     answer = judge(seal)
     good = answer.number == 0
-    short = good and (table < 3 * len(answer.content.rows) or room < len(answer.content.text))
+    short = good and (table < ROW * len(answer.content.rows) or room < len(answer.content.text))
     return Answer(12) if short else answer
 
 
@@ -184,7 +190,7 @@ class Seal:
         self.content = Content(
             country, version, signer + reference, issued, signed, definition, category,
             (self.at(first), self.at("end"), len(self.data())), (self.at("raw"), len(raw)),
-            [(tag, self.at(f"value{k}"), len(value)) for k, (tag, value) in enumerate(features)])
+            [Row(tag, self.at(f"tag{k}"), self.at(f"value{k}"), len(value)) for k, (tag, value) in enumerate(features)])
 
     def data(self):
         return b"".join(self.parts.values())
@@ -209,12 +215,17 @@ class Seal:
 # ---- Cases of such seals: (bytes, table room, text room, answer) -----------------------------
 def good(*seals):
     """Good seals, with exactly enough room."""
-    return [(seal.data(), 3 * len(seal.content.rows), len(seal.content.text), Answer(0, 0, seal.content))
+    return [(seal.data(), ROW * len(seal.content.rows), len(seal.content.text), Answer(0, 0, seal.content))
             for seal in seals]
 
 
 def refused(number, place, *inputs):
-    return [(data, 9, 9, Answer(number, place)) for data in inputs]
+    return [(data, 3 * ROW, 9, Answer(number, place)) for data in inputs]
+
+
+def by_reference(inputs):
+    """Inputs with room for seven rows and a reference of 26 characters: the reference alone answers."""
+    return [(data, 7 * ROW, 30, read(data, 7 * ROW, 30)) for data in inputs]
 
 
 def wrong(number, seal, name, *forms):
@@ -305,4 +316,4 @@ def mixed_cases(state, count):
     seals = [mixed(dice) for _ in range(count)]
     edits = [edited(dice, seal.data()) for seal in seals for _ in range(8)]
     late = [wrong(6, seal, ("issued", "signed")[dice.below(2)], code(*nearly_by_chance(dice))) for seal in seals]
-    return good(*seals), [(data, 21, 30, read(data, 21, 30)) for data in edits], [case for cases in late for case in cases]
+    return good(*seals), by_reference(edits), [case for cases in late for case in cases]

@@ -7,36 +7,58 @@ import collections
 import re
 
 from der_cases import number_of
-from seals import MOST, SIZES, Seal, judge
+from seals import MOST, MOST_LENT, ROW, SIZES, Row, Seal, judge
 
 TOP = 2 ** 64 - 1
 ROOM = 4200                  # more than any seal takes
 
-# What a call is given. Rows are plain numbers, three for each feature.
+# What a call is given. Rows are plain numbers, those of a row for each feature.
 FIELDS = "version country length issued signed definition category text rows values signature room"
 Given = collections.namedtuple("Given", FIELDS)
+
+
+# ---- Rows over values -----------------------------------------------------------------------
+def row(tag, value_place, value_length, tag_place=TOP):
+    """The numbers of a row. The writer ignores the tag's place, so one that no seal has stands there where no other is asked
+    for."""
+    return [*Row(tag, tag_place, value_place, value_length)]
+
+
+def table(*rows):
+    """The numbers of rows of (tag, value place, value length)."""
+    return [number for given in rows for number in row(*given)]
+
+
+def rows_of(numbers):
+    """The whole rows of a table's numbers."""
+    return [Row(*numbers[k:k + ROW]) for k in range(0, len(numbers) - ROW + 1, ROW)]
+
+
+def features_of(given):
+    """The features that the rows say: (tag, value)."""
+    return [(row.tag, given.values[row.value_place:row.value_place + row.value_length]) for row in rows_of(given.rows)]
 
 
 # ---- The reference --------------------------------------------------------------------------
 def seal_of(given):
     """The seal of what is given, when all but its size is good."""
     g, text = given, given.text.decode("ascii")
-    features = [(tag, g.values[place:place + size]) for tag, place, size in zip(g.rows[::3], g.rows[1::3], g.rows[2::3])]
     return Seal(g.version, g.country.decode("ascii"), text[:4], text[4:], g.issued, g.signed, g.definition, g.category,
-                features, g.signature).data()
+                features_of(g), g.signature).data()
 
 
 def judged(given):
     """The numbers of document 01 in order, each with whether what is given is good for it."""
-    g, tags = given, given.rows[::3]
+    g, rows = given, rows_of(given.rows)
+    tags = {row.tag for row in rows}
     yield 20, g.version in (3, 4)
     yield 21, (re.fullmatch(rb"[A-Z]{3}|[A-Z]{2}<|[A-Z]<<", g.country) and g.length == len(g.text) - 4
                and re.fullmatch(rb"[A-Z]{2}[A-Z0-9]{2}[A-Z0-9]" + (b"{5}" if g.version == 3 else b"{1,255}"), g.text))
     yield 22, number_of(g.issued) and number_of(g.signed)
     yield 23, {g.definition, g.category} <= set(range(1, 255))
-    yield 24, (len(g.rows) % 3 == 0 and set(tags) <= set(range(255)) and len(set(tags)) == len(tags)
-               and all(place + size <= len(g.values) for place, size in zip(g.rows[1::3], g.rows[2::3])))
-    yield 25, g.version == 4 or all(size <= 255 for size in g.rows[2::3])
+    yield 24, (len(g.rows) % ROW == 0 and tags <= set(range(255)) and len(tags) == len(rows)
+               and all(row.value_place + row.value_length <= len(g.values) for row in rows))
+    yield 25, g.version == 4 or all(row.value_length <= 255 for row in rows)
     yield 26, len(g.signature) in SIZES
     yield 27, len(seal_of(g)) <= MOST
     yield 28, len(seal_of(g)) <= g.room
@@ -49,12 +71,13 @@ def write(given):
 
 # ---- Cases: (given, number or seal) ---------------------------------------------------------
 def given_of(seal, order=None, gap=b""):
-    """What a seal was put together from. The values stand in the order asked for, with a gap before each."""
+    """What a seal was put together from, with the tags' places in it. The values stand in the order asked for, with a gap
+    before each."""
     c, values, places = seal.content, b"", {}
     for k in order or range(len(c.rows)):
         places[k] = len(values + gap)
         values += gap + seal.parts[f"value{k}"]
-    rows = [number for k, (tag, _, size) in enumerate(c.rows) for number in (tag, places[k], size)]
+    rows = [number for k, row in enumerate(c.rows) for number in row._replace(value_place=places[k])]
     return Given(c.version, c.country.encode(), len(c.text) - 4, c.issued, c.signed, c.definition, c.category,
                  c.text.encode(), rows, values, seal.parts["raw"], ROOM)
 
@@ -71,6 +94,12 @@ def wrong(number, base, name, *forms):
 def with_text(base, text):
     """What is given with other text and its L, which for less than four bytes is counted down from 2 to the 64."""
     return base._replace(text=text, length=len(text) - 4 & TOP)
+
+
+def with_places(base, places):
+    """What is given with other second numbers in some rows: {number of the row: place of the tag}."""
+    rows = [row._replace(tag_place=places.get(k, row.tag_place)) for k, row in enumerate(rows_of(base.rows))]
+    return base._replace(rows=[number for row in rows for number in row])
 
 
 def put_in(data, at, b):
@@ -92,7 +121,7 @@ def words(numbers):
 
 def case_line(g):
     # what the program has room for
-    assert len(g.country) == 3 and len(g.text) < 400 and len(g.rows) < 800 and g.room <= 7000
+    assert len(g.country) == 3 and len(g.text) < 400 and len(g.rows) < MOST_LENT and g.room <= 7000
     assert len(g.values) < 8192 and len(g.signature) < 8192
     header = words((g.version, g.length, *g.issued, *g.signed, g.definition, g.category))
     parts = f"c{runs(g.country)} t{runs(g.text)} r{words(g.rows)} v{runs(g.values)} g{runs(g.signature)}"
@@ -103,10 +132,9 @@ def check(given, answer, heading):
     """The reference answers the same, and a seal reads as what was given."""
     assert write(given) == answer, (heading, given, answer, write(given))
     if not isinstance(answer, int):
-        read = judge(answer)
-        values = [answer[place:place + size] for _, place, size in read.content.rows] if read.number == 0 else None
-        c, rows = read.content, given.rows
-        assert values == [given.values[p:p + n] for p, n in zip(rows[1::3], rows[2::3])], heading
-        assert (c.version, c.country, c.text, c.issued, c.signed, c.definition, c.category, [row[0] for row in c.rows]) == (
+        c = judge(answer).content
+        features = [(row.tag, answer[row.value_place:row.value_place + row.value_length]) for row in c.rows] if c else None
+        assert features == features_of(given), heading
+        assert (c.version, c.country, c.text, c.issued, c.signed, c.definition, c.category) == (
             given.version, given.country.decode(), given.text.decode(), given.issued, given.signed, given.definition,
-            given.category, rows[::3]), heading
+            given.category), heading

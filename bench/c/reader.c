@@ -133,9 +133,11 @@ static void put_rows(cursor at, const uint8_t *s, size_t n, size_t version, size
         if (tag.kind != READ) return;
         item length = feature_length(tag.next, s, n, version);
         if (length.kind != READ) return;
-        table[3 * i] = tag.value;
-        table[3 * i + 1] = length.next.place;
-        table[3 * i + 2] = length.value;
+        size_t *row = table + FR_ROW * i;
+        row[FR_ROW_TAG] = tag.value;
+        row[FR_ROW_TAG_PLACE] = at.place;
+        row[FR_ROW_VALUE_PLACE] = length.next.place;
+        row[FR_ROW_VALUE_LENGTH] = length.value;
         at.place = length.next.place + length.value;
     }
 }
@@ -193,7 +195,7 @@ fr_reading c_read(const uint8_t *s, size_t n, size_t *table, size_t numbers, uin
     uint8_t names[259] = {0};
     fr_reading a = judge(s, n, names);
     if (a.number) return a;
-    if (numbers < 3 * a.count || room < 4 + a.header.length) return refuse((refusal){12, 0});
+    if (numbers < FR_ROW * a.count || room < 4 + a.header.length) return refuse((refusal){12, 0});
     put_rows((cursor){a.ends.header}, s, n, a.header.version, a.count, table);
     copy(names, 4 + a.header.length, text);
     return a;

@@ -23,20 +23,20 @@ static int is_last(size_t x) { return x >= 1 && x <= 254; }
 
 static int are_rows(const size_t *rows, size_t n, size_t size) {
     uint8_t used[255] = {0};
-    if (n % 3) return 0;
-    for (size_t i = 0; i < n; i += 3) {
-        size_t tag = rows[i];
+    if (n % FR_ROW) return 0;
+    for (size_t i = 0; i < n; i += FR_ROW) {
+        size_t tag = rows[i + FR_ROW_TAG], place = rows[i + FR_ROW_VALUE_PLACE];
         if (tag > 254 || used[tag]) return 0;
         used[tag] = 1;
-        if (rows[i + 1] > size || rows[i + 2] > size - rows[i + 1]) return 0;
+        if (place > size || rows[i + FR_ROW_VALUE_LENGTH] > size - place) return 0;
     }
     return 1;
 }
 
 static int are_values(size_t version, const size_t *rows, size_t n) {
     if (version != 3) return 1;
-    for (size_t i = 0; i < n; i += 3)
-        if (rows[i + 2] > 255) return 0;
+    for (size_t i = 0; i < n; i += FR_ROW)
+        if (rows[i + FR_ROW_VALUE_LENGTH] > 255) return 0;
     return 1;
 }
 
@@ -48,8 +48,8 @@ static size_t width_of(size_t version, size_t size) { return version == 3 || siz
 static size_t seal_size(const fr_header *h, size_t characters, const size_t *rows, size_t n, size_t raw) {
     size_t names = h->version == 3 ? 6 : (characters + 4) / 3 * 2;
     size_t total = 12 + names + 1 + width_of(4, raw) + raw;
-    for (size_t i = 0; i < n; i += 3) {
-        size_t size = rows[i + 2];
+    for (size_t i = 0; i < n; i += FR_ROW) {
+        size_t size = rows[i + FR_ROW_VALUE_LENGTH];
         if (size > 4096) return 4097;
         total += 1 + width_of(h->version, size) + size;
         if (total > 4096) return 4097;
@@ -125,7 +125,8 @@ static void put_seal(const fr_header *h, const uint8_t *text, size_t characters,
     at = put_date(out, at, h->signed_on);
     out[at++] = (uint8_t)h->definition;
     out[at++] = (uint8_t)h->category;
-    for (size_t i = 0; i < numbers; i += 3) at = put_feature(out, at, h->version, rows[i], values + rows[i + 1], rows[i + 2]);
+    for (size_t i = 0; i < numbers; i += FR_ROW)
+        at = put_feature(out, at, h->version, rows[i + FR_ROW_TAG], values + rows[i + FR_ROW_VALUE_PLACE], rows[i + FR_ROW_VALUE_LENGTH]);
     put_feature(out, at, 4, 0xFF, signature, raw);
 }
 

@@ -86,6 +86,28 @@ pub struct Hashed {
     pub bits: usize,
 }
 
+/// A row of a table: a feature's tag and the tag's place, its value's place and length.
+pub struct Row {
+    pub tag: usize,
+    pub tag_place: usize,
+    pub value_place: usize,
+    pub value_length: usize,
+}
+
+/// How many numbers a row has.
+pub const ROW: usize = 4;
+
+impl Row {
+    pub fn numbers(&self) -> [usize; ROW] {
+        [self.tag, self.tag_place, self.value_place, self.value_length]
+    }
+
+    /// The whole rows of a table.
+    pub fn all(table: &[usize]) -> impl Iterator<Item = Row> + '_ {
+        table.chunks_exact(ROW).map(|n| Row { tag: n[0], tag_place: n[1], value_place: n[2], value_length: n[3] })
+    }
+}
+
 /// Why a call is refused, and where.
 pub struct Refusal {
     pub number: usize,

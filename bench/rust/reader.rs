@@ -1,6 +1,6 @@
 //! The reader: item by item from the left, an item that is not read ends the reading; once all is judged a second walk writes the rows.
 use crate::der;
-use crate::face::{refusal, Date, Ends, Header, Part, Reading, Refusal};
+use crate::face::{refusal, Date, Ends, Header, Part, Reading, Refusal, Row, ROW};
 use crate::text;
 
 /// A place in the seal, moved past each item that is read.
@@ -8,13 +8,6 @@ use crate::text;
 struct Cursor<'a> {
     seal: &'a [u8],
     place: usize,
-}
-
-/// A feature: its tag, and its value's place and length.
-struct Feature {
-    tag: u8,
-    place: usize,
-    length: usize,
 }
 
 fn is_signer(t: &[u8]) -> bool {
@@ -138,12 +131,12 @@ impl<'a> Cursor<'a> {
         }
     }
 
-    /// The length and value of the feature whose tag was read.
-    fn feature(&mut self, version: usize, tag: u8) -> Result<Feature, Refusal> {
+    /// The length and value of the feature whose tag was read: the value's place and length.
+    fn value(&mut self, version: usize) -> Result<Part, Refusal> {
         let length = if version == 3 { self.byte()?.into() } else { self.der_length()? };
         let place = self.place;
         self.bytes(length)?;
-        Ok(Feature { tag, place, length })
+        Ok(Part { place, length })
     }
 
     /// How many features there are; ends at FF.
@@ -160,7 +153,7 @@ impl<'a> Cursor<'a> {
             if tags[..count].contains(&tag) {
                 return Err(start.refusal(9));
             }
-            self.feature(version, tag)?;
+            self.value(version)?;
             tags[count] = tag;
             count += 1;
         }
@@ -218,10 +211,12 @@ fn judge_names(seal: &[u8], names: &mut [u8; 259]) -> Result<Reading, Refusal> {
 
 fn put_rows(reading: &Reading, seal: &[u8], table: &mut [usize]) -> Result<(), Refusal> {
     let mut at = Cursor { seal, place: reading.ends.header };
-    for row in table.chunks_exact_mut(3) {
-        let tag = at.byte()?;
-        let feature = at.feature(reading.header.version, tag)?;
-        row.copy_from_slice(&[feature.tag.into(), feature.place, feature.length]);
+    for numbers in table.chunks_exact_mut(ROW) {
+        let tag_place = at.place;
+        let tag = at.byte()?.into();
+        let value = at.value(reading.header.version)?;
+        let row = Row { tag, tag_place, value_place: value.place, value_length: value.length };
+        numbers.copy_from_slice(&row.numbers());
     }
     Ok(())
 }
@@ -234,7 +229,7 @@ fn try_read(seal: &[u8], table: &mut [usize], text: &mut [u8]) -> Result<Reading
     let mut names = [0; 259];
     let reading = judge_names(seal, &mut names)?;
     let size = 4 + reading.header.length;
-    let table = table.get_mut(..3 * reading.count).ok_or(refusal(12))?;
+    let table = table.get_mut(..ROW * reading.count).ok_or(refusal(12))?;
     let text = text.get_mut(..size).ok_or(refusal(12))?;
     put_rows(&reading, seal, table)?;
     text.copy_from_slice(&names[..size]);

@@ -1,5 +1,5 @@
 //! The writer: all is judged and the size summed up before the first byte is written; then the parts are put down one after another.
-use crate::face::{refusal, Date, Header, Refusal};
+use crate::face::{refusal, Date, Header, Refusal, Row, ROW};
 use crate::text;
 
 fn is_letter_or_digit(c: &u8) -> bool {
@@ -35,11 +35,10 @@ fn is_last(x: usize) -> bool {
 
 fn are_rows(rows: &[usize], size: usize) -> bool {
     let mut used = [false; 255];
-    rows.len() % 3 == 0
-        && rows.chunks_exact(3).all(|row| {
-            let (tag, place, length) = (row[0], row[1], row[2]);
-            let free = used.get_mut(tag).is_some_and(|used| !std::mem::replace(used, true));
-            free && place <= size && length <= size - place
+    rows.len() % ROW == 0
+        && Row::all(rows).all(|row| {
+            let free = used.get_mut(row.tag).is_some_and(|used| !std::mem::replace(used, true));
+            free && row.value_place <= size && row.value_length <= size - row.value_place
         })
 }
 
@@ -63,8 +62,8 @@ fn names_size(version: usize, characters: usize) -> usize {
 /// The size of the seal, unless it passes 4,096.
 fn seal_size(header: &Header, characters: usize, rows: &[usize], raw: usize) -> Option<usize> {
     let mut total = 12 + names_size(header.version, characters) + 1 + width_of(4, raw) + raw;
-    for row in rows.chunks_exact(3) {
-        let size = row[2];
+    for row in Row::all(rows) {
+        let size = row.value_length;
         if size > 4096 {
             return None;
         }
@@ -146,7 +145,7 @@ pub fn write(
     if !are_rows(rows, values.len()) {
         return Err(refusal(24));
     }
-    if version == 3 && rows.chunks_exact(3).any(|row| row[2] > 255) {
+    if version == 3 && Row::all(rows).any(|row| row.value_length > 255) {
         return Err(refusal(25));
     }
     if !matches!(signature.len(), 56 | 64 | 96 | 128 | 132) {
@@ -160,8 +159,8 @@ pub fn write(
     out.put_date(&header.issued_on);
     out.put_date(&header.signed_on);
     out.put(&[header.definition as u8, header.category as u8]);
-    for row in rows.chunks_exact(3) {
-        out.put_feature(version, row[0], &values[row[1]..][..row[2]]);
+    for row in Row::all(rows) {
+        out.put_feature(version, row.tag, &values[row.value_place..][..row.value_length]);
     }
     out.put_feature(4, 0xFF, signature);
     Ok(total)

@@ -20,8 +20,11 @@ int main(void) {
     test_names();
     test_pairs();
     test_lengths();
+    test_places();
     test_writer_header();
     test_writer_rows();
+    test_tables();
+    test_tag_places();
     test_c40();
     test_c40_pairs();
     test_dates();

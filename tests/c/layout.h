@@ -85,9 +85,17 @@ fr_filled (*call_signature_to_raw)(size_t, bytes_in, size_t, uint8_t *, size_t) 
 fr_hashed (*call_hash)(size_t) = fr_hash;
 fr_filled (*call_words)(size_t, uint8_t *, size_t) = fr_words;
 
-/* The numbers by name, in the order of document 01. */
 #define NUMBER(name, number) static_assert(name == (number), #name)
 
+/* A row: its numbers in the order of document 02, Ticket 10; and the table that has room for the rows of every seal. */
+NUMBER(FR_ROW, 4);
+NUMBER(FR_ROW_TAG, 0);
+NUMBER(FR_ROW_TAG_PLACE, 1);
+NUMBER(FR_ROW_VALUE_PLACE, 2);
+NUMBER(FR_ROW_VALUE_LENGTH, 3);
+NUMBER(FR_TABLE_MOST, FR_ROW * FR_FEATURES_MOST);
+
+/* The numbers by name, in the order of document 01. */
 NUMBER(FR_DONE, 0);
 NUMBER(FR_TOO_LONG, 1);
 NUMBER(FR_CUT, 2);

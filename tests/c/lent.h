@@ -77,6 +77,15 @@ static int refuses(const uint8_t *seal, size_t length, size_t number, size_t pla
         && kept(0, 0);
 }
 
+/* The numbers of a row, in their order. */
+#define ROW(tag, tag_place, value_place, value_length) tag, tag_place, value_place, value_length
+
+/* Whether row `i` of the lent table is this one. */
+static int is_row(size_t i, size_t tag, size_t tag_place, size_t value_place, size_t value_length) {
+    const size_t row[FR_ROW] = {ROW(tag, tag_place, value_place, value_length)};
+    return memcmp(table + FR_ROW * i, row, sizeof row) == 0;
+}
+
 /* Seal A of document 01. */
 enum { SEAL_A = 82 };
 static uint8_t seal_a[SEAL_A];

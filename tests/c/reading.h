@@ -1,24 +1,27 @@
-/* Reading: Seal A, cut and damaged seals, room, names and lengths. */
+/* Reading: Seal A, cut and damaged seals, room, names, lengths and the places of features. */
 #include "lent.h"
+#include "made.h"
 
 /* Seal A read: every field, the row and the text; and written back with the seal's own bytes as values. */
 static void test_seal_a(void) {
-    size_t rows[3];
+    const uint8_t *raw;
+    size_t rows[FR_ROW];
     uint8_t text[9];
     fr_reading r;
     CHECK(is_reading_a(fr_judge(seal_a, SEAL_A)));
     fresh();
     r = fr_read(seal_a, SEAL_A, table, FR_TABLE_MOST, lent, FR_TEXT_MOST);
     CHECK(is_reading_a(r));
-    CHECK(table[0] == 10 && table[1] == 20 && table[2] == 4);
+    CHECK(is_row(0, 10, 18, 20, 4) && one_after_another(seal_a, r));
     CHECK(memcmp(lent, "UTAB00001", 9) == 0);
-    CHECK(kept(9, 3));
+    CHECK(kept(9, FR_ROW));
     memcpy(rows, table, sizeof rows);
     memcpy(text, lent, sizeof text);
+    raw = seal_a + r.signature.place;
     fresh();
-    CHECK(done(fr_write(r.header, text, 9, rows, 3, seal_a, SEAL_A, seal_a + r.signature.place, r.signature.length, lent, SEAL_A), seal_a, SEAL_A));
+    CHECK(done(fr_write(r.header, text, 9, rows, FR_ROW, seal_a, SEAL_A, raw, r.signature.length, lent, SEAL_A), seal_a, SEAL_A));
     fresh();
-    CHECK(refused(fr_write(r.header, text, 9, rows, 3, seal_a, SEAL_A, seal_a + r.signature.place, r.signature.length, lent, SEAL_A - 1), 28, 0));
+    CHECK(refused(fr_write(r.header, text, 9, rows, FR_ROW, seal_a, SEAL_A, raw, r.signature.length, lent, SEAL_A - 1), 28, 0));
 }
 
 /* Seal A cut anywhere: 2 at the first byte of the item that is cut. */
@@ -84,13 +87,18 @@ static void test_days(void) {
     CHECK(takes_date("\x22\xF8\xBC", 0) && takes_date("\x23\x20\x05", 0));
 }
 
-/* 12 comes with too little room of either kind, and nothing is written into the other. */
+/* 12 comes with too little room of either kind, and nothing is written into the other. A table need not be in whole rows. */
 static void test_room(void) {
+    size_t numbers;
     fresh();
-    CHECK(unread(fr_read(seal_a, SEAL_A, table, 2, lent, FR_TEXT_MOST), 12, 0) && kept(0, 0));
+    for (numbers = 0; numbers < FR_ROW; numbers++)
+        CHECK(unread(fr_read(seal_a, SEAL_A, table, numbers, lent, FR_TEXT_MOST), 12, 0) && kept(0, 0));
     CHECK(unread(fr_read(seal_a, SEAL_A, table, FR_TABLE_MOST, lent, 8), 12, 0) && kept(0, 0));
     CHECK(unread(fr_read(seal_a, SEAL_A, NULL, 0, NULL, 0), 12, 0) && kept(0, 0));
-    CHECK(is_reading_a(fr_read(seal_a, SEAL_A, table, 3, lent, 9)) && kept(9, 3));
+    for (numbers = FR_ROW; numbers <= 3 * FR_ROW; numbers++) {
+        fresh();
+        CHECK(is_reading_a(fr_read(seal_a, SEAL_A, table, numbers, lent, 9)) && kept(9, FR_ROW));
+    }
 }
 
 /* Dates, definition reference and category of header_of. */
@@ -188,16 +196,8 @@ static void test_pairs(void) {
 
 /* A seal with one feature whose length is `form` and whose value is `size` bytes FF, which are no mark. */
 static fr_reading with_feature(size_t version, const char *form, size_t form_size, size_t size) {
-    static const uint8_t names[] = {0xD9, 0xB7, 0x5E, 0x6A, 0x19, 0xA5, 0x19, 0xC9};
     static uint8_t seal[FR_SEAL_MOST];
-    size_t end = 18;
-    memcpy(seal, seal_a, 18);
-    if (version == 4) {
-        seal[1] = 3;
-        memcpy(seal + 4, names, 8);
-        memcpy(seal + 12, seal_a + 10, 8);
-        end = 20;
-    }
+    size_t end = put_front(seal, version);
     seal[end++] = 11;
     memcpy(seal + end, form, form_size);
     memset(seal + end + form_size, 0xFF, size);
@@ -212,16 +212,55 @@ static void test_lengths(void) {
     fr_reading r = with_feature(4, "\x81\x7F", 2, 127);
     CHECK(unread(r, 8, 21) && kept(0, 0));
     r = with_feature(4, "\x7F", 1, 127);
-    CHECK(r.number == 0 && r.count == 1 && table[0] == 11 && table[1] == 22 && table[2] == 127 && kept(9, 3));
+    CHECK(r.number == 0 && r.count == 1 && is_row(0, 11, 20, 22, 127) && kept(9, FR_ROW));
     r = with_feature(4, "\x81\x80", 2, 128);
-    CHECK(r.number == 0 && r.count == 1 && table[0] == 11 && table[1] == 23 && table[2] == 128 && kept(9, 3));
+    CHECK(r.number == 0 && r.count == 1 && is_row(0, 11, 20, 23, 128) && kept(9, FR_ROW));
     CHECK(r.ends.header == 20 && r.ends.message == 151 && r.ends.seal == 209 && r.signature.place == 153 && r.signature.length == 56);
     r = with_feature(4, "\x80", 1, 128);
     CHECK(unread(r, 8, 21) && kept(0, 0));
     r = with_feature(3, "\x80", 1, 128);
-    CHECK(r.number == 0 && r.count == 1 && table[0] == 11 && table[1] == 20 && table[2] == 128 && kept(9, 3));
+    CHECK(r.number == 0 && r.count == 1 && is_row(0, 11, 18, 20, 128) && kept(9, FR_ROW));
     r = with_feature(3, "\xFF", 1, 255);
-    CHECK(r.number == 0 && r.count == 1 && table[0] == 11 && table[1] == 20 && table[2] == 255 && kept(9, 3));
+    CHECK(r.number == 0 && r.count == 1 && is_row(0, 11, 18, 20, 255) && kept(9, FR_ROW));
     r = with_feature(4, "\x84\xFF\xFF\xFF\xFF", 5, 128);
     CHECK(unread(r, 2, 26) && kept(0, 0));
+}
+
+/*
+ * A seal made of these features, read with just the room: every row as it was made, one after another; then with one number more, and 12
+ * with one number short, and with one less a feature.
+ */
+static void check_rows(size_t version, const feature *features, size_t count) {
+    size_t length = make_seal(version, features, count);
+    fr_reading r;
+    fresh();
+    r = fr_read(made, length, table, FR_ROW * count, lent, 9);
+    CHECK(r.number == 0 && r.place == 0 && r.count == count && kept(9, FR_ROW * count));
+    CHECK(memcmp(table, made_rows, FR_ROW * count * sizeof *table) == 0 && one_after_another(made, r));
+    fresh();
+    r = fr_read(made, length, table, FR_ROW * count + 1, lent, FR_TEXT_MOST);
+    CHECK(r.number == 0 && kept(9, FR_ROW * count));
+    fresh();
+    CHECK(unread(fr_read(made, length, table, FR_ROW * count - 1, lent, FR_TEXT_MOST), 12, 0) && kept(0, 0));
+    CHECK(unread(fr_read(made, length, table, (FR_ROW - 1) * count, lent, FR_TEXT_MOST), 12, 0) && kept(0, 0));
+}
+
+/* Where features begin: lengths of one byte, of two and of three, empty values first, between and last, and all 255 tags. */
+static void test_places(void) {
+    static const feature three[] = {{10, 4}, {0, 0}, {254, 255}, {11, 128}}, four[] = {{11, 127}, {0, 0}, {254, 128}, {3, 256}, {2, 0}};
+    feature all[FR_FEATURES_MOST];
+    size_t i, version;
+    for (i = 0; i < FR_FEATURES_MOST; i++) {
+        all[i].tag = (uint8_t)(254 - i);
+        all[i].size = i % 3;
+    }
+    check_rows(3, three, 4);
+    CHECK(fr_read(made, make_seal(3, three, 4), table, FR_TABLE_MOST, lent, FR_TEXT_MOST).ends.message == 413);
+    CHECK(is_row(0, 10, 18, 20, 4) && is_row(1, 0, 24, 26, 0) && is_row(2, 254, 26, 28, 255) && is_row(3, 11, 283, 285, 128));
+    check_rows(4, four, 5);
+    CHECK(fr_read(made, make_seal(4, four, 5), table, FR_TABLE_MOST, lent, FR_TEXT_MOST).ends.message == 544);
+    CHECK(is_row(0, 11, 20, 22, 127) && is_row(1, 0, 149, 151, 0) && is_row(2, 254, 151, 154, 128) && is_row(3, 3, 282, 286, 256));
+    CHECK(is_row(4, 2, 542, 544, 0));
+    for (version = 3; version <= 4; version++)
+        for (i = 1; i <= FR_FEATURES_MOST; i += i < 5 ? 1 : 50) check_rows(version, all, i);
 }

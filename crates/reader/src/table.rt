@@ -39,6 +39,7 @@ pub(crate) fn put_rows(
         };
         let row = Row {
             tag,
+            start: at,
             place: value.place,
             size,
         };

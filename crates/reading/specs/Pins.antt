@@ -1,7 +1,7 @@
 -- Computed examples of what the calls answer and write, for Seal A and for a refusal, and when 12 is told.
 -- Assumes nothing.
 use mathlib.Core.Path.{_≡_, refl, ap}
-use Prim.Native.Nat.{ℕ, _-_}
+use Prim.Native.Nat.{ℕ}
 use mathlib.Core.List.{List, [], _∷_}
 use mathlib.Core.Option.{none, Option·map}
 use Rattle.format.specs.BigEndian.{val}
@@ -64,8 +64,8 @@ version-7 : (s table text : List ℕ) (r : Reading) → r .header .version ≡ 7
 unfolding contentIn
 version-7 s table text r e = ap (λ n. Option·map (contentAs s r table text) (versionOf n)) e
 
--- 12, and the room that is just enough
-table-short : asked seal-a (width - 1) 9 ≡ refused 12 0
+-- 12, and the room that is just enough: 4 numbers a feature
+table-short : asked seal-a 3 9 ≡ refused 12 0
 unfolding judge judging reading header tag row features signature decode pairOf single values theChart valueOf isDay readLength longForm val
 table-short = refl
 
@@ -73,7 +73,7 @@ text-short : asked seal-a width 8 ≡ refused 12 0
 unfolding judge judging reading header tag row features signature decode pairOf single values theChart valueOf isDay readLength longForm val
 text-short = refl
 
-enough : asked seal-a width 9 ≡ accepted report-a
+enough : asked seal-a 4 9 ≡ accepted report-a
 unfolding judge judging reading header tag row features signature decode pairOf single values theChart valueOf isDay readLength longForm val
 enough = refl
 
@@ -82,7 +82,7 @@ unfolding judge judging reading header
 verdict-first = refl
 
 -- what is written: the row, signer and reference; a refusal writes nothing, and memory past what is written stays
-a-rows : rowsIn (accepted report-a) ≡ 10 ∷ 20 ∷ 4 ∷ []
+a-rows : rowsIn (accepted report-a) ≡ 10 ∷ 18 ∷ 20 ∷ 4 ∷ []
 unfolding table numbers
 a-rows = refl
 

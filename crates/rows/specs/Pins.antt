@@ -7,34 +7,36 @@ use mathlib.Core.List.{List, [], _∷_}
 use Rattle.format.specs.Buffer.{over}
 use Rattle.rows.specs.declared.Row.{Row}
 use Rattle.rows.specs.declared.Found.the-variants as found
-use Rattle.rows.specs.Rows.{numbers, valued, rowAt, foundAt, rowPut, table, firstRows, rowsOf, isWhole}
+use Rattle.rows.specs.Rows.{numbers, rowOf, rowAt, foundAt, rowPut, table, firstRows, rowsOf, isWhole}
 
 abbrev one : Row
-one = valued 10 20 4
+one = rowOf 10 18 20 4
 
 abbrev other : Row
-other = valued 254 26 0
+other = rowOf 254 24 26 0
 
-abbrev six : List ℕ
-six = 10 ∷ 20 ∷ 4 ∷ 254 ∷ 26 ∷ 0 ∷ []
+abbrev eight : List ℕ
+eight = 10 ∷ 18 ∷ 20 ∷ 4 ∷ 254 ∷ 24 ∷ 26 ∷ 0 ∷ []
 
-there : table (one ∷ other ∷ []) ≡ six
+there : table (one ∷ other ∷ []) ≡ eight
 unfolding numbers table
 there = refl
 
-back : rowsOf six ≡ one ∷ other ∷ []
+back : rowsOf eight ≡ one ∷ other ∷ []
 unfolding rowAt firstRows rowsOf
 back = refl
 
 -- at a place of the table, and where one number of a row is missing
-found-there : (foundAt six 3 ≡ found.Is other) × (foundAt six 4 ≡ found.NoRow) × (foundAt [] 0 ≡ found.NoRow)
+found-there : (foundAt eight 4 ≡ found.Is other) × (foundAt eight 5 ≡ found.NoRow) × (foundAt [] 0 ≡ found.NoRow)
 unfolding rowAt foundAt
 found-there = (refl, refl, refl)
 
-put-there : (rowPut other six 0 ≡ 254 ∷ 26 ∷ 0 ∷ 254 ∷ 26 ∷ 0 ∷ []) × (rowPut other six 4 ≡ six)
+put-there : (rowPut other eight 0 ≡ 254 ∷ 24 ∷ 26 ∷ 0 ∷ 254 ∷ 24 ∷ 26 ∷ 0 ∷ []) × (rowPut other eight 5 ≡ eight)
 unfolding numbers rowPut over
 put-there = (refl, refl)
 
-no-more : (rowsOf (10 ∷ 20 ∷ 4 ∷ 254 ∷ 26 ∷ []) ≡ one ∷ []) × (isWhole (10 ∷ 20 ∷ []) ≡ false) × (isWhole six ≡ true) × (isWhole [] ≡ true)
+no-more :
+    (rowsOf (10 ∷ 18 ∷ 20 ∷ 4 ∷ 254 ∷ 24 ∷ 26 ∷ []) ≡ one ∷ []) × (isWhole (10 ∷ 18 ∷ 20 ∷ []) ≡ false)
+    × (isWhole (10 ∷ 18 ∷ 20 ∷ 4 ∷ 254 ∷ 24 ∷ []) ≡ false) × (isWhole eight ≡ true) × (isWhole [] ≡ true)
 unfolding rowAt firstRows rowsOf
-no-more = (refl, refl, refl, refl)
+no-more = (refl, refl, refl, refl, refl)

@@ -1,4 +1,5 @@
--- A row and its numbers in a table (document 01): how many numbers a row has, and which stands where, is said here and nowhere else.
+-- A row and its numbers in a table (document 02, Ticket 10): how many numbers a row has, and which stands where, is said here and
+-- nowhere else.
 -- Assumes nothing.
 pub mod Laws
 use mathlib.Core.Path.{_≡_}
@@ -15,23 +16,23 @@ use Rattle.rows.specs.declared.Found.the-variants as found
 
 -- how many numbers a row has
 abbrev pub width : ℕ
-width = 3
+width = 4
 
--- they stand in this order: tag, value place, value length
+-- they stand in this order: tag, tag place, value place, value length
 unfoldable pub numbers : Row → List ℕ
-numbers r = r .tag ∷ r .place ∷ r .size ∷ []
+numbers r = r .tag ∷ r .start ∷ r .place ∷ r .size ∷ []
 
--- the row of a feature as a writer is given it: its tag, its value's place and length
-abbrev pub valued : ℕ → ℕ → ℕ → Row
-valued tag place size = record { tag = tag; place = place; size = size }
-
--- and as a reader finds it: its tag, where that stands, its value's place and length
+-- the row of a feature as a reader finds it: its tag, where that stands, its value's place and length
 abbrev pub rowOf : ℕ → ℕ → ℕ → ℕ → Row
-rowOf tag start place size = record { tag = tag; place = place; size = size }
+rowOf tag start place size = record { tag = tag; start = start; place = place; size = size }
+
+-- and as a writer may be given it: the tag's place is ignored
+abbrev pub valued : ℕ → ℕ → ℕ → Row
+valued tag place size = rowOf tag 0 place size
 
 -- the row whose first number stands at a place
 unfoldable pub rowAt : List ℕ → ℕ → Row
-rowAt t at = record { tag = getD t at 0; place = getD t (at + 1) 0; size = getD t (at + 2) 0 }
+rowAt t at = rowOf (getD t at 0) (getD t (at + 1) 0) (getD t (at + 2) 0) (getD t (at + 3) 0)
 
 -- where the table has all its numbers
 unfoldable pub foundAt : List ℕ → ℕ → Found

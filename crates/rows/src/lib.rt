@@ -1,12 +1,14 @@
-// A row of a table of features (document 01): how many numbers it has, and in what order they stand. A row is known by the place of its
-// first number, and a walk over a table goes from place to place by WIDTH, so that no index is multiplied.
+// A row of a table of features (document 02, Ticket 10): how many numbers it has, and in what order they stand. A row is known by the
+// place of its first number, and a walk over a table goes from place to place by WIDTH, so that no index is multiplied.
 ghost use mathlib.Core.Path.{_≡_};
 ghost use Prim.Native.Nat.{_*_};
 ghost use Rattle.rows.specs.Rows.{width, foundAt, rowPut};
 
-// A feature's tag, the place of its value and its length.
+// A feature in a seal: its tag, where it starts, which is its tag's place, and its value's place and length. A writer goes by the
+// tag and the value alone.
 pub struct Row {
     pub tag: usize,
+    pub start: usize,
     pub place: usize,
     pub size: usize,
 }
@@ -20,7 +22,7 @@ pub enum Found {
 }
 
 // How many numbers a row has.
-pub const WIDTH: usize = 3;
+pub const WIDTH: usize = 4;
 
 // How many numbers are room for the rows of every seal: it has at most 255 features.
 pub const MOST: usize = 255 * WIDTH;
@@ -38,8 +40,9 @@ pub fn row_at(table: &[usize], at: usize) -> Found
     }
     Found::Is(Row {
         tag: table[at],
-        place: table[at + 1],
-        size: table[at + 2],
+        start: table[at + 1],
+        place: table[at + 2],
+        size: table[at + 3],
     })
 }
 
@@ -56,6 +59,7 @@ pub fn put_row(row: Row, table: &mut [usize], at: usize)
         return;
     }
     table[at] = row.tag;
-    table[at + 1] = row.place;
-    table[at + 2] = row.size;
+    table[at + 1] = row.start;
+    table[at + 2] = row.place;
+    table[at + 3] = row.size;
 }

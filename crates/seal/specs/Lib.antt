@@ -3,3 +3,4 @@ pub mod FiveSizes
 pub mod Entries
 pub mod PlaceOfFive
 pub mod Conditions
+pub mod Frames

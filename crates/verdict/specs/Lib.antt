@@ -9,7 +9,9 @@
 --     Listed                every refusal has a number of document 01's list
 --     Causes                each item and rule by an input that is refused there
 --   Report            what is reported, turned back into a content
+--   Frames            what a row says of the seal's bytes: its feature, framed from tag to value's end
 --   Pins, in both     computed examples
 pub mod Items
 pub mod Judge
 pub mod Report
+pub mod Frames

@@ -31,7 +31,7 @@ reader =
     ∷ row 9 "tag already used"
     ∷ row 10 "signature length is not 56, 64, 96, 128 or 132"
     ∷ row 11 "bytes after the signature"
-    ∷ row 12 "seal good, but the lent table has under 3 numbers a feature, or the text room is under 4 + L"
+    ∷ row 12 "seal good, but the lent table has under 4 numbers a feature, or the text room is under 4 + L"
     ∷ []
 
 -- the writer
@@ -41,7 +41,7 @@ writer =
     ∷ row 21 "writer: country, signer or reference"
     ∷ row 22 "writer: date"
     ∷ row 23 "writer: definition reference or category"
-    ∷ row 24 "writer: table not in threes, tag over 254 or used twice, or a value outside the values buffer"
+    ∷ row 24 "writer: table not in fours, tag over 254 or used twice, or a value outside the values buffer"
     ∷ row 25 "writer: value over 255 bytes in version 3"
     ∷ row 26 "writer: signature length"
     ∷ row 27 "writer: seal would pass 4,096"

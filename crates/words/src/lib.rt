@@ -10,10 +10,10 @@ ghost use Rattle.words.specs.Calls.{saying, toldOf, Longest};
 use octets::wide;
 
 // The length of the longest words: a buffer of so many bytes has room for any.
-pub const LONGEST: usize = 93;
+pub const LONGEST: usize = 92;
 
 // The table of the words, a line a number: two digits, a space, the words. `pageOf` of specs/Page.antt makes it of the table there.
-const PAGE: [u8; 1368] = *b"\
+const PAGE: [u8; 1367] = *b"\
 00 done\n\
 01 seal longer than 4,096\n\
 02 the input ends before an item is whole\n\
@@ -26,12 +26,12 @@ const PAGE: [u8; 1368] = *b"\
 09 tag already used\n\
 10 signature length is not 56, 64, 96, 128 or 132\n\
 11 bytes after the signature\n\
-12 seal good, but the lent table has under 3 numbers a feature, or the text room is under 4 + L\n\
+12 seal good, but the lent table has under 4 numbers a feature, or the text room is under 4 + L\n\
 20 writer: version not 3 or 4\n\
 21 writer: country, signer or reference\n\
 22 writer: date\n\
 23 writer: definition reference or category\n\
-24 writer: table not in threes, tag over 254 or used twice, or a value outside the values buffer\n\
+24 writer: table not in fours, tag over 254 or used twice, or a value outside the values buffer\n\
 25 writer: value over 255 bytes in version 3\n\
 26 writer: signature length\n\
 27 writer: seal would pass 4,096\n\

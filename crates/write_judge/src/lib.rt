@@ -19,7 +19,7 @@ pub enum Writing {
     Dates,
     // 23: definition reference or category
     Last,
-    // 24: table not in threes, tag over 254 or used twice, or a value outside the values buffer
+    // 24: table not in whole rows, tag over 254 or used twice, or a value outside the values buffer
     Rows,
     // 25: value over 255 bytes in version 3
     Values,

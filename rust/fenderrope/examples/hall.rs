@@ -3,9 +3,10 @@
 //!     hall FILE             says which press the lock tag in FILE locks, or why it is no lock tag
 //!     hall make NAME FILE   makes a version 4 lock tag for the press NAME and writes it to FILE
 //!
-//! The press is named by feature 11: 1 to 12 upper-case letters and digits, in C40. The status is 0 where a press is
-//! locked or a tag made, 1 where FILE is refused or is no lock tag, and 2 where something else is wrong; standard error
-//! then says what.
+//! The press is named by feature 11: 1 to 12 upper-case letters and digits, in C40. The line of a locked press ends
+//! with the frame that a camera overlay draws around the feature: the place of its tag in FILE, and how many bytes tag,
+//! length and value are together. The status is 0 where a press is locked or a tag made, 1 where FILE is refused or is
+//! no lock tag, and 2 where something else is wrong; standard error then says what.
 //!
 //! Signing is the signing unit's work: make gives it the signed bytes on standard output and takes the raw signature,
 //! 64 bytes, from standard input. So is verifying: what is printed is what the tag says, not that it is genuine.
@@ -17,7 +18,8 @@ use std::os::unix::ffi::OsStrExt;
 use std::process::ExitCode;
 use std::time::{SystemTime, UNIX_EPOCH};
 
-use fenderrope::{c40_read, c40_write, read, write, Date, Header, Refusal, SEAL_MOST, TABLE_MOST, TEXT_MOST};
+use fenderrope::{c40_read, c40_write, read, write, Date, Header, Refusal};
+use fenderrope::{ROW, ROW_TAG, ROW_VALUE_LENGTH, SEAL_MOST, TABLE_MOST, TEXT_MOST};
 
 const PRESS: usize = 11;
 const NAME_MOST: usize = 12;
@@ -89,7 +91,9 @@ pub fn told(seal: &[u8]) -> (u8, String) {
         return (1, format!("no lock tag: no name of a press at {}", press.place));
     };
     let (signer, reference) = reading.names();
-    (0, format!("locked {name}, signer {signer}, reference {reference}"))
+    // What the overlay draws: the whole feature, up to its value's end.
+    let (frame, length) = (press.tag_place, press.whole.len());
+    (0, format!("locked {name}, signer {signer}, reference {reference}, frame at {frame} length {length}"))
 }
 
 fn show(path: &OsStr) -> Result<u8, Fault> {
@@ -132,8 +136,11 @@ pub fn unsigned(name: &[u8], day: Date) -> Result<Vec<u8>, Fault> {
     };
     let (version, country, definition, category) = (4, *b"UTO", 1, 2);
     let header = Header { version, country, length: 5, issued_on: day, signed_on: day, definition, category };
+    // The value's place is 0, and the writer ignores the tag's.
+    let mut row = [0; ROW];
+    (row[ROW_TAG], row[ROW_VALUE_LENGTH]) = (PRESS, count);
     // The text is the signer, and the reference of its certificate.
-    let length = write(&header, b"UTAB00001", &[PRESS, 0, count], &value, &[0; SIGNATURE], &mut seal)?;
+    let length = write(&header, b"UTAB00001", &row, &value, &[0; SIGNATURE], &mut seal)?;
     Ok(seal[..length].to_vec())
 }
 

@@ -46,6 +46,10 @@
 //!     ]
 //! );
 //!
+//! // What a camera overlay frames: the whole feature, tag, length and value.
+//! let frames: Vec<_> = reading.features().map(|feature| (feature.tag_place, feature.whole.len())).collect();
+//! assert_eq!(frames, [(18, 6)]);
+//!
 //! let mut again = [0; SEAL_MOST];
 //! let length = reading.write(reading.signature(), &mut again)?;
 //! assert_eq!(again[..length], seal);

@@ -5,6 +5,7 @@ use core::str;
 use crate::layout::{self, Header};
 use crate::refusal::Refusal;
 use crate::seals::write;
+use crate::sizes::{ROW, ROW_TAG, ROW_TAG_PLACE, ROW_VALUE_LENGTH, ROW_VALUE_PLACE};
 use crate::verdict::Verdict;
 
 /// A seal that [`crate::read`] has accepted. It holds the seal, the rows and the text, and lends out parts of these
@@ -34,15 +35,29 @@ pub struct Reading<'a> {
 pub struct Feature<'a> {
     /// 0 to 254; no two features of a seal have the same.
     pub tag: usize,
+    /// Where the tag stands in the seal. The feature begins there.
+    pub tag_place: usize,
     /// Where the value stands in the seal.
     pub place: usize,
-    /// The value's bytes.
+    /// The whole feature, tag, length and value: what an overlay frames.
+    pub whole: &'a [u8],
+    /// The value's bytes, the last ones of the whole.
     pub value: &'a [u8],
 }
 
+impl<'a> Feature<'a> {
+    /// The feature that a row tells of. A row that is not inside the seal would stop this.
+    fn of(seal: &'a [u8], row: &[usize]) -> Feature<'a> {
+        let (tag_place, place) = (row[ROW_TAG_PLACE], row[ROW_VALUE_PLACE]);
+        let value = &seal[place..][..row[ROW_VALUE_LENGTH]];
+        let whole = &seal[tag_place..place + value.len()];
+        Feature { tag: row[ROW_TAG], tag_place, place, whole, value }
+    }
+}
+
 impl<'a> Reading<'a> {
-    /// What the library answered, with what it was lent. On 0 it is proved to have filled three numbers a feature, each
-    /// row inside the seal, and 4 + L letters and digits of text; were it not so, this would stop and make nothing up.
+    /// What the library answered, with what it was lent. On 0 it is proved to have filled a row a feature, each inside
+    /// the seal, and 4 + L letters and digits of text; were it not so, this would stop and make nothing up.
     pub(crate) fn of(
         answer: layout::Reading,
         seal: &'a [u8],
@@ -71,12 +86,12 @@ impl<'a> Reading<'a> {
         self.text.split_at(4)
     }
 
-    /// The features in the seal's order.
+    /// The features in the seal's order. They lie one after another and are together the message zone, the seal from
+    /// `ends.header` to `ends.message` of the [`Reading::verdict`].
     #[must_use]
     pub fn features(&self) -> impl ExactSizeIterator<Item = Feature<'a>> + DoubleEndedIterator + Clone + 'a {
         let seal = self.seal;
-        let feature = move |row: &[usize]| Feature { tag: row[0], place: row[1], value: &seal[row[1]..][..row[2]] };
-        self.rows.chunks_exact(3).map(feature)
+        self.rows.chunks_exact(ROW).map(move |row| Feature::of(seal, row))
     }
 
     /// The feature with this tag, if the seal has it.

@@ -6,8 +6,9 @@ use crate::reading::Reading;
 use crate::refusal::Refusal;
 use crate::verdict::Verdict;
 
-/// Reads a seal. A row of three numbers for each feature then stands in `table` (tag, place of the value, length of the
-/// value), and signer and reference in `text`; memory past them stays. The reading lends all of this out by name.
+/// Reads a seal. A row of four numbers for each feature then stands in `table` (tag, place of the tag, place of the
+/// value, length of the value), and signer and reference in `text`; memory past them stays. The reading lends all of
+/// this out by name.
 ///
 /// [`crate::TABLE_MOST`] numbers and [`crate::TEXT_MOST`] bytes are room for every seal; [`judge`] says what a seal
 /// needs. The signature is not verified: that is the signing unit's work, over [`Reading::signed`].
@@ -27,6 +28,7 @@ use crate::verdict::Verdict;
 /// assert_eq!(reading.names(), ("UTAB", "00001"));
 /// let feature = reading.feature(10).unwrap();
 /// assert_eq!((feature.place, feature.value), (20, &[0xDE, 0x51, 0x58, 0x26][..]));
+/// assert_eq!((feature.tag_place, feature.whole), (18, &[0x0A, 4, 0xDE, 0x51, 0x58, 0x26][..]));
 /// assert_eq!(reading.feature(11), None);
 /// # Ok::<(), fenderrope::Refusal>(())
 /// ```
@@ -53,8 +55,9 @@ pub fn judge(seal: &[u8]) -> Result<Verdict, Refusal> {
 
 /// Writes a seal from the start of `out` and gives its length; memory past it stays.
 ///
-/// `text` is signer and reference; `rows` are rows as [`read`] fills them, over `values`; `signature` is r, then s.
-/// [`crate::SEAL_MOST`] bytes are room for every seal. [`Reading::write`] writes what was read.
+/// `text` is signer and reference; `rows` are rows as [`read`] fills them, over `values`; `signature` is r, then s. The
+/// second number of a row, the tag's place, is ignored, whatever it is. [`crate::SEAL_MOST`] bytes are room for every
+/// seal. [`Reading::write`] writes what was read.
 ///
 /// # Errors
 ///
@@ -68,7 +71,7 @@ pub fn judge(seal: &[u8]) -> Result<Verdict, Refusal> {
 /// let header =
 ///     Header { version, country: *b"D<<", length: 1, issued_on: today, signed_on: today, definition, category };
 /// let values = [0xDE, 0x51, 0x58, 0x26];
-/// let rows = [10, 0, 4, 11, 0, 2];
+/// let rows = [10, 0, 0, 4, 11, 0, 0, 2];
 /// let mut seal = [0; fenderrope::SEAL_MOST];
 /// let length = fenderrope::write(&header, b"UTAB7", &rows, &values, &[0xAA; 64], &mut seal)?;
 /// let verdict = fenderrope::judge(&seal[..length])?;

@@ -2,6 +2,7 @@
 
 use crate::layout::{self, Ends, Header, Part};
 use crate::refusal::Refusal;
+use crate::sizes::ROW;
 
 /// What [`crate::judge`] says of a good seal: plain fields, and the room that a reading of it needs.
 #[derive(Debug, Clone, Copy, PartialEq, Eq, Hash)]
@@ -24,10 +25,10 @@ impl Verdict {
         Refusal::unless(number, place, Verdict { header, ends, signature, count })
     }
 
-    /// How many numbers a reading needs in its table: a row of three a feature.
+    /// How many numbers a reading needs in its table: a row a feature.
     #[must_use]
     pub fn table_room(&self) -> usize {
-        self.count.saturating_mul(3)
+        self.count.saturating_mul(ROW)
     }
 
     /// How many bytes a reading needs for its text: the signer's four characters, and the reference.

@@ -15,8 +15,24 @@ fn tag(name: &str) -> Vec<u8> {
 
 #[test]
 fn a_tag_that_was_made_locks_its_press() {
-    for name in ["A", "7", "PRESS7", "ABCDEFGHIJKL", "000000000000"] {
-        assert_eq!(told(&tag(name)), (0, format!("locked {name}, signer UTAB, reference 00001")));
+    for (name, length) in [("A", 4), ("7", 4), ("PRESS7", 6), ("ABCDEFGHIJKL", 10), ("000000000000", 10)] {
+        let line = format!("locked {name}, signer UTAB, reference 00001, frame at 20 length {length}");
+        assert_eq!(told(&tag(name)), (0, line));
+    }
+}
+
+/// The frame of feature 11 follows it: behind other features, and before them.
+#[test]
+fn the_frame_is_the_whole_feature() {
+    let seal = tag("PRESS7");
+    let (header, message, rest) = (&seal[..20], &seal[20..26], &seal[26..]);
+    let long = [&[0x07, 0x81, 0x80][..], &[0xFF; 128]].concat();
+    let longer = [&[0xFE, 0x82, 0x01, 0x00][..], &[0x0B; 256]].concat();
+    for (before, behind) in
+        [(&[][..], &long[..]), (&[0x0A, 0x00], &[]), (&long, &longer), (&longer, &[0x00, 0x01, 0x0B]), (&long, &[])]
+    {
+        let line = format!("locked PRESS7, signer UTAB, reference 00001, frame at {} length 6", 20 + before.len());
+        assert_eq!(told(&[header, before, message, behind, rest].concat()), (0, line));
     }
 }
 

@@ -1,13 +1,20 @@
 //! What the crate adds to the calls: a reading and its parts, and words for people.
 
-use fenderrope::{judge, numbers, read, write, Date, Feature, Hash, Refusal, SEAL_MOST, TABLE_MOST, TEXT_MOST};
+use fenderrope::{
+    judge, numbers, read, write, Date, Feature, Hash, Header, Refusal, ROW, SEAL_MOST, TABLE_MOST, TEXT_MOST,
+};
 
 /// A version 3 seal with these features, and 56 bytes of signature.
 fn made(features: &[(usize, &[u8])]) -> Vec<u8> {
-    let header = judge(&seal_a()).expect("Seal A is good").header;
+    made_in(3, features)
+}
+
+/// The same in a version. The rows' second numbers are no places of tags: the writer ignores them.
+fn made_in(version: usize, features: &[(usize, &[u8])]) -> Vec<u8> {
+    let header = Header { version, ..judge(&seal_a()).expect("Seal A is good").header };
     let (mut rows, mut values, mut out) = (Vec::new(), Vec::new(), [0; SEAL_MOST]);
     for (tag, value) in features {
-        rows.extend([*tag, values.len(), value.len()]);
+        rows.extend([*tag, usize::MAX, values.len(), value.len()]);
         values.extend_from_slice(value);
     }
     let length = write(&header, b"UTAB00001", &rows, &values, &[0xAA; 56], &mut out).expect("a legal content");
@@ -24,10 +31,10 @@ fn seal_a() -> Vec<u8> {
 
 #[test]
 fn parts_are_those_of_the_seal() {
-    let (seal, mut table, mut text) = (seal_a(), [7; 5], [7; 11]);
+    let (seal, mut table, mut text) = (seal_a(), [7; ROW + 2], [7; 11]);
     let reading = read(&seal, &mut table, &mut text).expect("Seal A is good");
-    let features: Vec<_> = reading.features().map(|f| (f.tag, f.place, f.value)).collect();
-    assert_eq!(features, [(10, 20, &seal[20..24])]);
+    let feature = Feature { tag: 10, tag_place: 18, place: 20, whole: &seal[18..24], value: &seal[20..24] };
+    assert_eq!(reading.features().collect::<Vec<_>>(), [feature]);
     assert_eq!(reading.names(), ("UTAB", "00001"));
     assert_eq!(reading.signed(), &seal[..24]);
     assert_eq!(reading.signature(), [0xAA; 56]);
@@ -48,6 +55,40 @@ fn features_by_tag_and_in_the_seals_order() {
     assert_eq!((value(1), value(255), value(256), value(456), value(usize::MAX)), (None, None, None, None, None));
 }
 
+/// Whole features and values: each whole stands at its tag's place, begins with the tag and ends with the value; the
+/// value is so many bytes behind; and one after another the wholes are the message.
+fn wholes_are_the_message(seal: &[u8], behind: &[usize]) {
+    let (mut table, mut text) = ([0; TABLE_MOST], [0; TEXT_MOST]);
+    let reading = read(seal, &mut table, &mut text).expect("a good seal");
+    let ends = reading.verdict().ends;
+    let mut end = ends.header;
+    for (feature, &behind) in reading.features().zip(behind) {
+        assert_eq!((feature.tag_place, feature.place), (end, end + behind));
+        assert_eq!((usize::from(feature.whole[0]), &feature.whole[behind..]), (feature.tag, feature.value));
+        end += feature.whole.len();
+        assert_eq!((feature.whole, feature.value), (&seal[feature.tag_place..end], &seal[feature.place..end]));
+    }
+    let wholes: Vec<_> = reading.features().map(|feature| feature.whole).collect();
+    assert_eq!((wholes.len(), &wholes.concat()[..]), (behind.len(), &seal[ends.header..ends.message]));
+    assert_eq!((end, seal[end]), (ends.message, 0xFF));
+}
+
+#[test]
+fn whole_features_are_the_message() {
+    let value = [0xFF; 300];
+    let features = [0, 1, 127, 128, 255, 256, 300, 0].map(|length| &value[..length]);
+    let features: Vec<_> = (7..).zip(features).collect();
+    wholes_are_the_message(&made_in(4, &features), &[2, 2, 2, 3, 3, 4, 4, 2]);
+    wholes_are_the_message(&made_in(3, &features[..5]), &[2; 5]);
+    wholes_are_the_message(&made_in(4, &features[5..]), &[4, 4, 2]);
+    wholes_are_the_message(&seal_a(), &[2]);
+    for version in [3, 4] {
+        wholes_are_the_message(&made_in(version, &[]), &[]);
+        let all: Vec<(usize, &[u8])> = (0..255).map(|tag| (tag, &b"\xFF\x38"[..tag % 3])).collect();
+        wholes_are_the_message(&made_in(version, &all), &[2; 255]);
+    }
+}
+
 #[test]
 fn a_seal_without_features_has_none() {
     let (seal, mut text) = (made(&[]), [0; 9]);
@@ -60,7 +101,7 @@ fn the_verdict_says_what_room_a_reading_needs() {
     for seal in [seal_a(), made(&[]), made(&[(1, b"a"), (2, b"b")])] {
         let verdict = judge(&seal).expect("a good seal");
         let (rows, names) = (verdict.table_room(), verdict.text_room());
-        assert_eq!((rows, names), (3 * verdict.count, 4 + verdict.header.length));
+        assert_eq!((rows, names), (ROW * verdict.count, 4 + verdict.header.length));
         let enough = |rows, names| match read(&seal, &mut vec![0; rows], &mut vec![0; names]) {
             Ok(reading) => reading.verdict() == verdict,
             Err(refusal) => panic!("{refusal}"),
@@ -68,15 +109,18 @@ fn the_verdict_says_what_room_a_reading_needs() {
         assert!(enough(rows, names) && enough(rows + 1, names + 1));
         let no_room = Refusal { number: numbers::READ_ROOM, place: 0 };
         assert_eq!(read(&seal, &mut vec![0; rows], &mut vec![0; names - 1]), Err(no_room));
-        if rows > 0 {
-            assert_eq!(read(&seal, &mut vec![0; rows - 1], &mut vec![0; names]), Err(no_room));
+        // One short, three numbers a feature, and none.
+        for short in [rows.saturating_sub(1), (ROW - 1) * verdict.count, 0].into_iter().filter(|&short| short < rows) {
+            let mut table = vec![7; short];
+            assert_eq!(read(&seal, &mut table, &mut vec![0; names]), Err(no_room));
+            assert_eq!(table, vec![7; short]);
         }
     }
 }
 
 #[test]
 fn what_was_read_is_written_with_another_signature() {
-    let (seal, mut table, mut text, mut out) = (seal_a(), [0; 3], [0; 9], [7; 100]);
+    let (seal, mut table, mut text, mut out) = (seal_a(), [0; ROW], [0; 9], [7; 100]);
     let reading = read(&seal, &mut table, &mut text).expect("Seal A is good");
     assert_eq!(reading.write(&[0xBB; 64], &mut out), Ok(90));
     assert_eq!(out[..90], [&seal[..25], &[64], &[0xBB; 64]].concat());

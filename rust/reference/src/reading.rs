@@ -1,4 +1,4 @@
-//! The reader (document 01, "Layout" and "The numbers a call answers"; document 02, Ticket 1).
+//! The reader (document 01, "Layout" and "The numbers a call answers"; document 02, Tickets 1 and 10).
 //!
 //! A parser takes the bytes that are left and gives what it read and the bytes left after it. A refusal remembers how
 //! many bytes were left where its item began, or the pair that it names; its place is then the seal's length less that.
@@ -6,7 +6,7 @@
 use std::collections::BTreeSet;
 
 use crate::der::Fault;
-use crate::{c40, dates, der, names, Ends, Header, Part, Reading, Refusal, LONGEST_SEAL, SIGNATURE_SIZES};
+use crate::{c40, dates, der, names, Ends, Header, Part, Reading, Refusal, Row, LONGEST_SEAL, SIGNATURE_SIZES};
 
 /// The number of a refusal, and how many bytes were left at the byte that it names.
 struct Stopped {
@@ -20,15 +20,16 @@ type Parsed<'a, T> = Result<(T, &'a [u8]), Stopped>;
 struct Accepted {
     header: Header,
     text: Vec<u8>,
-    rows: Vec<[usize; 3]>,
+    rows: Vec<Row>,
     ends: Ends,
     signature: Part,
 }
 
-/// A feature: its tag, how many bytes are left at its value, and how long that is.
+/// A feature: its tag, how many bytes are left there and at its value, and how long the value is.
 struct Feature {
     tag: u8,
-    left: usize,
+    left_at_tag: usize,
+    left_at_value: usize,
     length: usize,
 }
 
@@ -145,7 +146,7 @@ fn features(version: usize, mut rest: &[u8]) -> Parsed<'_, Vec<Feature>> {
             return stop(9, rest);
         }
         let (length, value) = feature_length(version, after)?;
-        found.push(Feature { tag, left: value.len(), length });
+        found.push(Feature { tag, left_at_tag: rest.len(), left_at_value: value.len(), length });
         (_, rest) = bytes(length, value)?;
     }
 }
@@ -170,10 +171,16 @@ fn seal(seal: &[u8]) -> Result<Accepted, Stopped> {
     let (features, mark) = features(header.version, message)?;
     let raw = signature(mark)?;
     let place = |left: usize| seal.len() - left;
+    let row = |feature: &Feature| Row {
+        tag: usize::from(feature.tag),
+        tag_place: place(feature.left_at_tag),
+        value_place: place(feature.left_at_value),
+        value_length: feature.length,
+    };
     Ok(Accepted {
         header,
         text,
-        rows: features.iter().map(|f| [usize::from(f.tag), place(f.left), f.length]).collect(),
+        rows: features.iter().map(row).collect(),
         ends: Ends { header: place(message.len()), message: place(mark.len()), seal: seal.len() },
         signature: Part { place: place(raw.len()), length: raw.len() },
     })
@@ -204,13 +211,14 @@ pub fn judge(seal: &[u8]) -> Reading {
     parse(seal).map_or_else(refused, |accepted| accepted.reading())
 }
 
-/// Reads a seal: "a row (tag, value place, value length) per feature and the signer and reference text".
+/// Reads a seal: writes a row for each feature "and the signer and reference text". "Answer 12 is given below 4 numbers
+/// a feature."
 pub fn read(seal: &[u8], table: &mut [usize], text: &mut [u8]) -> Reading {
     let accepted = match parse(seal) {
         Ok(accepted) => accepted,
         Err(refusal) => return refused(refusal),
     };
-    let rows = accepted.rows.concat();
+    let rows = Row::table(&accepted.rows);
     if table.len() < rows.len() || text.len() < accepted.text.len() {
         return refused(Refusal::of(12));
     }

@@ -1,5 +1,5 @@
-//! The words of the numbers (document 01, "The numbers a call answers"; document 02, Ticket 1), without places and
-//! without what stands in brackets.
+//! The words of the numbers (document 01, "The numbers a call answers"; document 02, Tickets 1 and 10), without places
+//! and without what stands in brackets.
 
 use crate::{fill, Filled};
 
@@ -18,12 +18,12 @@ pub fn words(number: usize) -> &'static str {
         9 => "tag already used",
         10 => "signature length is not 56, 64, 96, 128 or 132",
         11 => "bytes after the signature",
-        12 => "seal good, but the lent table has under 3 numbers a feature, or the text room is under 4 + L",
+        12 => "seal good, but the lent table has under 4 numbers a feature, or the text room is under 4 + L",
         20 => "writer: version not 3 or 4",
         21 => "writer: country, signer or reference",
         22 => "writer: date",
         23 => "writer: definition reference or category",
-        24 => "writer: table not in threes, tag over 254 or used twice, or a value outside the values buffer",
+        24 => "writer: table not in fours, tag over 254 or used twice, or a value outside the values buffer",
         25 => "writer: value over 255 bytes in version 3",
         26 => "writer: signature length",
         27 => "writer: seal would pass 4,096",

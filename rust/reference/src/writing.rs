@@ -1,8 +1,8 @@
-//! The writer (document 01, "Layout" and "The numbers a call answers"): "20 to 28 in order".
+//! The writer (document 01, "Layout" and "The numbers a call answers"; document 02, Ticket 10): "20 to 28 in order".
 
 use std::collections::BTreeSet;
 
-use crate::{c40, dates, der, fill, names, Filled, Header, Refusal, LONGEST_SEAL, SIGNATURE_SIZES};
+use crate::{c40, dates, der, fill, names, Filled, Header, Refusal, Row, LONGEST_SEAL, SIGNATURE_SIZES};
 
 /// A feature as it is asked for: its tag and its value's bytes.
 type Feature<'a> = (u8, &'a [u8]);
@@ -33,17 +33,16 @@ fn last_bytes(header: &Header) -> Option<Vec<u8>> {
     both.iter().all(|number| (1..=254).contains(number)).then(|| both.map(|number| number as u8).to_vec())
 }
 
-/// The features of the table, or nothing (24): "table not in threes, tag over 254 or used twice, or a value outside the
-/// values buffer".
-fn features<'a>(rows: &[usize], values: &'a [u8]) -> Option<Vec<Feature<'a>>> {
+/// The features of the table, or nothing (24): "table not in fours, tag over 254 or used twice, or a value outside the
+/// values buffer". The writer "ignores the second number", the tag's place.
+fn features<'a>(table: &[usize], values: &'a [u8]) -> Option<Vec<Feature<'a>>> {
     let mut used = BTreeSet::new();
-    let rows_of_three = rows.chunks(3).map(|row| {
-        let &[tag, place, length] = row else { return None };
+    let features = Row::all(table)?.into_iter().map(|Row { tag, value_place, value_length, .. }| {
         let tag = u8::try_from(tag).ok().filter(|&tag| tag < 255 && used.insert(tag))?;
-        let value = values.get(place..place.checked_add(length)?)?;
+        let value = values.get(value_place..value_place.checked_add(value_length)?)?;
         Some((tag, value))
     });
-    rows_of_three.collect()
+    features.collect()
 }
 
 /// A feature's length: one plain byte in version 3, a DER length in version 4.

@@ -4,7 +4,7 @@ mod common;
 
 use std::collections::BTreeMap;
 
-use common::filled;
+use common::{filled, frames_are_features, rows};
 use reference::inputs::{answers, lent, lent_table, run, Answer, Call, Inputs, Outcome, Reference};
 use reference::*;
 
@@ -54,26 +54,29 @@ fn a_refusal_is_a_number_and_a_place() {
     }
 }
 
-/// An accepted seal, read and written anew out of its own bytes, is the same seal.
+/// An accepted seal, read and written anew out of its own bytes, is the same seal, and its rows frame its features.
 fn writes_back(seal: &[u8], outcome: &Outcome, reading: Reading) {
-    let (rows, text) = (3 * reading.count, 4 + reading.header.length);
+    let (rows, text) = (Row::WIDTH * reading.count, 4 + reading.header.length);
     assert_eq!(outcome.table[rows..], lent_table(outcome.table.len())[rows..]);
     assert_eq!(outcome.bytes[text..], lent(outcome.bytes.len())[text..]);
     let signature = &seal[reading.signature.place..][..reading.signature.length];
     let table = &outcome.table[..rows];
     let again = filled(seal.len(), |out| write(&reading.header, &outcome.bytes[..text], table, seal, signature, out));
     assert_eq!(again.as_deref(), Ok(seal));
+    frames_are_features(seal);
 }
 
 /// What is written reads back as the fields, tags, value bytes and signature given.
-fn reads_back(seal: &[u8], header: &Header, text: &[u8], rows: &[usize], values: &[u8], signature: &[u8]) {
-    let (mut table, mut names) = (vec![0; rows.len()], vec![0; text.len()]);
-    let reading = read(seal, &mut table, &mut names);
-    assert_eq!((reading.number, reading.header, reading.count), (0, *header, rows.len() / 3));
+fn reads_back(seal: &[u8], header: &Header, text: &[u8], table: &[usize], values: &[u8], signature: &[u8]) {
+    let given = Row::all(table).expect("a table in fours");
+    let (mut room, mut names) = (vec![0; table.len()], vec![0; text.len()]);
+    let reading = read(seal, &mut room, &mut names);
+    assert_eq!((reading.number, reading.header, reading.count), (0, *header, given.len()));
     assert_eq!(names, text);
-    for (given, found) in rows.chunks(3).zip(table.chunks(3)) {
-        assert_eq!(given[0], found[0]);
-        assert_eq!(values[given[1]..][..given[2]], seal[found[1]..][..found[2]]);
+    for (given, found) in given.iter().zip(rows(seal)) {
+        assert_eq!(given.tag, found.tag);
+        let value = &values[given.value_place..][..given.value_length];
+        assert_eq!(*value, seal[found.value_place..][..found.value_length]);
     }
     assert_eq!(seal[reading.signature.place..], *signature);
     assert_eq!(

@@ -2,9 +2,8 @@
 
 mod common;
 
-use common::{hex, pair, read, seal, seal_a, with, HEADER_A, HEADER_FOUR};
-use reference::inputs::{lent, lent_table};
-use reference::{judge, Reading};
+use common::{hex, pair, read, read_in, seal, seal_a, with, HEADER_A, HEADER_FOUR};
+use reference::judge;
 
 #[test]
 fn items_of_the_header_in_order() {
@@ -197,18 +196,10 @@ fn a_seal_has_at_most_4096_bytes() {
 #[test]
 fn room_is_looked_at_last() {
     let seal = seal(HEADER_A, "01 00 02 00");
-    let in_room = |rows, characters| {
-        let (mut table, mut text) = (lent_table(rows), lent(characters));
-        let answer = reference::read(&seal, &mut table, &mut text);
-        if answer.number == 12 {
-            assert_eq!(answer, Reading { number: 12, ..Reading::default() });
-            assert_eq!((table, text), (lent_table(rows), lent(characters)));
-        }
-        answer.number
-    };
-    let answers = [(6, 9, 0), (7, 9, 0), (8, 300, 0), (5, 9, 12), (6, 8, 12), (0, 0, 12), (3, 9, 12)];
-    for (rows, characters, number) in answers {
-        assert_eq!(in_room(rows, characters), number);
+    let answers = [(8, 9, 0), (9, 9, 0), (10, 300, 0), (7, 9, 12), (8, 8, 12), (0, 0, 12), (4, 9, 12), (6, 9, 12)];
+    for (numbers, characters, number) in answers {
+        let answer = read_in(&seal, numbers, characters).0;
+        assert_eq!((answer.number, answer.place), (number, 0));
     }
     let bad = [&seal[..], &[0]].concat();
     assert_eq!(reference::read(&bad, &mut [], &mut []).number, 11);

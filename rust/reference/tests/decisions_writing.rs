@@ -72,26 +72,27 @@ fn rows_of_the_table() {
     for wrong in [
         &[1][..],
         &[1, 0],
-        &[1, 0, 0, 2],
-        &[255, 0, 0],
-        &[266, 0, 0],
-        &[usize::MAX, 0, 0],
-        &[1, 0, 0, 2, 0, 0, 1, 0, 0],
+        &[1, 0, 0],
+        &[1, 0, 0, 0, 2],
+        &[255, 0, 0, 0],
+        &[266, 0, 0, 0],
+        &[usize::MAX, 0, 0, 0],
+        &[1, 0, 0, 0, 2, 0, 0, 0, 1, 0, 0, 0],
     ] {
         assert_eq!(rows(wrong), 24);
     }
     // Place plus length may equal the buffer's length and may not pass it.
     for (place, length, number) in [(300, 0, 0), (299, 1, 0), (45, 255, 0), (301, 0, 24), (300, 1, 24), (0, 301, 24)] {
-        assert_eq!(rows(&[0, place, length]), number);
+        assert_eq!(rows(&[0, 0, place, length]), number);
     }
     for (place, length) in [(usize::MAX, 1), (1, usize::MAX), (usize::MAX, usize::MAX), (usize::MAX, 0)] {
-        assert_eq!(rows(&[0, place, length]), 24);
+        assert_eq!(rows(&[0, 0, place, length]), 24);
     }
     // Rows may share bytes. All rows are judged for 24 before any for 25.
-    assert_eq!(rows(&[254, 0, 200, 0, 100, 200]), 0);
-    assert_eq!(rows(&[254, 0, 256, 0, 100, 200]), 25);
-    assert_eq!(rows(&[254, 0, 256, 254, 100, 200]), 24);
-    assert_eq!(rows(&[254, 0, 255]), 0);
+    assert_eq!(rows(&[254, 0, 0, 200, 0, 0, 100, 200]), 0);
+    assert_eq!(rows(&[254, 0, 0, 256, 0, 0, 100, 200]), 25);
+    assert_eq!(rows(&[254, 0, 0, 256, 254, 0, 100, 200]), 24);
+    assert_eq!(rows(&[254, 0, 0, 255]), 0);
 }
 
 #[test]
@@ -101,19 +102,19 @@ fn signature_size_and_room() {
         assert_eq!(written(header_a(), TEXT, &[], &[], &vec![1; length]), if good { 0 } else { 26 });
     }
     let four = Header { version: 4, ..header_a() };
-    assert_eq!(written(four, TEXT, &[7, 0, 4014], &[9; 5000], &SIGNATURE), 0);
-    assert_eq!(written(four, TEXT, &[7, 0, 4015], &[9; 5000], &SIGNATURE), 27);
-    let all: Vec<usize> = (0..255).flat_map(|tag| [tag, 0, 5000]).collect();
+    assert_eq!(written(four, TEXT, &[7, 0, 0, 4014], &[9; 5000], &SIGNATURE), 0);
+    assert_eq!(written(four, TEXT, &[7, 0, 0, 4015], &[9; 5000], &SIGNATURE), 27);
+    let all: Vec<usize> = (0..255).flat_map(|tag| [tag, 0, 0, 5000]).collect();
     assert_eq!(written(four, TEXT, &all, &[9; 5000], &SIGNATURE), 27);
-    assert_eq!(filled(4095, |out| write(&four, TEXT, &[7, 0, 4014], &[9; 5000], &SIGNATURE, out)), Err((28, 0)));
-    assert_eq!(filled(0, |out| write(&four, TEXT, &[7, 0, 4015], &[9; 5000], &SIGNATURE, out)), Err((27, 0)));
+    assert_eq!(filled(4095, |out| write(&four, TEXT, &[7, 0, 0, 4014], &[9; 5000], &SIGNATURE, out)), Err((28, 0)));
+    assert_eq!(filled(0, |out| write(&four, TEXT, &[7, 0, 0, 4015], &[9; 5000], &SIGNATURE, out)), Err((27, 0)));
 }
 
 #[test]
 fn the_first_number_in_order_is_given() {
     let mut header = Header { version: 9, country: *b"   ", definition: 0, ..header_a() };
     header.issued_on.day = 0;
-    let (table, values) = ([1, 0, 256, 300], [5; 5000]);
+    let (table, values) = ([1, 0, 0, 256, 300], [5; 5000]);
     assert_eq!(written(header, TEXT, &table, &values, &[]), 20);
     header.version = 3;
     assert_eq!(written(header, TEXT, &table, &values, &[]), 21);
@@ -123,10 +124,10 @@ fn the_first_number_in_order_is_given() {
     assert_eq!(written(header, TEXT, &table, &values, &[]), 23);
     header.definition = 1;
     assert_eq!(written(header, TEXT, &table, &values, &[]), 24);
-    assert_eq!(written(header, TEXT, &table[..3], &values, &[]), 25);
+    assert_eq!(written(header, TEXT, &table[..4], &values, &[]), 25);
     header.version = 4;
-    assert_eq!(written(header, TEXT, &[1, 0, 5000], &values, &[]), 26);
-    assert_eq!(written(header, TEXT, &[1, 0, 5000], &values, &SIGNATURE), 27);
+    assert_eq!(written(header, TEXT, &[1, 0, 0, 5000], &values, &[]), 26);
+    assert_eq!(written(header, TEXT, &[1, 0, 0, 5000], &values, &SIGNATURE), 27);
 }
 
 #[test]

@@ -128,19 +128,19 @@ fn signatures_of_the_document() {
 fn seal_a_is_read() {
     let seal = seal_a();
     assert_eq!(seal.len(), 82);
-    let (mut table, mut text) = (lent_table(5), lent(11));
+    let (mut table, mut text) = (lent_table(6), lent(11));
     let answer = reference::read(&seal, &mut table, &mut text);
     let ends = Ends { header: 18, message: 24, seal: 82 };
     let signature = Part { place: 26, length: 56 };
     assert_eq!(answer, Reading { number: 0, place: 0, header: header_a(), ends, signature, count: 1 });
-    assert_eq!(table, [&[10, 20, 4], &lent_table(5)[3..]].concat());
+    assert_eq!(table, [&[10, 18, 20, 4], &lent_table(6)[4..]].concat());
     assert_eq!(text, [&b"UTAB00001"[..], &lent(11)[9..]].concat());
 }
 
 #[test]
 fn seal_a_is_written() {
     let written = |room| {
-        filled(room, |out| write(&header_a(), b"UTAB00001", &[10, 1, 4], &hex("00 DE 51 58 26"), &[0xAA; 56], out))
+        filled(room, |out| write(&header_a(), b"UTAB00001", &[10, 0, 1, 4], &hex("00 DE 51 58 26"), &[0xAA; 56], out))
     };
     assert_eq!(written(100), Ok(seal_a()));
     assert_eq!(written(82), Ok(seal_a()));
@@ -204,7 +204,7 @@ fn words_of_the_numbers() {
     let with_words: Vec<usize> = (0..1000).filter(|&number| !words(number).is_empty()).collect();
     assert_eq!(with_words, list);
     assert_eq!(words(usize::MAX), "");
-    assert_eq!(list.iter().map(|&number| words(number).len()).max(), Some(93));
+    assert_eq!(list.iter().map(|&number| words(number).len()).max(), Some(92));
     assert_eq!(filled(16, |out| put_words(9, out)), Ok(b"tag already used".to_vec()));
     assert_eq!(filled(15, |out| put_words(9, out)), Err((63, 0)));
     assert_eq!(filled(0, |out| put_words(13, out)), Ok(vec![]));

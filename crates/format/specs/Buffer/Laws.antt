@@ -55,7 +55,7 @@ over-set out at p x h =
     set-over (over out at p) (at + length p) x (omega (arith, length-over out at p (omega arith)))
     ∙ over-over out at p (x ∷ []) (omega arith)
 
--- two stores in a row, and three
+-- two stores in a row, three, and four
 pub over-two : (out : List ℕ) (at x y : ℕ) → at + 2 ≤ length out → set (set out at x) (at + 1) y ≡ over out at (x ∷ y ∷ [])
 over-two out at x y h = ap (λ o. set o (at + 1) y) (set-over out at x (omega arith)) ∙ over-set out at (x ∷ []) y (omega arith)
 
@@ -64,6 +64,13 @@ pub over-three :
     at + 3 ≤ length out →
     set (set (set out at x) (at + 1) y) (at + 2) z ≡ over out at (x ∷ y ∷ z ∷ [])
 over-three out at x y z h = ap (λ o. set o (at + 2) z) (over-two out at x y (omega arith)) ∙ over-set out at (x ∷ y ∷ []) z (omega arith)
+
+pub over-four :
+    (out : List ℕ) (at w x y z : ℕ) →
+    at + 4 ≤ length out →
+    set (set (set (set out at w) (at + 1) x) (at + 2) y) (at + 3) z ≡ over out at (w ∷ x ∷ y ∷ z ∷ [])
+over-four out at w x y z h =
+    ap (λ o. set o (at + 3) z) (over-three out at w x y (omega arith)) ∙ over-set out at (w ∷ x ∷ y ∷ []) z (omega arith)
 
 -- Writes one after another from the start: these bytes stand there so far, up to a place, and the rest is as it was.
 pub record Held (entry out : List ℕ) (at : ℕ) (before : List ℕ) : Type 0 where

@@ -5,7 +5,7 @@ use native.Mathlib.Omega.{arith}
 use mathlib.Core.Path.{refl, _∙_}
 use denote.Ref.{now}
 use lib.ListN.{length-set}
-use Rattle.format.specs.Buffer.Laws.{over-three}
+use Rattle.format.specs.Buffer.Laws.{over-four}
 use Rattle.rows.specs.Rows.{numbers}
 use Rattle.rows.specs.Rows.Laws.{put-none, put-row}
 use Rattle.rows.proofs.put_row.Statement.{statement}
@@ -41,6 +41,15 @@ mul-table-3 c = search needs
 slice-write-table-3 : tie.Need-slice-write-table-3
 slice-write-table-3 c = simp length-set (omega arith)
 
+add-table-3 : tie.Need-add-table-3
+add-table-3 c = search needs
+
+mul-table-4 : tie.Need-mul-table-4
+mul-table-4 c = search needs
+
+slice-write-table-4 : tie.Need-slice-write-table-4
+slice-write-table-4 c = simp length-set (omega arith)
+
 same-length : tie.Need-same-length
 same-length c = search needs
 
@@ -48,7 +57,7 @@ returns-3 : tie.Need-returns-3
 unfolding numbers
 returns-3 c =
     let a = c .before .before .args in (
-      over-three (now (a .table)) (a .at) (a .row .tag) (a .row .place) (a .row .size) (omega arith)
+      over-four (now (a .table)) (a .at) (a .row .tag) (a .row .start) (a .row .place) (a .row .size) (omega arith)
           ∙ put-row (now (a .table)) (a .at) (a .row) (omega arith),
       (refl, refl),
     )
@@ -67,5 +76,8 @@ put-row-spec =
     add-table-2
     mul-table-3
     slice-write-table-3
+    add-table-3
+    mul-table-4
+    slice-write-table-4
     same-length
     returns-3)

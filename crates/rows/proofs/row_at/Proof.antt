@@ -8,6 +8,10 @@ use Rattle.rows.specs.Rows.Laws.{no-row, one-row}
 use Rattle.rows.proofs.row_at.Statement.{statement}
 use Rattle.rows.proofs.row_at.Tie as tie
 
+-- the place past both tests, from where all numbers of the row are read
+abbrev in-table : tie.After-shared-slice-known4 → tie.Else2
+in-table c = c .before .before .before .before
+
 returns : tie.Need-returns
 returns c = let a = c .before .args in no-row (now (a .table)) (a .at) (omega arith)
 
@@ -38,9 +42,18 @@ mul-t13 c = search needs
 shared-slice-read-t15 : tie.Need-shared-slice-read-t15
 shared-slice-read-t15 c = search needs
 
+add-t16 : tie.Need-add-t16
+add-t16 c = search needs
+
+mul-t17 : tie.Need-mul-t17
+mul-t17 c = search needs
+
+shared-slice-read-t19 : tie.Need-shared-slice-read-t19
+shared-slice-read-t19 c = search needs
+
 returns-3 : tie.Need-returns-3
 unfolding rowAt
-returns-3 c = let a = c .before .before .before .before .before .args in one-row (now (a .table)) (a .at) (omega arith)
+returns-3 c = let a = in-table c .before .before .args in one-row (now (a .table)) (a .at) (omega arith)
 
 pub row-at-spec : {M : Type 1} → statement M
 row-at-spec =
@@ -56,4 +69,7 @@ row-at-spec =
     add-t12
     mul-t13
     shared-slice-read-t15
+    add-t16
+    mul-t17
+    shared-slice-read-t19
     returns-3)

@@ -17,7 +17,7 @@ use Rattle.rows.specs.declared.Row.{Row}
 use Rattle.rows.specs.declared.Found.the-variants as found
 use Rattle.rows.specs.Rows.{width, numbers, rowAt, foundAt, rowPut, table, firstRows, rowsOf, Whole, isWhole}
 
--- What knows the numbers of a row and their order: these four laws, and none below.
+-- What knows the numbers of a row and their order: these four laws, and none below. (What a writer is told by them: Told.antt.)
 
 pub length-numbers : (r : Row) → length (numbers r) ≡ width
 unfolding numbers
@@ -36,14 +36,13 @@ past-row r t = refl
 row-there : (t : List ℕ) (at : ℕ) → at + width ≤ length t → drop at t ≡ numbers (rowAt t at) ++ drop (at + width) t
 unfolding numbers rowAt
 row-there t at h =
-    let one = at-place t at 0 (omega arith) in
-    let two = at-place t (at + 1) 0 (omega arith) in
-    let last = at-place t (at + 2) 0 (omega arith) in
-    let s : at + 1 + 1 ≡ at + 2 = omega arith in
-    let u : at + 2 + 1 ≡ at + width = omega arith in
-    one
+    let here : (i k : ℕ) → at + i < length t → at + i + 1 ≡ k → drop (at + i) t ≡ getD t (at + i) 0 ∷ drop k t =
+    λ i k below next. at-place t (at + i) 0 below ∙ ap (λ k. getD t (at + i) 0 ∷ drop k t) next in
+    at-place t at 0 (omega arith)
     ∙ ap (λ l. getD t at 0 ∷ l)
-    (two ∙ ap (λ l. getD t (at + 1) 0 ∷ l) (ap (λ k. drop k t) s ∙ last ∙ ap (λ k. getD t (at + 2) 0 ∷ drop k t) u))
+    (here 1 (at + 2) (omega arith) (omega arith)
+    ∙ ap (λ l. getD t (at + 1) 0 ∷ l)
+    (here 2 (at + 3) (omega arith) (omega arith) ∙ ap (λ l. getD t (at + 2) 0 ∷ l) (here 3 (at + width) (omega arith) (omega arith))))
 
 -- The rows of a table: a row in front, and none.
 

@@ -3,7 +3,7 @@
 use mathlib.Core.Path.{_≡_, ap, sym, subst, _∙_}
 use Prim.Native.Nat.{ℕ, _+_, _*_, _≤_}
 use native.Mathlib.Omega.{arith}
-use mathlib.Core.List.{List, [], _∷_, _++_, map, append-nil}
+use mathlib.Core.List.{List, [], _∷_, map}
 use mathlib.Core.Option.{some}
 use lib.ListN.{length, drop, length-append}
 use lib.Seq.{take-at, drop-at}
@@ -16,7 +16,7 @@ use Rattle.rows.specs.Rows.{width, table}
 use Rattle.rows.specs.Rows.Laws.{rows-of-table, length-table, table-whole}
 use Rattle.verdict.specs.Judge.{Report, accepted}
 use Rattle.verdict.specs.Judge.Complete.{reportOf}
-use Rattle.verdict.specs.Judge.Features.{rowsOf as rowsFrom, feature-parts}
+use Rattle.verdict.specs.Judge.Features.{rowsOf as rowsFrom, zone-size}
 use Rattle.verdict.specs.Report.{part, featureOf, contentOf as contentRead}
 use Rattle.reading.specs.Calls.{answerOf, text, then}
 use Rattle.write_given.specs.Given.{contentAs, contentOf}
@@ -80,20 +80,6 @@ content-again s r long three-long =
     said (again s r) (r .header .version) (number-back (r .header .version)) ∙ ap some (content-as s r long three-long)
 
 -- each value read stands inside the seal
-zone-size :
-    (v : Version) (f : Feature) (fs : List Feature) →
-    length (messageZone v (f ∷ fs)) ≡ 1 + length (lengthOf v (length (f .value))) + length (f .value) + length (messageZone v fs)
-zone-size v f fs =
-    let z = messageZone v fs in
-    let e = ap length (sym (append-nil (messageZone v (f ∷ fs))) ∙ feature-parts v f fs []) in
-    omega (
-      arith,
-      e,
-      length-append (lengthOf v (length (f .value))) (f .value ++ (z ++ [])),
-      length-append (f .value) (z ++ []),
-      length-append z [],
-    )
-
 rows-inside : (v : Version) (at n : ℕ) (fs : List Feature) → at + length (messageZone v fs) ≤ n → All (Inside n) (rowsFrom v at fs)
 unfolding rowsFrom
 rows-inside v at n [] h = tt

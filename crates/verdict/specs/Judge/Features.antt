@@ -47,7 +47,48 @@ pub feature-parts :
 unfolding messageZone
 feature-parts v f fs t = simp append-assoc
 
-zone-size :
+-- A feature that is published after p, and what follows it: where its length, its value and what follows begin.
+abbrev pub to-length : Feature → List ℕ → List ℕ
+to-length f p = p ++ (f .tag ∷ [])
+
+abbrev pub to-value : Version → Feature → List ℕ → List ℕ
+to-value v f p = to-length f p ++ lengthOf v (length (f .value))
+
+abbrev pub to-next : Version → Feature → List ℕ → List ℕ
+to-next v f p = to-value v f p ++ f .value
+
+pub record Parts (v : Version) (f : Feature) (rest p s : List ℕ) : Type 0 where
+  pub tag : s ≡ p ++ (f .tag ∷ (lengthOf v (length (f .value)) ++ (f .value ++ rest)))
+  pub sized : s ≡ to-length f p ++ (lengthOf v (length (f .value)) ++ (f .value ++ rest))
+  pub value : s ≡ to-value v f p ++ (f .value ++ rest)
+  pub next : s ≡ to-next v f p ++ rest
+  pub sized-place : length (to-length f p) ≡ length p + 1
+  pub value-place : length (to-value v f p) ≡ length p + 1 + length (lengthOf v (length (f .value)))
+  pub next-place : length (to-next v f p) ≡ length p + 1 + length (lengthOf v (length (f .value))) + length (f .value)
+
+pub parts :
+    (v : Version) (f : Feature) (fs : List Feature) (p t s : List ℕ) →
+    s ≡ p ++ (messageZone v (f ∷ fs) ++ t) →
+    Parts v f (messageZone v fs ++ t) p s
+parts v f fs p t s e =
+    let l = lengthOf v (length (f .value)) in
+    let rest = messageZone v fs ++ t in
+    let tag : s ≡ p ++ (f .tag ∷ (l ++ (f .value ++ rest))) = e ∙ ap (λ z. p ++ z) (feature-parts v f fs t) in
+    let sized : s ≡ to-length f p ++ (l ++ (f .value ++ rest)) = tag ∙ sym (append-assoc p (f .tag ∷ []) (l ++ (f .value ++ rest))) in
+    let value : s ≡ to-value v f p ++ (f .value ++ rest) = sized ∙ sym (append-assoc (to-length f p) l (f .value ++ rest)) in
+    let sized-place = length-append p (f .tag ∷ []) in
+    let value-place : length (to-value v f p) ≡ length p + 1 + length l = omega (arith, length-append (to-length f p) l, sized-place) in
+    record {
+      tag = tag;
+      sized = sized;
+      value = value;
+      next = value ∙ sym (append-assoc (to-value v f p) (f .value) rest);
+      sized-place = sized-place;
+      value-place = value-place;
+      next-place = omega (arith, length-append (to-value v f p) (f .value), value-place);
+    }
+
+pub zone-size :
     (v : Version) (f : Feature) (fs : List Feature) →
     length (messageZone v (f ∷ fs)) ≡ 1 + length (lengthOf v (length (f .value))) + length (f .value) + length (messageZone v fs)
 zone-size v f fs =
@@ -82,26 +123,24 @@ features-there (suc more) v (f ∷ fs) tags rows p t l fresh ff less small =
     let w = length (lengthOf v n) in
     let rest = messageZone v fs ++ (0xFF ∷ t) in
     let s = p ++ (messageZone v (f ∷ fs) ++ (0xFF ∷ t)) in
-    let p1 = p ++ (x ∷ []) in
-    let p2 = p1 ++ lengthOf v n in
-    let p3 = p2 ++ f .value in
-    let e0 : s ≡ p ++ (x ∷ (lengthOf v n ++ (f .value ++ rest))) = ap (λ z. p ++ z) (feature-parts v f fs (0xFF ∷ t)) in
-    let e1 : s ≡ p1 ++ (lengthOf v n ++ (f .value ++ rest)) = e0 ∙ sym (append-assoc p (x ∷ []) (lengthOf v n ++ (f .value ++ rest))) in
-    let e2 : s ≡ p2 ++ (f .value ++ rest) = e1 ∙ sym (append-assoc p1 (lengthOf v n) (f .value ++ rest)) in
-    let e3 : s ≡ p3 ++ rest = e2 ∙ sym (append-assoc p2 (f .value) rest) in
-    let l1 : length p1 ≡ length p + 1 = length-append p (x ∷ []) in
-    let l2 : length p2 ≡ length p + 1 + w = omega (arith, length-append p1 (lengthOf v n), l1) in
-    let l3 : length p3 ≡ length p + 1 + w + n = omega (arith, length-append p2 (f .value), l2) in
+    let p1 = to-length f p in
+    let p2 = to-value v f p in
+    let p3 = to-next v f p in
+    let q = parts v f fs p (0xFF ∷ t) s refl in
+    let l1 = q .sized-place in
+    let l2 = q .value-place in
+    let l3 = q .next-place in
     let zone : length (messageZone v (f ∷ fs)) ≡ 1 + w + n + length (messageZone v fs) = zone-size v f fs in
     let r : Row = rowOf x (length p) (length p + 1 + w) n in
     let i0 : byte (length p) s (tagIn rows (length p)) ≡ is x (length p + 1) =
-    ap (λ z. byte (length p) z (tagIn rows (length p))) e0 ∙ byte-there p x (lengthOf v n ++ (f .value ++ rest)) (tagIn rows (length p))
+    ap (λ z. byte (length p) z (tagIn rows (length p))) (q .tag)
+    ∙ byte-there p x (lengthOf v n ++ (f .value ++ rest)) (tagIn rows (length p))
     ∙ ap (λ b. pick b (not rule.NotUsedBefore (length p)) (is x (length p + 1))) (fresh x (l .1)) in
     let i1 : featureLength v (length p + 1) s ≡ is n (length p + 1 + w) =
-    ap (featureLength v (length p + 1)) e1 ∙ ap (λ k. featureLength v k (p1 ++ (lengthOf v n ++ (f .value ++ rest)))) (sym l1)
+    ap (featureLength v (length p + 1)) (q .sized) ∙ ap (λ k. featureLength v k (p1 ++ (lengthOf v n ++ (f .value ++ rest)))) (sym l1)
     ∙ feature-length-there v p1 n (f .value ++ rest) (omega arith) ∙ ap (λ k. is n (k + w)) l1 in
     let i2 : whole n (length p + 1 + w) s (valueIn x (length p) n (length p + 1 + w)) ≡ is r (length p + 1 + w + n) =
-    ap (λ z. whole n (length p + 1 + w) z (valueIn x (length p) n (length p + 1 + w))) e2
+    ap (λ z. whole n (length p + 1 + w) z (valueIn x (length p) n (length p + 1 + w))) (q .value)
     ∙ ap (λ k. whole n k (p2 ++ (f .value ++ rest)) (valueIn x (length p) n (length p + 1 + w))) (sym l2)
     ∙ whole-there n p2 (f .value) rest (valueIn x (length p) n (length p + 1 + w)) refl in
     let other : eqb x 0xFF ≡ false = ne-eqb x 0xFF (λ e. omega (arith, l .0)) in
@@ -110,7 +149,7 @@ features-there (suc more) v (f ∷ fs) tags rows p t l fresh ff less small =
     let ih = features-there more v fs (x ∷ tags) (rows ++ (r ∷ [])) p3 t (l .4) fresh′ ff′ (omega arith) (omega arith) in
     let last : features more v (rows ++ (r ∷ [])) (length p + 1 + w + n) s
     ≡ is (rows ++ (r ∷ rowsOf v (length p + 1 + w + n) fs)) (length p + length (messageZone v (f ∷ fs))) =
-    ap (features more v (rows ++ (r ∷ [])) (length p + 1 + w + n)) e3
+    ap (features more v (rows ++ (r ∷ [])) (length p + 1 + w + n)) (q .next)
     ∙ ap (λ k. features more v (rows ++ (r ∷ [])) k (p3 ++ rest)) (sym l3)
     ∙ ih
     ∙ ap (λ u. is u (length p3 + length (messageZone v fs))) (append-assoc rows (r ∷ []) (rowsOf v (length p3) fs))

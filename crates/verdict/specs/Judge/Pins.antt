@@ -10,13 +10,14 @@ use Rattle.c40.specs.Decode.{decode}
 use Rattle.dates.specs.Days.{isDay}
 use Rattle.der.specs.Length.{readLength, longForm}
 use Rattle.grammar.specs.Examples.{header-a, content-a, seal-a, header-b, signed-b, header-c, signed-c}
+use Rattle.rows.specs.Rows.{rowOf}
 use Rattle.verdict.specs.Judge.{Report, accepted, refused, header, tag, row, features, signature, reading, judging, judge}
 use Rattle.verdict.specs.Report.{contentOf}
 
 abbrev pub report-a : Report
 report-a = record {
   header = header-a;
-  rows = record { tag = 10; place = 20; size = 4 } ∷ [];
+  rows = rowOf 10 18 20 4 ∷ [];
   header-end = 18;
   message-end = 24;
   seal-end = 82;
@@ -59,7 +60,7 @@ b-accepted :
     ≡ accepted
     (record {
       header = header-b;
-      rows = record { tag = 254; place = 27; size = 128 } ∷ record { tag = 0; place = 157; size = 0 } ∷ [];
+      rows = rowOf 254 24 27 128 ∷ rowOf 0 155 157 0 ∷ [];
       header-end = 24;
       message-end = 157;
       seal-end = 288;
@@ -74,10 +75,7 @@ c-accepted :
     ≡ accepted
     (record {
       header = header-c;
-      rows =
-          record { tag = 254; place = 20; size = 128 } ∷ record { tag = 0; place = 150; size = 255 } ∷ record
-          { tag = 3; place = 407; size = 0 }
-          ∷ [];
+      rows = rowOf 254 18 20 128 ∷ rowOf 0 148 150 255 ∷ rowOf 3 405 407 0 ∷ [];
       header-end = 18;
       message-end = 407;
       seal-end = 542;

@@ -9,12 +9,12 @@ use lib.Seq.{take-at, drop-at}
 use Rattle.der.specs.Length.{form as derForm}
 use Rattle.grammar.specs.Content.{Version, Feature, Content}
 use Rattle.grammar.specs.Publish.{lengthOf, headerZone, messageZone, signatureZone, signedBytes, publish}
-use Rattle.verdict.specs.Judge.Features.{rowsOf, feature-parts}
+use Rattle.verdict.specs.Judge.Features.{rowsOf, to-value, to-next, parts}
 use Rattle.verdict.specs.Judge.Complete.{reportOf}
 use Rattle.verdict.specs.Report.{part, featureOf, contentOf}
 
 -- a part that stands after p
-part-there : (p b t s : List ℕ) (k : ℕ) → s ≡ p ++ (b ++ t) → length p ≡ k → part k (length b) s ≡ b
+pub part-there : (p b t s : List ℕ) (k : ℕ) → s ≡ p ++ (b ++ t) → length p ≡ k → part k (length b) s ≡ b
 part-there p b t s k e l = ap (λ z. part k (length b) z) e ∙ ap (take (length b)) (drop-at p (b ++ t) k l) ∙ take-at b t (length b) refl
 
 rows-back :
@@ -27,19 +27,10 @@ rows-back v [] p t s at e l = refl
 rows-back v (f ∷ fs) p t s at e l =
     let n = length (f .value) in
     let w = length (lengthOf v n) in
-    let rest = messageZone v fs ++ t in
-    let p1 = p ++ (f .tag ∷ []) in
-    let p2 = p1 ++ lengthOf v n in
-    let p3 = p2 ++ f .value in
-    let e1 : s ≡ p1 ++ (lengthOf v n ++ (f .value ++ rest)) =
-    e ∙ ap (λ z. p ++ z) (feature-parts v f fs t) ∙ sym (append-assoc p (f .tag ∷ []) (lengthOf v n ++ (f .value ++ rest))) in
-    let e2 : s ≡ p2 ++ (f .value ++ rest) = e1 ∙ sym (append-assoc p1 (lengthOf v n) (f .value ++ rest)) in
-    let e3 : s ≡ p3 ++ rest = e2 ∙ sym (append-assoc p2 (f .value) rest) in
-    let l2 : length p2 ≡ at + 1 + w = omega (arith, length-append p1 (lengthOf v n), length-append p (f .tag ∷ []), l) in
-    let l3 : length p3 ≡ at + 1 + w + n = omega (arith, length-append p2 (f .value), l2) in
-    let ih = rows-back v fs p3 t s (at + 1 + w + n) e3 l3 in
+    let q = parts v f fs p t s e in
+    let ih = rows-back v fs (to-next v f p) t s (at + 1 + w + n) (q .next) (omega (arith, q .next-place, l)) in
     ap (λ b. record { tag = f .tag; value = b } ∷ map (featureOf s) (rowsOf v (at + 1 + w + n) fs))
-    (part-there p2 (f .value) rest s (at + 1 + w) e2 l2)
+    (part-there (to-value v f p) (f .value) (messageZone v fs ++ t) s (at + 1 + w) (q .value) (omega (arith, q .value-place, l)))
     ∙ ap (λ u. f ∷ u) ih
 
 -- "and it is what the reader reports"

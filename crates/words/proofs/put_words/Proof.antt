@@ -1,4 +1,4 @@
--- `words::put_words` meets its contract: its page is the table's, and 93 is the length of the longest words.
+-- `words::put_words` meets its contract: its page is the table's, and 92 is the length of the longest words.
 -- Assumes nothing.
 use borrow.Author.Needs.{needs}
 use mathlib.Core.Path.{refl}

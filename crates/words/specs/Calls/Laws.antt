@@ -34,6 +34,6 @@ module _ (bytes out : List ℕ) where
       refl
       (e ∙ sym (copied-all bytes out 0 (omega arith)))
 
-pub longest : Longest 93
+pub longest : Longest 92
 unfolding sought
-longest = record { most = λ n. short-all 93 n table refl; one = 24; reached = refl }
+longest = record { most = λ n. short-all 92 n table refl; one = 24; reached = refl }

@@ -2,7 +2,7 @@
 
 use fenderrope::{judge, read, Feature, Reading, Refusal};
 use reference::inputs::{lent, Answer, Call, Outcome};
-use reference::Header;
+use reference::{Header, Row};
 
 use crate::lent::{bytes, numbers};
 use crate::types::header_in;
@@ -39,8 +39,23 @@ fn read_again(seal: &[u8], good: impl Fn(Reading) -> Result<(), String>) -> Resu
     expect(reading.verdict() == verdict && reading.seal() == seal, "judge and read differ")?;
     expect(reading.features().len() == verdict.count, "another count of features")?;
     expect(reading.features().all(|feature| reading.feature(feature.tag) == Some(feature)), "a feature is not found")?;
+    framed(reading)?;
     good(reading)?;
     expect(table.guards_stay() && text.guards_stay(), "memory was touched that was not lent")
+}
+
+/// The features lie one after another, from the header's end to the mark; each is whole from its tag's place to its
+/// value's end.
+fn framed(reading: Reading) -> Result<(), String> {
+    let (seal, ends) = (reading.seal(), reading.verdict().ends);
+    let mut end = ends.header;
+    for Feature { tag, tag_place, place, whole, value } in reading.features() {
+        expect(tag_place == end && usize::from(seal[tag_place]) == tag, "a tag that is not at its place")?;
+        end = place + value.len();
+        expect(*value == seal[place..end], "a value that is not at its place")?;
+        expect(*whole == seal[tag_place..end] && place > tag_place + 1, "a feature that is not whole")?;
+    }
+    expect(end == ends.message, "features that are not the message")
 }
 
 /// What the reader accepts writes back, given room, as the same bytes; and a room that is one short is refused.
@@ -73,10 +88,9 @@ fn written(
         expect(reading.header() == header_in(header), "another header is read back")?;
         expect([signer, reference].concat().as_bytes() == text, "other names are read back")?;
         expect(reading.signature() == signature, "another signature is read back")?;
-        let given = rows.chunks_exact(3).map(|row| (row[0], &values[row[1]..row[1] + row[2]]));
+        let given = Row::all(rows).ok_or("a table that is not in fours was written")?.into_iter();
+        let given = given.map(|row| (row.tag, &values[row.value_place..][..row.value_length]));
         let found = reading.features().map(|feature| (feature.tag, feature.value));
-        expect(given.eq(found), "other features are read back")?;
-        let at_its_place = |feature: Feature| seal[feature.place..].starts_with(feature.value);
-        expect(reading.features().all(at_its_place), "a value that is not at its place")
+        expect(given.eq(found), "other features are read back")
     })
 }

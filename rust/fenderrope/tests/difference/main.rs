@@ -8,19 +8,20 @@ mod days;
 mod lent;
 mod library;
 mod pairs;
+mod rows;
 mod show;
 mod types;
 mod words;
 mod wrapper;
 mod wrong;
 
-use std::collections::BTreeSet;
+use std::collections::{BTreeMap, BTreeSet};
 use std::env;
 use std::io::{stdout, Write};
 use std::time::Instant;
 
 use reference::inputs::{answers, run, Call, Inputs, Outcome, Reference};
-use show::Counts;
+use show::{Counts, Kind};
 
 /// A program that is compared with the reference: its outcome, or what it did that no program may.
 type Program<'a> = (&'a str, &'a dyn Fn(&Call) -> Result<Outcome, String>);
@@ -33,8 +34,8 @@ fn setting(name: &str, otherwise: u64) -> u64 {
     }
 }
 
-/// Puts drawn calls to the programs and to the reference; how often each answer was given, and the calendar or a pair
-/// decided, or the first difference.
+/// Puts drawn calls to the programs and to the reference; how often each answer was given, how often the calendar, a
+/// pair or a row decided, or the first difference.
 fn compare(seed: u64, count: u64, programs: &[Program]) -> Result<Counts, String> {
     let (mut inputs, mut counts) = (Inputs::new(seed), Counts::default());
     for at in 0..count {
@@ -49,6 +50,9 @@ fn compare(seed: u64, count: u64, programs: &[Program]) -> Result<Counts, String
         }
         for kind in pairs::decided(&call, &expected) {
             *counts.pairs.entry(kind).or_default() += 1;
+        }
+        for (kind, times) in rows::decided(&call, &expected) {
+            *counts.rows.entry(kind).or_default() += times;
         }
     }
     Ok(counts)
@@ -83,6 +87,16 @@ fn the_library_answers_as_the_reference_does() {
     for decided in [days::PAST_ITS_MONTH, days::LEAP_DAY] {
         assert_eq!(counts.dates[decided].len(), 5, "a date {decided}: not by every call that takes dates");
     }
-    let pairs = pairs::ALL.iter().flat_map(|(refusal, kinds)| kinds.iter().map(|kind| (*refusal, *kind)));
-    assert_eq!(counts.pairs.into_keys().collect::<BTreeSet<_>>(), pairs.collect(), "not every kind of faulty pair");
+    assert_eq!(seen(counts.pairs), all(&pairs::ALL), "not every kind of faulty pair");
+    assert_eq!(seen(counts.rows), all(&rows::ALL), "not every kind of row or room");
+}
+
+/// The kinds that were counted at least once.
+fn seen(counts: BTreeMap<Kind, u64>) -> BTreeSet<Kind> {
+    counts.into_iter().filter(|(_, times)| *times > 0).map(|(kind, _)| kind).collect()
+}
+
+/// All kinds of a list.
+fn all(list: &[(&'static str, &[&'static str])]) -> BTreeSet<Kind> {
+    list.iter().flat_map(|(answer, kinds)| kinds.iter().map(|kind| (*answer, *kind))).collect()
 }

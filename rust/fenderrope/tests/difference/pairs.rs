@@ -6,6 +6,8 @@ use std::ops::Range;
 use reference::inputs::{Call, Outcome};
 use reference::{c40_read, c40_write, judge, Filled};
 
+use crate::show::Kind;
+
 /// The text items of the header, refused with 5.
 const COUNTRY: &str = "5 country";
 pub const NINE: &str = "5 nine characters";
@@ -33,9 +35,6 @@ const THEN_FE: &str = "then FE";
 pub const BEFORE: &str = "character before";
 const BEHIND: &str = "character behind";
 const ALONE: &str = "character alone";
-
-/// A refusal and what is counted of it.
-pub type Kind = (&'static str, &'static str);
 
 /// What is counted of each of the codec's three refusals.
 const IN_TEXT: [&str; 7] = [ONLY, FIRST, MIDDLE, LAST, THEN_VALUE, THEN_SHIFT, THEN_FE];

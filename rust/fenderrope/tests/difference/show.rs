@@ -4,17 +4,22 @@ use std::collections::BTreeMap;
 
 use reference::inputs::{Call, Outcome};
 
-use crate::pairs;
+use crate::{pairs, rows};
 
 /// How often, by call.
 type ByCall = BTreeMap<&'static str, u64>;
 
-/// How often each call gave each number, how often the calendar decided, and how often a pair or a character did.
+/// An answer, and what is counted of it.
+pub type Kind = (&'static str, &'static str);
+
+/// How often each call gave each number, how often the calendar decided, how often a pair or a character did, and how
+/// often the tag's place in a row mattered.
 #[derive(Debug, Default)]
 pub struct Counts {
     pub answers: BTreeMap<usize, ByCall>,
     pub dates: BTreeMap<&'static str, ByCall>,
-    pub pairs: BTreeMap<pairs::Kind, u64>,
+    pub pairs: BTreeMap<Kind, u64>,
+    pub rows: BTreeMap<Kind, u64>,
 }
 
 fn hex(bytes: &[u8]) -> String {
@@ -54,7 +59,7 @@ pub fn outcome(outcome: &Outcome) -> String {
 }
 
 /// One line for each number: how often it was given, and by which calls. Then the same for what the calendar decided,
-/// and for each refusal of a pair or a character where it stood and what was wrong.
+/// for each refusal of a pair or a character where it stood and what was wrong, and what was counted of rows.
 pub fn counts(counts: &Counts) -> String {
     let times = |by_call: &ByCall| {
         let calls: Vec<_> = by_call.iter().map(|(name, count)| format!("{name} {count}")).collect();
@@ -62,10 +67,14 @@ pub fn counts(counts: &Counts) -> String {
     };
     let answers = counts.answers.iter().map(|(number, by_call)| format!("{number:6} {}", times(by_call)));
     let dates = counts.dates.iter().map(|(decided, by_call)| format!("date {decided}\n       {}", times(by_call)));
-    let pairs = pairs::ALL.iter().map(|(refusal, kinds)| {
-        let times = |kind| counts.pairs.get(&(*refusal, kind)).unwrap_or(&0);
-        let kinds: Vec<_> = kinds.iter().map(|kind| format!("{kind} {}", times(kind))).collect();
-        format!("pair {refusal}\n       {}\n", kinds.join(", "))
-    });
-    answers.chain(dates).chain(pairs).collect()
+    let pairs = pairs::ALL.iter().map(|(answer, kinds)| format!("pair {}", by_kind(answer, kinds, &counts.pairs)));
+    let rows = rows::ALL.iter().map(|(answer, kinds)| format!("row {}", by_kind(answer, kinds, &counts.rows)));
+    answers.chain(dates).chain(pairs).chain(rows).collect()
+}
+
+/// An answer, and a line of how often each kind of it was counted.
+fn by_kind(answer: &'static str, kinds: &[&'static str], counts: &BTreeMap<Kind, u64>) -> String {
+    let times = |kind| counts.get(&(answer, kind)).unwrap_or(&0);
+    let kinds: Vec<_> = kinds.iter().map(|&kind| format!("{kind} {}", times(kind))).collect();
+    format!("{answer}\n       {}\n", kinds.join(", "))
 }

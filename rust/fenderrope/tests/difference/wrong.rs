@@ -3,7 +3,7 @@
 use std::ops::RangeInclusive;
 
 use reference::inputs::{run, Answer, Call, Outcome, Reference};
-use reference::{Date, Dated, Reading};
+use reference::{Date, Dated, Filled, Reading, Row};
 
 use crate::{compare, pairs};
 
@@ -110,10 +110,57 @@ fn a_byte_changed_on_a_refusal_is_noticed() {
 fn a_number_changed_past_the_rows_is_noticed() {
     let fault = |_: &Call, outcome: &mut Outcome| {
         if let Answer::Reading(Reading { number: 0, count, .. }) = outcome.answer {
-            outcome.table.iter_mut().skip(3 * count).for_each(|one| *one = 0);
+            outcome.table.iter_mut().skip(Row::WIDTH * count).for_each(|one| *one = 0);
         }
     };
     noticed(fault, "number: 0");
+}
+
+/// A program that changes each row that it read.
+fn changes_rows(change: impl Fn(&mut Row)) -> impl Fn(&Call, &mut Outcome) {
+    move |_, outcome| {
+        let Answer::Reading(Reading { number: 0, count, .. }) = outcome.answer else { return };
+        for numbers in outcome.table.chunks_exact_mut(Row::WIDTH).take(count) {
+            let mut row = Row::of(numbers).expect("a whole row");
+            change(&mut row);
+            numbers.copy_from_slice(&row.numbers());
+        }
+    }
+}
+
+#[test]
+fn exchanged_places_of_tag_and_value_are_noticed() {
+    noticed(changes_rows(|row| std::mem::swap(&mut row.tag_place, &mut row.value_place)), "number: 0");
+}
+
+#[test]
+fn a_tags_place_one_on_is_noticed() {
+    noticed(changes_rows(|row| row.tag_place += 1), "number: 0");
+}
+
+/// A program that reads a seal, and changes nothing, in a room of three numbers a feature.
+#[test]
+fn a_room_of_three_numbers_a_feature_is_noticed() {
+    let fault = |call: &Call, outcome: &mut Outcome| {
+        let (Call::Read { seal, table_room, .. }, (12, _)) = (call, outcome.answer.told()) else { return };
+        let verdict = reference::judge(seal);
+        if *table_room == (Row::WIDTH - 1) * verdict.count {
+            outcome.answer = Answer::Reading(verdict);
+        }
+    };
+    noticed(fault, "number: 12");
+}
+
+/// A program that refuses a tag's place outside of the values.
+#[test]
+fn a_judged_second_number_is_noticed() {
+    let fault = |call: &Call, outcome: &mut Outcome| {
+        let (Call::Write { rows, values, .. }, (0, _)) = (call, outcome.answer.told()) else { return };
+        if Row::all(rows).is_some_and(|rows| rows.iter().any(|row| row.tag_place > values.len())) {
+            outcome.answer = Answer::Filled(Filled { number: 24, ..Filled::default() });
+        }
+    };
+    noticed(fault, "number: 24");
 }
 
 #[test]

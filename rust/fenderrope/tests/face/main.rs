@@ -1,6 +1,6 @@
 //! The face in three texts: include/fenderrope.h, the Rattle sources of the calls, and this crate's declarations of
 //! them. They agree in every name, in the order and width of fields and parameters, and in what is lent for writing.
-//! The sizes and the numbers' names are compared too.
+//! The sizes, the numbers of a row and the names of the answers are compared too.
 //! The layout in memory is asserted where the structs stand, in src/layout.rs and in the C test, by the same numbers.
 
 mod doctored;
@@ -83,6 +83,11 @@ fn the_sizes_are_those_of_the_header() {
         ("FR_CHARACTERS_MOST", fenderrope::CHARACTERS_MOST),
         ("FR_INTEGER_MOST", fenderrope::INTEGER_MOST),
         ("FR_WORDS_MOST", fenderrope::WORDS_MOST),
+        ("FR_ROW", fenderrope::ROW),
+        ("FR_ROW_TAG", fenderrope::ROW_TAG),
+        ("FR_ROW_TAG_PLACE", fenderrope::ROW_TAG_PLACE),
+        ("FR_ROW_VALUE_PLACE", fenderrope::ROW_VALUE_PLACE),
+        ("FR_ROW_VALUE_LENGTH", fenderrope::ROW_VALUE_LENGTH),
     ];
     let ours = ours.map(|(name, size)| (name.to_string(), size.to_string()));
     let mut defined = header::defined(&header_text());
@@ -102,7 +107,7 @@ fn the_numbers_have_the_names_of_the_header() {
 #[test]
 fn a_seal_is_read_through_these_declarations() {
     let seal = seal_a();
-    let (mut table, mut text) = ([7; 5], [7; 11]);
+    let (mut table, mut text) = ([7; 6], [7; 11]);
     let reading = fenderrope::plain::read(&seal, &mut table, &mut text);
     let date = fenderrope::Date { month: 3, day: 25, year: 1957 };
     assert_eq!((reading.number, reading.place, reading.count), (0, 0, 1));
@@ -111,7 +116,7 @@ fn a_seal_is_read_through_these_declarations() {
     assert_eq!((reading.header.definition, reading.header.category), (1, 2));
     assert_eq!((reading.ends.header, reading.ends.message, reading.ends.seal), (18, 24, 82));
     assert_eq!((reading.signature.place, reading.signature.length), (26, 56));
-    assert_eq!((table, &text), ([10, 20, 4, 7, 7], b"UTAB00001\x07\x07"));
+    assert_eq!((table, &text), ([10, 18, 20, 4, 7, 7], b"UTAB00001\x07\x07"));
 }
 
 /// Seal A of the tender.

@@ -21,7 +21,7 @@ mod writer;
 
 pub use outcome::{lent, lent_table, run, Answer, Base, Outcome, Reference};
 
-use crate::{Date, Header, LONGEST_SEAL};
+use crate::{Date, Header, Row, LONGEST_SEAL};
 use random::Random;
 use seals::Draft;
 
@@ -99,7 +99,7 @@ impl Inputs {
     }
 }
 
-/// A legal seal or a damaged one, or no seal at all, and the rooms that the draft behind it needs.
+/// A legal seal or a damaged one, or no seal at all, and how many features and characters the draft behind it has.
 fn seal(random: &mut Random) -> (Vec<u8>, usize, usize) {
     let mut draft = Draft::legal(random);
     if random.one_in(100) {
@@ -115,7 +115,7 @@ fn seal(random: &mut Random) -> (Vec<u8>, usize, usize) {
         }
         _ => noise(random),
     };
-    (seal, 3 * draft.features.len(), draft.signer.len() + draft.reference.len())
+    (seal, draft.features.len(), draft.signer.len() + draft.reference.len())
 }
 
 /// Bytes drawn blindly, some with a front that takes them further.
@@ -129,13 +129,24 @@ fn noise(random: &mut Random) -> Vec<u8> {
 
 /// A reading in rooms that are mostly enough.
 fn read(random: &mut Random) -> Call {
-    let (seal, rows, text) = seal(random);
-    let (table_room, text_room) = match random.below(8) {
-        0 => (random.room(rows), random.room(text)),
-        1 => (random.room(rows), text),
-        2 => (rows, random.room(text)),
-        3 => (rows, text),
+    let (seal, features, text) = seal(random);
+    let rows = Row::WIDTH * features;
+    let (table_room, text_room) = match random.below(9) {
+        0 => (room_for_rows(random, features), random.room(text)),
+        1 | 2 => (room_for_rows(random, features), text),
+        3 => (rows, random.room(text)),
+        4 => (rows, text),
         _ => (rows + random.below(8), text + random.below(8)),
     };
     Call::Read { seal, table_room, text_room }
+}
+
+/// A room for the rows of so many features: of any kind, or for rows of which all or some are a number short.
+fn room_for_rows(random: &mut Random, features: usize) -> usize {
+    let all_short = (Row::WIDTH - 1) * features;
+    match random.below(4) {
+        0 => all_short,
+        1 => all_short + random.below(features),
+        _ => random.room(Row::WIDTH * features),
+    }
 }

@@ -154,6 +154,17 @@ impl Draft {
         join(&self.pieces())
     }
 
+    /// The places of the tags, in the seal's order.
+    pub fn tag_places(&self) -> Vec<usize> {
+        let mut places = Vec::new();
+        let mut place = 0;
+        for (kind, bytes) in self.pieces() {
+            places.extend((kind == Kind::Tag).then_some(place));
+            place += bytes.len();
+        }
+        places
+    }
+
     /// The header as the writer takes it.
     pub fn header(&self) -> Header {
         Header {

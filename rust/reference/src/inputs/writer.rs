@@ -1,15 +1,18 @@
 //! What the writer is asked for: legal contents, and damaged ones for each of its answers, alone and several at once.
 
+use std::iter;
+
 use super::random::Random;
 use super::seals::Draft;
 use super::{days, Call};
-use crate::{Header, LONGEST_SEAL};
+use crate::{Header, Row, LONGEST_SEAL};
 
-/// The arguments of one writing.
+/// The arguments of one writing, and whether the table of the rows is to be in fours.
 struct Asked {
     header: Header,
     text: Vec<u8>,
-    rows: Vec<usize>,
+    rows: Vec<Row>,
+    in_fours: bool,
     values: Vec<u8>,
     signature: Vec<u8>,
     room: usize,
@@ -29,7 +32,9 @@ pub(super) fn call(random: &mut Random) -> Call {
     for _ in 0..times {
         damage(random, &mut asked);
     }
-    let Asked { header, text, rows, values, signature, room } = asked;
+    put_tag_places(random, &draft, &mut asked.rows);
+    let Asked { header, text, rows, in_fours, values, signature, room } = asked;
+    let rows = if in_fours { Row::table(&rows) } else { no_fours(random, &rows) };
     Call::Write { header, text, rows, values, signature, room }
 }
 
@@ -46,14 +51,20 @@ fn ask(random: &mut Random, draft: &Draft) -> Asked {
         header: draft.header(),
         text: [&draft.signer[..], &draft.reference].concat(),
         rows,
+        in_fours: true,
         values,
         signature: draft.signature.clone(),
         room,
     }
 }
 
+/// A row for a value at a place of the buffer; the tag's place is put in later.
+fn row_of(tag: usize, value_place: usize, value_length: usize) -> Row {
+    Row { tag, value_place, value_length, ..Row::default() }
+}
+
 /// The values in a buffer: one after another, in the other order with bytes between, or all out of shared bytes.
-fn lay_out(random: &mut Random, draft: &Draft) -> (Vec<usize>, Vec<u8>) {
+fn lay_out(random: &mut Random, draft: &Draft) -> (Vec<Row>, Vec<u8>) {
     let longest = draft.features.iter().map(|feature| feature.1.len()).max().unwrap_or(0);
     let (mut rows, mut values) = (Vec::new(), Vec::new());
     match random.below(4) {
@@ -61,14 +72,15 @@ fn lay_out(random: &mut Random, draft: &Draft) -> (Vec<usize>, Vec<u8>) {
             let spare = random.below(5);
             values = random.bytes(longest + spare);
             for (tag, value) in &draft.features {
-                rows.extend([usize::from(*tag), random.within(0, values.len() - value.len()), value.len()]);
+                let place = random.within(0, values.len() - value.len());
+                rows.push(row_of(usize::from(*tag), place, value.len()));
             }
         }
         1 => {
             for (tag, value) in draft.features.iter().rev() {
                 let gap = random.below(3);
                 values.extend(random.bytes(gap));
-                rows.splice(0..0, [usize::from(*tag), values.len(), value.len()]);
+                rows.insert(0, row_of(usize::from(*tag), values.len(), value.len()));
                 values.extend(value);
             }
             let gap = random.below(3);
@@ -76,12 +88,23 @@ fn lay_out(random: &mut Random, draft: &Draft) -> (Vec<usize>, Vec<u8>) {
         }
         _ => {
             for (tag, value) in &draft.features {
-                rows.extend([usize::from(*tag), values.len(), value.len()]);
+                rows.push(row_of(usize::from(*tag), values.len(), value.len()));
                 values.extend(value);
             }
         }
     }
     (rows, values)
+}
+
+/// Puts the tags' places into the rows, which the writer ignores: all as the draft has them, or each as it comes.
+fn put_tag_places(random: &mut Random, draft: &Draft, rows: &mut [Row]) {
+    let all_true = random.one_in(4);
+    let places = draft.tag_places().into_iter().chain(iter::repeat(LONGEST_SEAL));
+    for (row, place) in rows.iter_mut().zip(places) {
+        let (small, any) = (random.below(LONGEST_SEAL), random.number() as usize);
+        let drawn = [place, place + 1, row.value_place, row.tag, 0, 1, small, any, 1 << 32, MAX / 2 + 1, MAX - 1, MAX];
+        row.tag_place = if all_true { place } else { random.pick(&drawn) };
+    }
 }
 
 /// One damage, meant for the answer that stands beside it; some leave the content legal.
@@ -96,7 +119,7 @@ fn damage(random: &mut Random, asked: &mut Asked) {
         7 => asked.header.signed_on = days::about(random),                          // 22
         8 => asked.header.definition = random.pick(&[0, 255, 256, 257, 510, MAX]),  // 23
         9 => asked.header.category = random.pick(&[0, 255, 256, 257, 510, MAX]),    // 23
-        10 => threes(random, &mut asked.rows),                                      // 24
+        10 => asked.in_fours = false,                                               // 24
         11 | 12 => row(random, &mut asked.rows, asked.values.len()),                // 24
         13 => long_value(random, asked),                                            // 25
         14 => {
@@ -146,38 +169,41 @@ fn other_length(random: &mut Random, length: usize) -> usize {
     random.pick(&[length.wrapping_add(1), length.wrapping_sub(1), length.wrapping_add(256), 0, 256, MAX])
 }
 
-/// A table that is not in threes.
-fn threes(random: &mut Random, rows: &mut Vec<usize>) {
-    match random.below(3) {
-        0 => rows.push(7),
-        1 => rows.extend([7, 0]),
-        _ => {
-            rows.pop();
-        }
+/// A table that is not in fours: numbers too many, numbers too few, or rows of three, without the tags' places.
+fn no_fours(random: &mut Random, rows: &[Row]) -> Vec<usize> {
+    let mut table = Row::table(rows);
+    let count = random.within(1, Row::WIDTH - 1);
+    match random.below(4) {
+        0 => table.extend((0..count).map(|_| random.below(255))),
+        1 => table.truncate(table.len().saturating_sub(count)),
+        _ => table = rows.iter().flat_map(|row| [row.tag, row.value_place, row.value_length]).collect(),
     }
+    table
 }
 
-/// A row with a wrong tag, or a value at or past the end of the buffer. Where there is no row, one is put in.
-fn row(random: &mut Random, rows: &mut Vec<usize>, end: usize) {
-    if rows.len() < 6 {
-        rows.splice(0..0, [random.below(255), 0, 0, random.below(255), 0, 0]);
+/// A row with a wrong tag, or a value at or past the end of the buffer. Where there are not two, two are put in.
+fn row(random: &mut Random, rows: &mut Vec<Row>, end: usize) {
+    if rows.len() < 2 {
+        rows.splice(0..0, [row_of(random.below(255), 0, 0), row_of(random.below(255), 0, 0)]);
     }
-    let at = 3 * random.below(rows.len() / 3);
-    let other = rows[3 * random.below(rows.len() / 3)];
+    let (at, other) = (random.below(rows.len()), random.pick(rows));
+    let row = &mut rows[at];
+    let (mut place, mut length) = (row.value_place, row.value_length);
     match random.below(10) {
-        0 => rows[at] = random.pick(&[255, 256, 510, MAX]),
-        1 => rows[at] = rows[at].wrapping_add(256),
-        2 | 3 => rows[at] = other,
-        4 => (rows[at + 1], rows[at + 2]) = (end, random.pick(&[0, 0, 1])),
-        5 => (rows[at + 1], rows[at + 2]) = (end + 1, random.pick(&[0, 0, MAX])),
-        6 => rows[at + 2] = end.wrapping_sub(rows[at + 1]).wrapping_add(random.pick(&[0, 1])),
+        0 => row.tag = random.pick(&[255, 256, 510, MAX]),
+        1 => row.tag = row.tag.wrapping_add(256),
+        2 | 3 => row.tag = other.tag,
+        4 => (place, length) = (end, random.pick(&[0, 0, 1])),
+        5 => (place, length) = (end + 1, random.pick(&[0, 0, MAX])),
+        6 => length = end.wrapping_sub(place).wrapping_add(random.pick(&[0, 1])),
         7 => {
-            (rows[at + 1], rows[at + 2]) =
-                (random.pick(&[MAX, MAX - 1, MAX / 2 + 1]), random.pick(&[0, 1, 2, MAX / 2 + 1, MAX]))
+            place = random.pick(&[MAX, MAX - 1, MAX / 2 + 1]);
+            length = random.pick(&[0, 1, 2, MAX / 2 + 1, MAX]);
         }
-        8 => (rows[at + 1], rows[at + 2]) = (random.below(end + 1), random.pick(&[MAX, MAX - 1, MAX - end, 1 << 32])),
-        _ => rows[at + 1] = rows[at + 1].wrapping_add(random.within(1, 300)),
+        8 => (place, length) = (random.below(end + 1), random.pick(&[MAX, MAX - 1, MAX - end, 1 << 32])),
+        _ => place = place.wrapping_add(random.within(1, 300)),
     }
+    (row.value_place, row.value_length) = (place, length);
 }
 
 /// A value of 255 bytes, which version 3 may have, or of 256 and more, which it may not.
@@ -186,12 +212,12 @@ fn long_value(random: &mut Random, asked: &mut Asked) {
     let place = asked.values.len();
     let more = random.bytes(length);
     asked.values.extend(more);
-    if random.one_in(4) || asked.rows.len() < 3 {
-        asked.rows = vec![random.below(255), place, length];
+    if random.one_in(4) || asked.rows.is_empty() {
+        asked.rows = vec![row_of(random.below(255), place, length)];
         return;
     }
-    let at = 3 * random.below(asked.rows.len() / 3);
-    (asked.rows[at + 1], asked.rows[at + 2]) = (place, length);
+    let at = random.below(asked.rows.len());
+    (asked.rows[at].value_place, asked.rows[at].value_length) = (place, length);
 }
 
 /// Values that together pass the longest seal, most of them out of the same bytes.
@@ -200,5 +226,5 @@ fn too_long(random: &mut Random, asked: &mut Asked) {
         random.pick(&[(1, 4096), (1, 70_000), (17, 255), (255, 255), (40, 100), (200, 18), (255, 5000)]);
     let first = random.below(255 - count + 1);
     asked.values = vec![random.byte(); length];
-    asked.rows = (first..first + count).flat_map(|tag| [tag, 0, length]).collect();
+    asked.rows = (first..first + count).map(|tag| row_of(tag, 0, length)).collect();
 }

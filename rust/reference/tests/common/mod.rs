@@ -2,7 +2,7 @@
 #![allow(dead_code)]
 
 use reference::inputs::{lent, lent_table};
-use reference::{Date, Filled, Header, Reading};
+use reference::{Date, Filled, Header, Reading, Row};
 
 /// Bytes from hexadecimal digits; spaces do not matter.
 pub fn hex(digits: &str) -> Vec<u8> {
@@ -45,16 +45,63 @@ pub fn with(bytes: &[u8], place: usize, new: &str) -> Vec<u8> {
     bytes
 }
 
-/// Number and place of a reading that lends much room; a refusal must leave all of it, and every other field must be 0.
+/// Number and place of a reading that lends much room, as the judge gives them.
 pub fn read(seal: &[u8]) -> (usize, usize) {
-    let (mut table, mut text) = (lent_table(800), lent(300));
-    let answer = reference::read(seal, &mut table, &mut text);
+    let answer = read_in(seal, 256 * Row::WIDTH, 300).0;
     assert_eq!(answer, reference::judge(seal));
-    if answer.number != 0 {
-        assert_eq!((table, text), (lent_table(800), lent(300)));
-        assert_eq!(answer, Reading { number: answer.number, place: answer.place, ..Reading::default() });
-    }
     (answer.number, answer.place)
+}
+
+/// A reading in a room for so many numbers and so many characters, and the table after it. Memory past what is written
+/// must stay; a refusal must leave all of it, and every other field must be 0.
+pub fn read_in(seal: &[u8], numbers: usize, characters: usize) -> (Reading, Vec<usize>) {
+    let (mut table, mut text) = (lent_table(numbers), lent(characters));
+    let answer = reference::read(seal, &mut table, &mut text);
+    let (rows, names) = if answer.number == 0 {
+        (Row::WIDTH * answer.count, 4 + answer.header.length)
+    } else {
+        assert_eq!(answer, Reading { number: answer.number, place: answer.place, ..Reading::default() });
+        (0, 0)
+    };
+    assert_eq!(table[rows..], lent_table(numbers)[rows..]);
+    assert_eq!(text[names..], lent(characters)[names..]);
+    (answer, table)
+}
+
+/// The rows of an accepted seal, out of just enough room.
+pub fn rows(seal: &[u8]) -> Vec<Row> {
+    let verdict = reference::judge(seal);
+    let (answer, table) = read_in(seal, Row::WIDTH * verdict.count, 4 + verdict.header.length);
+    assert_eq!((answer.number, answer), (0, verdict));
+    Row::all(&table).expect("whole rows")
+}
+
+/// The rows frame the features: from the header's end to FF, one after another and nothing between, each from its tag's
+/// place to its value's end as it is published.
+pub fn frames_are_features(seal: &[u8]) {
+    let Reading { header, ends, .. } = reference::judge(seal);
+    let mut end = ends.header;
+    for row in rows(seal) {
+        assert_eq!(row.tag_place, end);
+        assert_eq!(usize::from(seal[row.tag_place]), row.tag);
+        end = row.value_place + row.value_length;
+        let value = &seal[row.value_place..end];
+        assert_eq!(seal[row.tag_place..end], published(header.version, seal[row.tag_place], value));
+    }
+    assert_eq!((end, seal[end]), (ends.message, 0xFF));
+}
+
+/// A feature's bytes: tag, length, value. "A feature's length is one plain byte in version 3 and a DER length in
+/// version 4."
+pub fn published(version: usize, tag: u8, value: &[u8]) -> Vec<u8> {
+    let [.., high, low] = value.len().to_be_bytes();
+    let length = match value.len() {
+        0..=127 => vec![low],
+        _ if version == 3 => vec![low],
+        128..=255 => vec![0x81, low],
+        _ => vec![0x82, high, low],
+    };
+    [&[tag][..], &length, value].concat()
 }
 
 /// What a call that fills a buffer says and writes in a room; memory past what is written must stay.

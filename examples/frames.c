@@ -1,0 +1,119 @@
+/*
+ * What a camera's overlay can start from: a seal as a picture, each feature in a frame from its tag to its value's end.
+ * Build it with: cc frames.c $(pkg-config --cflags --libs fenderrope) -o frames
+ *
+ *   frames <SEAL >PICTURE   reads a seal and writes an SVG of its bytes; bytes are in hexadecimal, places in decimal
+ *
+ * The status is 0 where the picture is written, 1 where the seal is refused, of which nothing is drawn, and 2 where
+ * something else is wrong; standard error then says what.
+ */
+#include <errno.h>
+#include <fenderrope.h>
+#include <signal.h>
+#include <stdio.h>
+#include <string.h>
+
+/* Lengths: a line has CELLS cells; a frame stands INSET into its own, and comes OUT of the line where it goes on. */
+enum { CELLS = 16, CELL = 38, HIGH = 28, BASE = 19, LINE = 46, LEFT = 56, TOP = 88, WIDTH = LEFT + CELLS * CELL + 24 };
+enum { INSET = 3, OUT = 5, ENTRY = 20, ENTRIES = 6, SWATCH = 14, PART = 64, WORDS = LEFT + 22, LIST = LEFT + 276 };
+
+/* What printf takes for a box: kind, x, y, width and height; and for text: kind, x, y and what the words ask for. */
+#define BOX "<rect class=\"%s\" x=\"%d\" y=\"%d\" width=\"%d\" height=\"%d\"/>\n"
+#define TEXT(words) "<text class=\"%s\" x=\"%d\" y=\"%d\">" words "</text>\n"
+
+/* The shades are told apart in grey too. */
+static const char style[] = "text { font: 15px 'DejaVu Sans Mono', Menlo, Consolas, monospace; text-anchor: middle }\n"
+    ".place { text-anchor: end } .number, .words, .title { text-anchor: start } text.length { font-style: italic }\n"
+    ".place, .column, .number, .words { font-size: 12px } .number, .title, text.tag { font-weight: bold }\n"
+    "rect { fill: #fff; stroke: #fff } rect.header { fill: #9cc3e6 } rect.signature { fill: #d9d9d9 }\n"
+    "rect.message, rect.value { fill: #fff3c4 } rect.tag { fill: #e69f00 } rect.length { fill: #f8cf7c }\n"
+    ".frame { fill: none; stroke: #000; stroke-width: 2; stroke-linecap: square }\n";
+
+/* Where the cell of a place stands. */
+static int across(size_t place) { return LEFT + (int)(place % CELLS) * CELL; }
+static int down(size_t place) { return TOP + (int)(place / CELLS) * LINE; }
+
+/* The bytes from a place to an end, each in its cell. */
+static void cells(const char *kind, const uint8_t *seal, size_t place, size_t end) {
+    for (; place < end; place++) {
+        printf(BOX, kind, across(place), down(place), CELL, HIGH);
+        printf(TEXT("%02X"), kind, across(place) + CELL / 2, down(place) + BASE, seal[place]);
+    }
+}
+
+/* One frame around them, a piece a line; there is no upright where it goes on. */
+static void frame(size_t place, size_t end) {
+    printf("<path class=\"frame\" d=\"");
+    for (size_t at = place, stop; at < end; at = stop) {
+        size_t line = at - at % CELLS + CELLS; /* where the line ends */
+        stop = line < end ? line : end;
+        int begins = at == place, ends = stop == end, top = down(at) + INSET, bottom = down(at) + HIGH - INSET;
+        int left = across(at) + (begins ? INSET : -OUT), right = across(stop - 1) + CELL + (ends ? -INSET : OUT);
+        printf("M%d %dH%d%c%d %dH%d", left, top, right, ends ? 'L' : 'M', right, bottom, left);
+        if (begins) printf("V%d", top);
+    }
+    printf("\"/>\n");
+}
+
+/* A feature by its row: tag, length and value in a frame, the tag's number above it, and its line in the legend. */
+static void feature(const uint8_t *seal, const size_t *row, int y) {
+    size_t tag = row[FR_ROW_TAG_PLACE], value = row[FR_ROW_VALUE_PLACE], length = row[FR_ROW_VALUE_LENGTH];
+    cells("tag", seal, tag, tag + 1);
+    cells("length", seal, tag + 1, value);
+    cells("value", seal, value, value + length);
+    frame(tag, value + length);
+    printf(TEXT("%zu"), "number", across(tag) + INSET, down(tag) - 2, row[FR_ROW_TAG]);
+    printf(TEXT("feature %zu at %zu, value at %zu length %zu"), "words", LIST, y, row[FR_ROW_TAG], tag, value, length);
+}
+
+/* The other column of the legend: the zones, and what a frame has in it. */
+static void legend(fr_ends ends, int y) {
+    static const char *const zones[] = {"header", "message", "signature"}, *const parts[] = {"tag", "length", "value"};
+    size_t places[] = {0, ends.header, ends.message, ends.seal};
+    int sample = y + ENTRY * ENTRIES - 48;
+    for (int i = 0; i < 3; i++, y += ENTRY) {
+        printf(BOX, zones[i], LEFT, y - 11, SWATCH, SWATCH);
+        printf(TEXT("%s zone at %zu length %zu"), "words", WORDS, y, zones[i], places[i], places[i + 1] - places[i]);
+        printf(BOX, parts[i], LEFT + i * PART, sample, PART, HIGH);
+        printf(TEXT("%s"), parts[i], LEFT + i * PART + PART / 2, sample + BASE, parts[i]);
+    }
+    printf(TEXT("number"), "number", LEFT + INSET, sample - 2);
+    printf(BOX, "frame", LEFT + INSET, sample + INSET, 3 * PART - 2 * INSET, HIGH - 2 * INSET);
+}
+
+static void draw(const uint8_t *seal, fr_reading r, const size_t *table) {
+    int y = down(r.ends.seal - 1) + LINE + 20, height = y + ENTRY * (r.count < ENTRIES ? ENTRIES : (int)r.count);
+    printf("<svg xmlns=\"http://www.w3.org/2000/svg\" version=\"1.1\" role=\"img\" width=\"%d\" height=\"%d\" "
+           "viewBox=\"0 0 %d %d\">\n", WIDTH, height, WIDTH, height);
+    printf("<title>Seal of version %zu, %zu bytes, features: %zu</title>\n", r.header.version, r.ends.seal, r.count);
+    printf("<style>\n%s</style>\n" BOX, style, "paper", 0, 0, WIDTH, height);
+    printf(TEXT("version %zu, %zu bytes, features: %zu"), "title", LEFT, 32, r.header.version, r.ends.seal, r.count);
+    for (size_t i = 0; i < CELLS; i++) printf(TEXT("%zu"), "column", across(i) + CELL / 2, TOP - 20, i);
+    for (size_t at = 0; at < r.ends.seal; at += CELLS) printf(TEXT("%zu"), "place", LEFT - 12, down(at) + BASE - 1, at);
+    cells("header", seal, 0, r.ends.header);
+    for (size_t i = 0; i < r.count; i++) feature(seal, table + FR_ROW * i, y + ENTRY * (int)i);
+    cells("signature", seal, r.ends.message, r.ends.seal);
+    legend(r.ends, y);
+    printf("</svg>\n");
+}
+
+/* Something that is not the seal's is wrong. */
+static int failed(const char *what, const char *why) {
+    fprintf(stderr, "frames: %s: %s\n", what, why);
+    return 2;
+}
+
+int main(int count, char **arguments) {
+    static uint8_t seal[FR_SEAL_MOST + 1], text[FR_TEXT_MOST]; /* a byte more than a seal: a longer one is refused */
+    static char words[FR_WORDS_MOST + 1];                      /* and one more than words have: their end mark */
+    static size_t table[FR_TABLE_MOST];
+    signal(SIGPIPE, SIG_IGN); /* output that nobody takes any more is told as any other that fails */
+    if (count > 1) return failed(arguments[1], "usage: frames <SEAL >PICTURE");
+    size_t length = fread(seal, 1, sizeof seal, stdin);
+    if (ferror(stdin)) return failed("standard input", strerror(errno));
+    fr_reading r = fr_read(seal, length, table, FR_TABLE_MOST, text, sizeof text);
+    fr_words(r.number, (uint8_t *)words, FR_WORDS_MOST);
+    if (r.number != 0) return fprintf(stderr, "frames: refused %zu at %zu: %s\n", r.number, r.place, words) < 0 ? 2 : 1;
+    draw(seal, r, table);
+    return ferror(stdout) || fclose(stdout) != 0 ? failed("standard output", strerror(errno)) : 0;
+}
