@@ -1,12 +1,11 @@
 -- What telling the words of a number answers: 0, or 63 where they do not fit.
 -- Assumes nothing.
 pub mod Laws
-use Prim.Native.Nat.{ℕ, _≤_}
-use mathlib.Core.Path.{_≡_}
-use lib.ListN.{length}
+use Prim.Native.Nat.{ℕ}
 use Rattle.format.specs.Answers.{Outcome, Answer}
 use Rattle.format.specs.Order.{inRoom}
-use Rattle.words.specs.Words.{wordsOf}
+use Rattle.pages.specs.Rows.{LongestIn}
+use Rattle.words.specs.Words.{table, wordsOf}
 use Rattle.words.specs.declared.Told.{Told}
 use Rattle.words.specs.declared.Told.the-variants.{Done, NoRoom}
 
@@ -20,7 +19,5 @@ toldOf (Done count) = record { number = 0; place = 0; count = count }
 toldOf NoRoom = record { number = 63; place = 0; count = 0 }
 
 -- the length of the longest words: no number has more, and one has as many
-pub record Longest (size : ℕ) : Type 0 where
-  pub most : (n : ℕ) → length (wordsOf n) ≤ size
-  pub one : ℕ
-  pub reached : length (wordsOf one) ≡ size
+abbrev pub Longest : ℕ → Type 0
+Longest size = LongestIn table size

@@ -2,19 +2,8 @@
 -- Assumes nothing.
 pub mod Laws
 use Prim.Native.Nat.{ℕ}
-use Prim.Native.String.{String}
 use mathlib.Core.List.{List, [], _∷_, _++_}
-use lib.Dec.{eqb}
-use Rattle.format.specs.Choice.{pick}
-use Rattle.lines.specs.Line.{ascii}
-
--- a number and its words
-pub record Row : Type 0 where
-  pub number : ℕ
-  pub words : String
-
-abbrev pub row : ℕ → String → Row
-row number words = record { number = number; words = words }
+use Rattle.pages.specs.Rows.{Row, row, sought}
 
 -- the reader
 abbrev pub reader : List Row
@@ -74,11 +63,6 @@ signatures =
 -- the numbers that are retired (document 02, Ticket 8) and not given out again: they have no row
 abbrev pub retired : List ℕ
 retired = 64 ∷ []
-
--- the words of a number's row; none where it has no row
-unfoldable pub sought : ℕ → List Row → List ℕ
-sought n [] = []
-sought n (r ∷ rs) = pick (eqb n (r .number)) (ascii (r .words)) (sought n rs)
 
 -- the rows from a group on, and all of them
 abbrev pub fromCodecs : List Row

@@ -1,18 +1,15 @@
 // The words of the numbers that a call answers (document 01, "The numbers a call answers"), for programs that tell them to people.
 ghost use mathlib.Core.Path.{_≡_};
-ghost use Prim.Native.Nat.{_+_};
-ghost use lib.ListN.{length, drop};
+ghost use lib.ListN.{length};
 ghost use Rattle.format.specs.Answers.{told, filled};
-ghost use Rattle.words.specs.Words.{table, wordsOf};
-ghost use Rattle.words.specs.Page.{pageOf, lineSize};
-ghost use Rattle.format.specs.Order.{inRoom};
+ghost use Rattle.pages.specs.Calls.{placedOf};
 ghost use Rattle.words.specs.Calls.{saying, toldOf, Longest};
-use octets::wide;
+use pages::Placed;
 
 // The length of the longest words: a buffer of so many bytes has room for any.
 pub const LONGEST: usize = 92;
 
-// The table of the words, a line a number: two digits, a space, the words. `pageOf` of specs/Page.antt makes it of the table there.
+// The table of the words, a line a number: two digits, a space, the words. `pageOf` of `pages` makes it of the table of specs/Words.antt.
 const PAGE: [u8; 1367] = *b"\
 00 done\n\
 01 seal longer than 4,096\n\
@@ -59,50 +56,14 @@ pub enum Told {
     NoRoom,
 }
 
-// Puts all of these words down from the start of `out`, or none.
-fn put_all(words: &[u8], out: &mut [u8]) -> Told
-    ensures answer { λ r. ⌜ toldOf r ≡ told (inRoom 63 (now (words .entry)) (length (now (out .entry)))) ⌝ }
-    ensures buffer { λ r. ⌜ now (out .exit) ≡ filled (inRoom 63 (now (words .entry)) (length (now (out .entry)))) (now (out .entry)) ⌝ }
+// Words put down, or no room for them, as this crate tells it.
+fn as_told(placed: Placed) -> Told
+    ensures { λ r. ⌜ toldOf r ≡ placedOf 63 placed ⌝ }
 {
-    let size = words.len();
-    if out.len() < size {
-        return Told::NoRoom;
+    match placed {
+        Placed::All(count) => Told::Done(count),
+        Placed::NoRoom => Told::NoRoom,
     }
-    octets::copy(words, out, 0);
-    Told::Done(size)
-}
-
-// The place of the first newline at or after `from`, or the end.
-fn line_end(page: &[u8], from: usize) -> usize
-    ensures { λ r. ⌜ r ≡ from + lineSize (drop from (now (page .entry))) ⌝ }
-{
-    let mut i = from;
-    while i < page.len() {
-        if page[i] == b'\n' {
-            return i;
-        }
-        i += 1;
-    }
-    i
-}
-
-// The words of a number: what stands in its line of the page after the two digits and the space, or nothing where it has no line.
-fn words_in(page: &[u8], number: usize) -> &[u8]
-    requires { ⌜ now page ≡ pageOf table ⌝ }
-    ensures { λ r. ⌜ now r ≡ wordsOf number ⌝ }
-{
-    let mut at: usize = 0;
-    while at < page.len() {
-        let end = line_end(page, at);
-        let tens = wide(page[at] - b'0');
-        let ones = wide(page[at + 1] - b'0');
-        if tens * 10 + ones == number {
-            let from = at + 3;
-            return &page[from..end];
-        }
-        at = end + 1;
-    }
-    &page[at..]
 }
 
 // Puts the words of a number down from the start of `out`: all of them, or none where there is no room. Another number has none.
@@ -111,5 +72,5 @@ pub fn put_words(number: usize, out: &mut [u8]) -> Told
     ensures buffer { λ r. ⌜ now (out .exit) ≡ filled (saying number (length (now (out .entry)))) (now (out .entry)) ⌝ }
     ensures room { λ r. do ⌜ Longest (← ⟦LONGEST⟧ .entry) ⌝ }
 {
-    put_all(words_in(&PAGE, number), out)
+    as_told(pages::put_words_of(&PAGE, number, out))
 }

@@ -1,13 +1,13 @@
--- `words::line_end` meets its contract. The loop's invariant: the line ends where it ends from `i` on.
+-- `pages::line_end` meets its contract. The loop's invariant: the line ends where it ends from `i` on.
 -- Assumes nothing.
 use native.Mathlib.Omega.{arith}
 use mathlib.Core.Path.{_≡_}
 use Prim.Native.Nat.{_+_, _-_}
 use lib.ListN.{length, drop}
-use Rattle.words.specs.Page.{lineSize}
-use Rattle.words.specs.Page.Laws.{size-here, size-on, size-end}
-use Rattle.words.proofs.line_end.Statement.{statement}
-use Rattle.words.proofs.line_end.Tie as tie
+use Rattle.pages.specs.Page.{lineSize}
+use Rattle.pages.specs.Page.Laws.{size-here, size-on, size-end}
+use Rattle.pages.proofs.line_end.Statement.{statement}
+use Rattle.pages.proofs.line_end.Tie as tie
 
 abbrev Inv-loop : tie.InvT-loop
 Inv-loop page from i₀ i = from + lineSize (drop from page) ≡ i + lineSize (drop i page)
