@@ -5,3 +5,4 @@ pub mod Exact
 pub mod OneToOne
 pub mod Refused
 pub mod Pins
+pub mod Wrong

@@ -14,8 +14,8 @@ pub enum Item {
     Names,
     // version 4: six characters
     SignerAndLength,
-    // version 4
-    Reference,
+    // version 4: of so many bytes
+    Reference(usize),
     Issued,
     Signed,
     Definition,

@@ -11,12 +11,11 @@ use Rattle.format.specs.Choice.{pick}
 use Rattle.versions.specs.declared.Version.{Version}
 use Rattle.versions.specs.Versions.{versionNumber}
 use Rattle.fields.specs.declared.Header.{Header}
-use Rattle.causes.specs.Causes.{ruleNumber}
 use Rattle.causes.specs.declared.Item.the-variants as item
 use Rattle.causes.specs.declared.Rule.the-variants as rule
 use Rattle.causes.specs.declared.Why.{Why}
 use Rattle.verdict.specs.Items.{is, not, why, pass, Names as NamesOf}
-use Rattle.verdict.specs.Judge.{Row, Report, accepted, refused, header, features, signature, verdict, reading, judging, judge}
+use Rattle.verdict.specs.Judge.{Row, Report, header, features, signature, reading, judging}
 use Rattle.read_items.specs.Meaning.{through}
 use Rattle.read_names.specs.Meaning.{textOver}
 use Rattle.read_header.specs.Steps.{Fields, Dated, fields, dated, namesIn}
@@ -66,17 +65,17 @@ over-long old s h = sym (ap (λ b. pick b old (textOver old (through namesIn (fi
 pub over-short : (old s new : List ℕ) → length s ≤ 4096 → new ≡ textOver old (through namesIn (fields s)) → new ≡ namesOver old s
 over-short old s new h e = e ∙ sym (ap (λ b. pick b old (textOver old (through namesIn (fields s)))) (le-ltb 4096 (length s) h))
 
-pub judge-long : (s : List ℕ) → 4096 < length s → judge s ≡ refused 1 4096
-unfolding judge judging
-judge-long s h = ap (λ b. verdict (pick b (not (why item.Seal rule.NotTooLong) 4096) (reading s))) (lt-ltb 4096 (length s) h)
+pub judge-long : (s : List ℕ) → 4096 < length s → judging s ≡ not (why item.Seal rule.NotTooLong) 4096
+unfolding judging
+judge-long s h = ap (λ b. pick b (not (why item.Seal rule.NotTooLong) 4096) (reading s)) (lt-ltb 4096 (length s) h)
 
-pub judge-reading : (s : List ℕ) → length s ≤ 4096 → judge s ≡ verdict (reading s)
-unfolding judge judging
-judge-reading s short = ap (λ b. verdict (pick b (not (why item.Seal rule.NotTooLong) 4096) (reading s))) (le-ltb 4096 (length s) short)
+pub judge-reading : (s : List ℕ) → length s ≤ 4096 → judging s ≡ reading s
+unfolding judging
+judge-reading s short = ap (λ b. pick b (not (why item.Seal rule.NotTooLong) 4096) (reading s)) (le-ltb 4096 (length s) short)
 
 -- a step that is not read ends the reading with its refusal
 abbrev pub Refused : List ℕ → Why → ℕ → Type 0
-Refused s y place = judge s ≡ refused (ruleNumber (y .rule)) place
+Refused s y place = judging s ≡ not y place
 
 pub judge-front : (s : List ℕ) → length s ≤ 4096 → (y : Why) (place : ℕ) → not y place ≡ fields s → Refused s y place
 unfolding reading
@@ -85,11 +84,11 @@ judge-front s short y place e =
     judge-reading s short ∙ rw h refl
 
 pub judged-refused :
-    (s : List ℕ) (r : Judgement) (number place : ℕ) →
-    judge s ≡ refused number place →
-    r ≡ judgementOf (refused number place) →
-    r ≡ judgementOf (judge s)
-judged-refused s r number place j e = e ∙ ap judgementOf (sym j)
+    (s : List ℕ) (r : Judgement) (y : Why) (place : ℕ) →
+    Refused s y place →
+    r ≡ judgementOf (not y place) →
+    r ≡ judgementOf (judging s)
+judged-refused s r y place j e = e ∙ ap judgementOf (sym j)
 
 module _ (s : List ℕ) (v : Version) (code : List ℕ) (size at : ℕ) (q : FrontRead s v code size at) where
   abbrev f : Fields
@@ -161,7 +160,7 @@ module _ (s : List ℕ) (v : Version) (h : Header) (p1 : ℕ) (q : HeaderRead s 
       signature-size = n;
     }
 
-    judge-accepted : (n start : ℕ) → is n start ≡ signature (p2 + 1) s → judge s ≡ accepted (report n start)
+    judge-accepted : (n start : ℕ) → is n start ≡ signature (p2 + 1) s → judging s ≡ is (report n start) (start + n)
     unfolding reading
     judge-accepted n start e = judge-reading s (q .short) ∙ rw (q .header-read, sym e2, sym e) refl
 
@@ -170,10 +169,10 @@ module _ (s : List ℕ) (v : Version) (h : Header) (p1 : ℕ) (q : HeaderRead s 
         is n start ≡ signature (p2 + 1) s →
         count ≡ length rows →
         judged v h (record { header = p1; message = p2; seal = length s }) (record { place = start; length = n }) count
-        ≡ judgementOf (judge s)
+        ≡ judgementOf (judging s)
     judged-good n start count e counts =
         let same : judged v h (record { header = p1; message = p2; seal = length s }) (record { place = start; length = n }) count
-        ≡ judgementOf (accepted (report n start)) =
+        ≡ judgementOf (is (report n start) (start + n)) =
         λ i. judged v (q .header-told i) (record { header = p1; message = p2; seal = length s }) (record { place = start; length = n })
         (counts i) in
         same ∙ ap judgementOf (sym (judge-accepted n start e))

@@ -1,8 +1,8 @@
 // The judging (document 01, "Reader"): the steps of the reading one after another. A step that is not read ends it,
 // with the number of the rule that is broken.
 ghost use mathlib.Core.Path.{_≡_};
-ghost use Rattle.causes.specs.Causes.{ruleNumber};
-ghost use Rattle.verdict.specs.Judge.{judge as verdict, refused as refusedBy};
+ghost use Rattle.verdict.specs.Items.{not};
+ghost use Rattle.verdict.specs.Judge.{judge as verdict, judging};
 ghost use Rattle.reading.specs.Calls.{judged, judgementOf, Named};
 ghost use Rattle.judging.specs.Judged.{FrontRead, HeaderRead, namesOver};
 
@@ -19,21 +19,21 @@ use read_signature::Signature;
 use reading::Ends;
 use reading::Header;
 use reading::Judgement;
+use reading::Outcome;
 use reading::Part;
 use reading::Reading;
-use versions::Stated;
 use versions::Version;
 
-// A seal that is not good: the number of the rule that is broken, at its place, and no version.
+// A seal that is not good: the number of the rule that is broken, at its place, and beside it why.
 fn not_good(why: Refusal) -> Judgement
-    ensures { λ r. ⌜ r ≡ judgementOf (refusedBy (ruleNumber (why .why .rule)) (why .place)) ⌝ }
+    ensures { λ r. ⌜ r ≡ judgementOf (not (why .why) (why .place)) ⌝ }
 {
     let broken = why.why;
     let rule = broken.rule;
     let number = rule.number();
     Judgement {
         reading: Reading::refused(number, why.place),
-        version: Stated::NoSuchVersion,
+        outcome: Outcome::Not(why),
     }
 }
 
@@ -62,14 +62,14 @@ fn good(
     };
     Judgement {
         reading,
-        version: Stated::Is(version),
+        outcome: Outcome::Good(version),
     }
 }
 
 // The verdict on a seal whose header was read: its features and its signature.
 fn judge_message(version: Version, header: Header, message: Cursor, seal: &[u8]) -> Judgement
     requires read { ⌜ HeaderRead (now seal) version header (message .place) ⌝ }
-    ensures { λ r. ⌜ r ≡ judgementOf (verdict (now (seal .entry))) ⌝ }
+    ensures { λ r. ⌜ r ≡ judgementOf (judging (now (seal .entry))) ⌝ }
 {
     let features = read_features::read_features(message, seal, version);
     let Features::Are(count, mark) = features else {
@@ -97,7 +97,7 @@ fn judge_rest(
     length: usize,
 ) -> Judgement
     requires read { ⌜ FrontRead (now seal) version country length (at .place) ⌝ }
-    ensures { λ r. ⌜ r ≡ judgementOf (verdict (now (seal .entry))) ⌝ }
+    ensures { λ r. ⌜ r ≡ judgementOf (judging (now (seal .entry))) ⌝ }
 {
     let rest = read_header::read_rest(at, seal);
     let Rest::Is(issued, signed, definition, category, message) = rest else {
@@ -117,7 +117,7 @@ fn judge_rest(
 
 // The verdict; signer and reference stand at the start of `names` where they were read, whatever follows them, and on 0 they were.
 pub fn judge_names(seal: &[u8], names: &mut [u8; 259]) -> Judgement
-    ensures answer { λ r. ⌜ r ≡ judgementOf (verdict (now (seal .entry))) ⌝ }
+    ensures answer { λ r. ⌜ r ≡ judgementOf (judging (now (seal .entry))) ⌝ }
     ensures text { λ r. ⌜ Named (verdict (now (seal .entry))) (now (names .exit)) ⌝ }
     ensures buffer { λ r. ⌜ now (names .exit) ≡ namesOver (now (names .entry)) (now (seal .entry)) ⌝ }
 {

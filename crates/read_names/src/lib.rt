@@ -58,7 +58,8 @@ fn names_in(at: Cursor, seal: &[u8], version: Version, text: &mut [u8]) -> Names
     let end = 4 + size;
     let reference = text::field(after, seal, Kind::Reference, &mut text[4..end]);
     let Step::Past(next) = reference else {
-        return Names::Not(refusals::of_step(reference, Item::Reference));
+        let width = octets::threes(size + 2) * 2;
+        return Names::Not(refusals::of_step(reference, Item::Reference(width)));
     };
     Names::Are(size, next)
 }

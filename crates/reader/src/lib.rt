@@ -11,9 +11,9 @@ mod table;
 use read_items::Cursor;
 pub use reading::Ends;
 pub use reading::Header;
+use reading::Outcome;
 pub use reading::Part;
 pub use reading::Reading;
-use versions::Stated;
 use versions::Version;
 
 // The verdict on every byte string.
@@ -61,8 +61,8 @@ pub fn read(seal: &[u8], table: &mut [usize], text: &mut [u8]) -> Reading
 {
     let mut names = [0u8; 259];
     let judged = judging::judge_names(seal, &mut names);
-    let stated = judged.version;
-    let Stated::Is(version) = stated else {
+    let outcome = judged.outcome;
+    let Outcome::Good(version) = outcome else {
         return judged.reading;
     };
     let size = 4 + judged.reading.header.length;

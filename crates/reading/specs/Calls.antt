@@ -13,14 +13,16 @@ use Rattle.format.specs.Answers.{done, filled}
 use Rattle.dates.specs.Calls.{no-date}
 use Rattle.versions.specs.Versions.{versionNumber}
 use Rattle.versions.specs.declared.Version.{Version}
-use Rattle.versions.specs.declared.Stated.{Stated}
-use Rattle.versions.specs.declared.Stated.the-variants as stated
 use Rattle.fields.specs.declared.Header.{Header}
 use Rattle.rows.specs.Rows.{width, table}
-use Rattle.verdict.specs.Judge.{Report, Verdict, accepted, refused, judge}
+use Rattle.verdict.specs.Items.{Way, is, not}
+use Rattle.verdict.specs.Judge.{Report, Verdict, accepted, refused, verdict, judge}
+use Rattle.read_items.specs.Meaning.{because}
 use Rattle.reading.specs.declared.Ends.{Ends}
 use Rattle.reading.specs.declared.Part.{Part}
 use Rattle.reading.specs.declared.Reading.{Reading}
+use Rattle.reading.specs.declared.Outcome.{Outcome}
+use Rattle.reading.specs.declared.Outcome.the-variants as outcome
 use Rattle.reading.specs.declared.Judgement.{Judgement}
 
 -- the answer on a good seal
@@ -56,16 +58,16 @@ answerOf (refused number place) =
       count = 0;
     }
 
--- what the judging gives: the answer, and beside it the version of a seal that is accepted
-abbrev pub versionIn : Verdict → Stated
-versionIn (accepted r) = stated.Is (r .header .version)
-versionIn (refused number place) = stated.NoSuchVersion
+-- what the judging gives: the answer, and beside it the version of a seal that is accepted, or why it is not
+abbrev pub outcomeOf : Way Report → Outcome
+outcomeOf (is r at) = outcome.Good (r .header .version)
+outcomeOf (not why place) = outcome.Not (because why place)
 
-abbrev pub judgementOf : Verdict → Judgement
-judgementOf v = record { reading = answerOf v; version = versionIn v }
+abbrev pub judgementOf : Way Report → Judgement
+judgementOf i = record { reading = answerOf (verdict i); outcome = outcomeOf i }
 
 abbrev pub judged : Version → Header → Ends → Part → ℕ → Judgement
-judged v header ends signature count = record { reading = answer header ends signature count; version = stated.Is v }
+judged v header ends signature count = record { reading = answer header ends signature count; outcome = outcome.Good v }
 
 -- signer and reference
 abbrev pub text : Report → List ℕ

@@ -4,7 +4,8 @@ ghost use Rattle.verdict.specs.Judge.{refused as refusedBy};
 ghost use Rattle.reading.specs.Calls.{answerOf};
 use dates::Date;
 pub use fields::Header;
-use versions::Stated;
+use read_items::Refusal;
+use versions::Version;
 
 // The ends of the three zones, each one past the zone's last byte.
 pub struct Ends {
@@ -30,10 +31,18 @@ pub struct Reading {
     pub count: usize,
 }
 
-// What the judging gives: the answer, and beside it the version of a good seal, by which its rows are walked again.
+// What a judging came to.
+pub enum Outcome {
+    // the seal is good: its version, by which its rows are walked again
+    Good(Version),
+    // it is not: the item that is not read, the rule that it breaks, and the place
+    Not(Refusal),
+}
+
+// What the judging gives: the answer, and beside it what it came to.
 pub struct Judgement {
     pub reading: Reading,
-    pub version: Stated,
+    pub outcome: Outcome,
 }
 
 impl Reading {

@@ -44,7 +44,7 @@ namesBefore three at s =
     (λ t at. is (record { signer = take 4 t; reference = drop 4 t }) at)
 namesBefore four at s =
     next item.SignerAndLength (fieldBefore 6 inSix at s)
-    (λ six at. next item.Reference (fieldBefore (lengthIn six) inReference at s) (named six))
+    (λ six at. next (item.Reference (width (lengthIn six))) (fieldBefore (lengthIn six) inReference at s) (named six))
 
 unfoldable pub headerBefore : List ℕ → Way Header
 headerBefore s =
@@ -135,7 +135,7 @@ names-moved : (v : Version) (at : ℕ) (s : List ℕ) → Moved (names v at s) (
 names-moved three at s = next-moved item.Names _ _ _ _ (field-moved 9 inNine at s) (λ t at. inl refl)
 names-moved four at s =
     next-moved item.SignerAndLength _ _ _ _ (field-moved 6 inSix at s)
-    (λ six at. next-moved item.Reference _ _ _ _ (field-moved (lengthIn six) inReference at s) (λ t at. inl refl))
+    (λ six at. next-moved (item.Reference (width (lengthIn six))) _ _ _ _ (field-moved (lengthIn six) inReference at s) (λ t at. inl refl))
 
 header-moved : (s : List ℕ) → Moved (header s) (headerBefore s)
 unfolding header headerBefore

@@ -153,7 +153,7 @@ named six t at = is (record { signer = take 4 six; reference = t }) at
 
 -- the reference after six characters that give its length
 abbrev pub after : List ℕ → List ℕ → ℕ → Way Names
-after s six at = next item.Reference (field (lengthIn six) inReference at s) (named six)
+after s six at = next (item.Reference (width (lengthIn six))) (field (lengthIn six) inReference at s) (named six)
 
 -- version 3: nine characters; version 4: the first four bytes and then the reference
 abbrev pub names : Version → ℕ → List ℕ → Way Names

@@ -8,9 +8,7 @@ use mathlib.Core.List.{[]}
 use Prim.Native.Nat.{_≤_}
 use lib.ListN.{length, take, drop}
 use denote.Ref.{now}
-use Rattle.causes.specs.Causes.{ruleNumber}
 use Rattle.verdict.specs.Items.{not}
-use Rattle.verdict.specs.Judge.{refused}
 use Rattle.read_items.specs.Meaning.{whyOf}
 use Rattle.read_items.specs.declared.cursor.Refusal.{Refusal}
 use Rattle.read_header.specs.Steps.{fields, frontOf}
@@ -39,7 +37,7 @@ returns : tie.Need-returns
 returns c =
     let args = c .before .before .before .before .args in
     let j = judge-long (now (args .seal)) (omega arith) in
-    let e = ap (λ (w : Refusal). judgementOf (refused (ruleNumber (w .why .rule)) (w .place))) (c .before .of .ensures) in (
+    let e = ap (λ (w : Refusal). judgementOf (not (w .why) (w .place))) (c .before .of .ensures) in (
       judged-refused _ _ _ _ j (c .not-good .ensures ∙ e),
       (named-refused _ _ _ _ j, over-long (now (args .names)) (now (args .seal)) (omega arith)),
     )

@@ -1,8 +1,8 @@
--- `not_good` meets its contract: a refusal has the number of its rule, and no version.
+-- `not_good` meets its contract: a refusal has the number of its rule, and beside it why.
 -- Assumes nothing.
 use borrow.Author.Needs.{needs}
 use mathlib.Core.Path.{_∙_, ap}
-use Rattle.versions.specs.declared.Stated.the-variants as stated
+use Rattle.reading.specs.declared.Outcome.the-variants as outcome
 use Rattle.verdict.specs.Judge.{refused}
 use Rattle.reading.specs.Calls.{answerOf}
 use Rattle.judging.proofs.not_good.Statement.{statement}
@@ -12,7 +12,7 @@ returns : tie.Need-returns
 returns c =
     let on = c .before in
     let why = on .before .before .args .why in
-    ap (λ q. record { reading = q; version = stated.NoSuchVersion })
+    ap (λ q. record { reading = q; outcome = outcome.Not why })
     (c .refused .ensures ∙ ap (λ n. answerOf (refused n (why .place))) (on .number .ensures))
 
 number-requires : tie.Need-number-requires

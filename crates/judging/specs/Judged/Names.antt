@@ -8,9 +8,10 @@ use lib.Seq.{take-add}
 use Rattle.versions.specs.declared.Version.{Version}
 use Rattle.grammar.specs.Content.{Header}
 use Rattle.verdict.specs.Items.{Way, is, not, pass, Names}
-use Rattle.verdict.specs.Judge.{Row, Report, features, signature, verdict, refused, reading, judge}
+use Rattle.verdict.specs.Judge.{Row, Report, features, signature, verdict, reading, judging, judge}
 use Rattle.read_header.specs.Steps.{Fields, Dated, dated, fields}
 use Rattle.read_header.specs.Steps.Together.{headerOf, fields-known}
+use Rattle.causes.specs.declared.Why.{Why}
 use Rattle.reading.specs.Calls.{Named}
 use Rattle.judging.specs.Judged.{FrontRead, front, judge-reading, dated-next}
 
@@ -71,15 +72,16 @@ pub named-front :
     length s ≤ 4096 →
     is (front v code size (record { signer = take 4 text; reference = take size (drop 4 text) })) at ≡ fields s →
     Named (judge s) text
-unfolding reading
+unfolding reading judge
 named-front s text v code size at short e =
     let names : Names = record { signer = take 4 text; reference = take size (drop 4 text) } in
     let f = front v code size names in
     let q : FrontRead s v code size at = record { short = short; names = names; fields-read = e } in
     let stands : Stands f text = ap (λ n. take (4 + n) text) (sym (fields-known s f at e)) ∙ take-add 4 size text in
-    subst (λ w. Named w text) (sym (judge-reading s short))
+    subst (λ w. Named (verdict w) text) (sym (judge-reading s short))
     (subst (λ i. Named (verdict (pass i (on s))) text) (sym (dated-next s v code size at q)) (after-rest text f stands s (dated at s)))
 
 -- a refusal has none
-pub named-refused : (s text : List ℕ) (number place : ℕ) → judge s ≡ refused number place → Named (judge s) text
-named-refused s text number place e = subst (λ w. Named w text) (sym e) tt
+pub named-refused : (s text : List ℕ) (y : Why) (place : ℕ) → judging s ≡ not y place → Named (judge s) text
+unfolding judge
+named-refused s text y place e = subst (λ w. Named (verdict w) text) (sym e) tt

@@ -18,7 +18,7 @@ use Rattle.rows.specs.declared.Row.{Row}
 use Rattle.rows.specs.Rows.{width, table}
 use Rattle.rows.specs.Rows.Laws.{rows-taken}
 use Rattle.list_lines.specs.ListLine.{nameLines, dateLines, refusal}
-use Rattle.verdict.specs.Judge.{Verdict, accepted, refused, judge}
+use Rattle.verdict.specs.Judge.{Verdict, accepted, refused, verdict, judge}
 use Rattle.verdict.specs.Judge.Listed.{FromList, from-list}
 use Rattle.judging.specs.Judged.{judge-long}
 use Rattle.reading.specs.Calls.{answerOf, given, reading, rowsIn, textIn, then}
@@ -84,8 +84,10 @@ four-signed s bytes (refused number place) e = tt
 
 -- a longer input is refused by its first 4,097 bytes, or more, as by all of them
 by-length : (n : ℕ) → 4096 < n → (s : List ℕ) → Dec (length s ≤ n) → judge (take n s) ≡ judge s
+unfolding judge
 by-length n h s (yes short) = ap judge (take-all n s short)
-by-length n h s (no long) = judge-long (take n s) (omega (arith, length-take n s)) ∙ sym (judge-long s (omega arith))
+by-length n h s (no long) =
+    ap verdict (judge-long (take n s) (omega (arith, length-take n s)) ∙ sym (judge-long s (omega arith)))
 
 pub enough : {n : ℕ} → 4096 < n → Enough n
 enough {n} h = record { same = λ s. ap listed (by-length n h s (decLe (length s) n)) }

@@ -197,16 +197,18 @@ field-requires-3 c κs =
 returns-4 : tie.Need-returns-4
 unfolding held
 returns-4 c =
-    let told = c .before in
+    let wide = c .before .threes .result in
+    let told = c .before .before in
     let reference = reference-refused told .field3 in
     let last = digits (reference-refused told) in
     let on = first-field last in
     let args = start-four on .args in
     let out = reference .last .1 .1 .1 .0 in
     names-four-not (args .at .place) (args .seal .now) (six on) (after last) (size last) (six-read last)
-    (length (take (4 + size last - 4) (drop 4 (held last)))) (part-size last) _ _ (c .of-step3 .result)
+    (length (take (4 + size last - 4) (drop 4 (held last)))) (part-size last) _ _ (wide * 2) (c .of-step3 .result)
     (sym (ap (stepOf out) (told .enum-told5 .given .1)) ∙ reference .ensures)
-    (c .of-step3 .ensures ∙ ap (λ r. refused {A = Unit} item.Reference (stepOf tt r)) (told .enum-told5 .given .1))
+    (omega (arith, c .before .threes .ensures))
+    (c .of-step3 .ensures ∙ ap (λ r. refused {A = Unit} (item.Reference (wide * 2)) (stepOf tt r)) (told .enum-told5 .given .1))
     ∙ ap (λ v. through measured (names v (args .at .place) (args .seal .now))) (sym (on .before .before .enum-told3 .given .1))
 
 returns-5 : tie.Need-returns-5
@@ -288,6 +290,19 @@ enum-known-reference c = search needs
 enum-told-5 : tie.Need-enum-told-5
 enum-told-5 c = search needs
 
+add-threes : tie.Need-add-threes
+add-threes c =
+    let read = six-read (digits (reference-refused c)) in
+    omega (arith, read .most)
+
+threes-requires : tie.Need-threes-requires
+threes-requires c κs = search needs
+
+mul-width : tie.Need-mul-width
+mul-width c =
+    let read = six-read (digits (reference-refused (c .before))) in
+    omega (arith, read .most, c .threes .ensures)
+
 of-step-requires-3 : tie.Need-of-step-requires-3
 of-step-requires-3 c κs = search needs
 
@@ -334,6 +349,9 @@ names-in-spec =
     field-requires-3
     enum-known-reference
     enum-told-5
+    add-threes
+    threes-requires
+    mul-width
     of-step-requires-3
     same-length-4
     returns-4

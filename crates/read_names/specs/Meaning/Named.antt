@@ -10,6 +10,7 @@ use mathlib.Core.List.{List, [], _∷_, _++_, map}
 use lib.Dec.{ltb}
 use lib.ListN.{length, take, drop, getD, set, length-drop, length-append, List·getD-append}
 use lib.Seq.{take-append-le, drop-append-le, take-at, drop-at, length-take-le}
+use Rattle.c40.specs.Text.{width}
 use Rattle.grammar.specs.Content.{three, four}
 use Rattle.format.specs.Choice.Laws.{both-true, within-both}
 use Rattle.format.specs.Hex.{hexValue}
@@ -119,9 +120,9 @@ length-part t size h =
 
 module _ (at : ℕ) (s x : List ℕ) (m size : ℕ) (six : Six at s x m size) (k : ℕ) (asked : k ≡ size) where
   -- the reference's item is what is left of the names
-  names-rest : next item.Reference (field k inReference m s) (named x) ≡ names four at s
+  names-rest : next (item.Reference (width k)) (field k inReference m s) (named x) ≡ names four at s
   names-rest =
-      ap (λ j. next item.Reference (field j inReference m s) (named x)) (asked ∙ six .is-size)
+      ap (λ j. next (item.Reference (width j)) (field j inReference m s) (named x)) (asked ∙ six .is-size)
       ∙ ap (λ i. next item.SignerAndLength i (after s)) (six .read)
 
   pub names-four : (y rest post : List ℕ) (n : ℕ) → length y ≡ size → is y n ≡ field k inReference m s
@@ -145,14 +146,17 @@ module _ (at : ℕ) (s x : List ℕ) (m size : ℕ) (six : Six at s x m size) (k
       measured-is size n _ (names four at s) (ap length back ∙ long)
       (ap (λ u. is (record { signer = u; reference = take size (drop 4 (f ++ (y ++ post))) }) n) (take-at f (y ++ post) 4 four-long ∙ front)
       ∙ ap (λ u. is (record { signer = take 4 x; reference = u }) n) back
-      ∙ ap (λ i. next item.Reference i (named x)) read
+      ∙ ap (λ i. next (item.Reference (width k)) i (named x)) read
       ∙ names-rest)
 
-  pub names-four-not : (rule : Rule) (place : ℕ) (w : Refusal) → not rule place ≡ field k inReference m s
-      → w ≡ because (why item.Reference rule) place
+  pub names-four-not : (rule : Rule) (place wide : ℕ) (w : Refusal) → not rule place ≡ field k inReference m s
+      → wide ≡ width size
+      → w ≡ because (why (item.Reference wide) rule) place
       → not (w .why) (w .place) ≡ through measured (names four at s)
-  names-four-not rule place w read e =
-      ap (through measured) (unread-on item.Reference (field k inReference m s) (named x) rule place w e read ∙ names-rest)
+  names-four-not rule place wide w read same e =
+      let item-is = ap (λ n. because (why (item.Reference n) rule) place) (same ∙ ap width (sym asked)) in
+      ap (through measured)
+      (unread-on (item.Reference (width k)) (field k inReference m s) (named x) rule place w (e ∙ item-is) read ∙ names-rest)
 
 pub names-six-not : (at : ℕ) (s : List ℕ) (rule : Rule) (place : ℕ) (w : Refusal) → not rule place ≡ field 6 inSix at s
     → w ≡ because (why item.SignerAndLength rule) place

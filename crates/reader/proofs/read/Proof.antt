@@ -21,11 +21,11 @@ on-judged c = c .before .before .before
 -- the seal was accepted
 good : (c : tie.After-known-told) →
     let on = on-judged c in
-    Accepted (now (start on .args .seal)) (on .judge-names .result .reading) (c .before .stated .given .0 .0)
+    Accepted (now (start on .args .seal)) (on .judge-names .result .reading) (c .before .outcome .given .0 .0)
 good c =
     let on = on-judged c in
     accepted-version _ (λ i. on .before .before .before .before .shared-slice-known .given i .fits) _ (on .judge-names .ensures .0) _
-    (c .before .stated .given .1)
+    (c .before .outcome .given .1)
 
 -- the reference's length, as the report has it
 size : (c : tie.After-known-told) → on-judged c .judge-names .result .reading .header .length ≡ length (good c .report .header .reference)
@@ -36,7 +36,7 @@ returns c =
     let on = c .before .before .before in
     let args = start on .args in
     reads-judged (now (args .seal)) (now (args .table)) (now (args .text)) (on .judge-names .result) (on .judge-names .ensures .0)
-    (c .before .enum-told .given .1)
+    _ (c .before .enum-told .given .1)
 
 add-size : tie.Need-add-size
 add-size c = let on = c .before in omega (arith, size on, good on .reference)
@@ -59,8 +59,8 @@ give-requires c κs =
 judge-names-requires : tie.Need-judge-names-requires
 judge-names-requires c κs = search needs
 
-enum-known-stated : tie.Need-enum-known-stated
-enum-known-stated c = search needs
+enum-known-outcome : tie.Need-enum-known-outcome
+enum-known-outcome c = search needs
 
 enum-told : tie.Need-enum-told
 enum-told c = search needs
@@ -79,7 +79,7 @@ read-spec =
     tie.close
     (tie.spec
     judge-names-requires
-    enum-known-stated
+    enum-known-outcome
     enum-told
     returns
     add-size

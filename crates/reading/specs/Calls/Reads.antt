@@ -19,7 +19,7 @@ use Rattle.grammar.specs.Sizes.{features-most}
 use Rattle.rows.specs.Rows.{width, table}
 use Rattle.causes.specs.declared.Item.the-variants as item
 use Rattle.causes.specs.declared.Rule.the-variants as rule
-use Rattle.verdict.specs.Items.{is, not, why}
+use Rattle.verdict.specs.Items.{Way, is, not, why}
 use Rattle.verdict.specs.Items.Sound.{steps, same-value}
 use Rattle.verdict.specs.Judge.{Report, Verdict, accepted, refused, header, features, signature, verdict, reading as readingOf, judging}
 use Rattle.verdict.specs.Judge.{judge}
@@ -28,11 +28,12 @@ use Rattle.verdict.specs.Judge.Features.{rowsOf}
 use Rattle.verdict.specs.Judge.Sound.{verdict-read, unaccepted}
 use Rattle.reading.specs.FeatureRows.{rowsAt, rowsRead, AreRead}
 use Rattle.reading.specs.FeatureRows.Laws.{rows-there, rows-are}
-use Rattle.reading.specs.Calls.{answerOf, versionIn, judgementOf, text, given, reading, rowsIn, textIn, then, Named}
+use Rattle.reading.specs.Calls.{answerOf, outcomeOf, judgementOf, text, given, reading, rowsIn, textIn, then, Named}
 use Rattle.verdict.specs.Judge.Seals.{accepted-only}
 use Rattle.reading.specs.declared.Reading.{Reading}
 use Rattle.reading.specs.declared.Judgement.{Judgement}
-use Rattle.versions.specs.declared.Stated.the-variants as stated
+use Rattle.reading.specs.declared.Outcome.the-variants as outcome
+use Rattle.read_items.specs.declared.cursor.Refusal.{Refusal}
 
 -- what is promised of the answer, the table and the text
 abbrev pub Reads : List ℕ → List ℕ → List ℕ → Reading → List ℕ → List ℕ → Type 0
@@ -61,22 +62,29 @@ pub reads-accepted :
     Reads s rows names r rows′ names′
 reads-accepted s rows names r rows′ names′ report e a t x = subst (Leaves rows names r rows′ names′) (sym e) (a, (t, x))
 
--- a verdict with no version is a refusal, which is answered whatever the room
+-- the answer of a judging is the verdict's
+pub judged-answer : (s : List ℕ) (q : Judgement) → q ≡ judgementOf (judging s) → q .reading ≡ answerOf (judge s)
+unfolding judge
+judged-answer s q a = ap (λ j. j .reading) a
+
+-- a refusal is answered whatever the room
 leaves :
-    (rows names : List ℕ) (v : Verdict) (r : Reading) →
-    versionIn v ≡ stated.NoSuchVersion →
-    r ≡ answerOf v →
-    Leaves rows names r rows names (given (length rows) (length names) v)
-leaves rows names (accepted q) r without a = let z : _≡_ {A = ℕ} 0 1 = cc in absurd (omega arith)
-leaves rows names (refused number place) r without a = (a, (refl, refl))
+    (rows names : List ℕ) (i : Way Report) (r : Reading) (w : Refusal) →
+    outcomeOf i ≡ outcome.Not w →
+    r ≡ answerOf (verdict i) →
+    Leaves rows names r rows names (given (length rows) (length names) (verdict i))
+leaves rows names (is q at) r w without a = let z : _≡_ {A = ℕ} 0 1 = cc in absurd (omega arith)
+leaves rows names (not y place) r w without a = (a, (refl, refl))
 
 pub reads-judged :
     (s rows names : List ℕ) (q : Judgement) →
-    q ≡ judgementOf (judge s) →
-    q .version ≡ stated.NoSuchVersion →
+    q ≡ judgementOf (judging s) →
+    (w : Refusal) →
+    q .outcome ≡ outcome.Not w →
     Reads s rows names (q .reading) rows names
-reads-judged s rows names q a without =
-    leaves rows names (judge s) (q .reading) (sym (ap (λ j. j .version) a) ∙ without) (ap (λ j. j .reading) a)
+unfolding judge
+reads-judged s rows names q a w without =
+    leaves rows names (judging s) (q .reading) w (sym (ap (λ j. j .outcome) a) ∙ without) (ap (λ j. j .reading) a)
 
 -- a seal that was accepted: its report, and the sizes that its content has
 pub record Accepted (s : List ℕ) (r : Reading) (v : Version) : Type 0 where
@@ -148,28 +156,29 @@ accepted-report s bytes q v r a same-version e =
       walked = walk s r e;
     }
 
-by-verdict :
+by-way :
     (s : List ℕ) →
     Bytes s →
-    (q : Reading) (v : Version) (j : Verdict) →
+    (q : Reading) (v : Version) (i : Way Report) →
     q ≡ answerOf (judge s) →
-    judge s ≡ j →
-    versionIn j ≡ stated.Is v →
+    judging s ≡ i →
+    outcomeOf i ≡ outcome.Good v →
     Accepted s q v
-by-verdict s bytes q v (accepted r) a e said = accepted-report s bytes q v r a (cc) e
-by-verdict s bytes q v (refused number place) a e said = let z : _≡_ {A = ℕ} 0 1 = cc in absurd (omega arith)
+unfolding judge
+by-way s bytes q v (is r at) a e said = accepted-report s bytes q v r a (cc) (ap verdict e)
+by-way s bytes q v (not y place) a e said = let z : _≡_ {A = ℕ} 0 1 = cc in absurd (omega arith)
 
 -- a judging that gives a version has accepted the seal
 pub accepted-version :
     (s : List ℕ) →
     Bytes s →
     (q : Judgement) →
-    q ≡ judgementOf (judge s) →
+    q ≡ judgementOf (judging s) →
     (v : Version) →
-    q .version ≡ stated.Is v →
+    q .outcome ≡ outcome.Good v →
     Accepted s (q .reading) v
 accepted-version s bytes q a v said =
-    by-verdict s bytes (q .reading) v (judge s) (ap (λ j. j .reading) a) refl (sym (ap (λ j. j .version) a) ∙ said)
+    by-way s bytes (q .reading) v (judging s) (judged-answer s q a) refl (sym (ap (λ j. j .outcome) a) ∙ said)
 
 -- with too little room for the rows, or for the text, and with room for both
 module _ (s : List ℕ) (numbers room : ℕ) (r : Report) (e : judge s ≡ accepted r) where

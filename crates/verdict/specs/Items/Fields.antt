@@ -166,9 +166,9 @@ names-four-there p s r rest l =
     ∙ ap (λ k. is r (k + width n)) wide in
     ap (names four (length p)) parts
     ∙ ap (λ i. next item.SignerAndLength i (after (p ++ (c40 x ++ (c40 r ++ rest))))) first
-    ∙ ap (λ k. next item.Reference (field k inReference (length p + 4) (p ++ (c40 x ++ (c40 r ++ rest)))) (named x))
+    ∙ ap (λ k. next (item.Reference (width k)) (field k inReference (length p + 4) (p ++ (c40 x ++ (c40 r ++ rest)))) (named x))
     (six-length s n (l .signer .size) (l .size .1))
-    ∙ ap (λ i. next item.Reference i (named x)) second
+    ∙ ap (λ i. next (item.Reference (width n)) i (named x)) second
     ∙ ap (λ u. is (record { signer = u; reference = r }) (length p + 4 + width n)) (take-at s (hexDigits n) 4 (l .signer .size))
     ∙ ap (λ k. is (record { signer = s; reference = r }) k) all-wide
 

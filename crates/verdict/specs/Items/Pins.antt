@@ -52,10 +52,10 @@ nine-pairs = (refl, refl, refl)
 four-pairs :
     (names four 1 (0 ∷ 0xD9 ∷ 0xB7 ∷ 0xFE ∷ 0x42 ∷ []) ≡ not (why item.SignerAndLength rule.WellCoded) 3)
     × (names four 1 (0 ∷ 0xD9 ∷ 0xB7 ∷ 0x5E ∷ 0x65 ∷ []) ≡ not (why item.SignerAndLength rule.NotZero) 1)
-    × (names four 0 (0xD9 ∷ 0xB7 ∷ 0x5E ∷ 0x67 ∷ 0xFE ∷ 0x42 ∷ []) ≡ not (why item.Reference rule.WellCoded) 4)
-    × (names four 0 (0xD9 ∷ 0xB7 ∷ 0x5E ∷ 0x69 ∷ 0x19 ∷ 0xA6 ∷ 0x19 ∷ 0xA6 ∷ []) ≡ not (why item.Reference rule.WellCoded) 6)
-    × (names four 0 (0xD9 ∷ 0xB7 ∷ 0x5E ∷ 0x66 ∷ 0xFE ∷ 0x21 ∷ []) ≡ not (why item.Reference rule.ReferenceCharacters) 4)
-    × (names four 0 (0xD9 ∷ 0xB7 ∷ 0x5E ∷ 0x69 ∷ 0x6A ∷ 0xBC ∷ 0xFE ∷ 0x41 ∷ []) ≡ not (why item.Reference rule.WellCoded) 6)
+    × (names four 0 (0xD9 ∷ 0xB7 ∷ 0x5E ∷ 0x67 ∷ 0xFE ∷ 0x42 ∷ []) ≡ not (why (item.Reference 2) rule.WellCoded) 4)
+    × (names four 0 (0xD9 ∷ 0xB7 ∷ 0x5E ∷ 0x69 ∷ 0x19 ∷ 0xA6 ∷ 0x19 ∷ 0xA6 ∷ []) ≡ not (why (item.Reference 4) rule.WellCoded) 6)
+    × (names four 0 (0xD9 ∷ 0xB7 ∷ 0x5E ∷ 0x66 ∷ 0xFE ∷ 0x21 ∷ []) ≡ not (why (item.Reference 2) rule.ReferenceCharacters) 4)
+    × (names four 0 (0xD9 ∷ 0xB7 ∷ 0x5E ∷ 0x69 ∷ 0x6A ∷ 0xBC ∷ 0xFE ∷ 0x41 ∷ []) ≡ not (why (item.Reference 4) rule.WellCoded) 6)
 unfolding decode pairOf single values theChart valueOf
 four-pairs = (refl, refl, refl, refl, refl, refl)
 

@@ -13,11 +13,11 @@ use lib.Dec.{ltb, eqb}
 use lib.ListN.{length, take, drop}
 use Rattle.format.specs.Choice.{pick}
 use Rattle.format.specs.Choice.Laws.{by-test}
-use Rattle.pairs.specs.Pairs.{charsOf}
 use Rattle.pairs.specs.declared.decode.Fault.{Fault}
 use Rattle.c40.specs.Text.{width}
 use Rattle.c40.specs.Decode.{Decoded, text, wrong, decode}
-use Rattle.c40.specs.Decode.First.{FaultAt, lastPair, First, told-first, text-faultless, text-size}
+use Rattle.c40.specs.Decode.First.{First, told-first, text-faultless, text-size}
+use Rattle.c40.specs.Wrong.{WronglyCoded, FirstWrong, one-first}
 use Rattle.fields.specs.Characters.{isReference, isCountry, isSigner, all}
 use Rattle.causes.specs.Causes.{ruleNumber}
 use Rattle.causes.specs.declared.Rule.{Rule}
@@ -26,20 +26,6 @@ use Rattle.verdict.specs.Items.{Item, is, not, Exact, exact, wrongAt, ex
 use Rattle.verdict.specs.Items.{lengthIn, isHex, inSix, inReference}
 use Rattle.verdict.specs.Items.Laws.{unread}
 use Rattle.verdict.specs.Items.Sound.{length-taken}
-
--- a pair of a text of k characters is wrongly coded: it has a fault, or it is the last and does not carry as many characters as are left
-abbrev pub Unfit : ℕ → List ℕ → ℕ → Type 0
-Unfit k bytes i = (i + 2 ≡ length bytes) × (length (charsOf (lastPair bytes i)) ≡ k - i / 2 * 3 → ⊥)
-
-abbrev pub WronglyCoded : ℕ → List ℕ → ℕ → Type 0
-WronglyCoded k bytes i = ((fault : Fault) × FaultAt fault bytes i) ⊎ Unfit k bytes i
-
--- and it is the first one that is
-pub record FirstWrong (k : ℕ) (bytes : List ℕ) (i : ℕ) : Type 0 where
-  pub even : i % 2 ≡ 0
-  pub inside : i + 2 ≤ length bytes
-  pub here : WronglyCoded k bytes i
-  pub before : (j : ℕ) → j < i → j % 2 ≡ 0 → WronglyCoded k bytes j → ⊥
 
 abbrev placeOr : ℕ → Exact → ℕ
 placeOr i (exact t) = i
@@ -65,15 +51,6 @@ told-rule {r = r} e = ap (ruleOr r) e
 
 same-place : {i j : ℕ} → wrongAt i ≡ wrongAt j → i ≡ j
 same-place {i} e = ap (placeOr i) e
-
--- there is one first
-one-first : (k : ℕ) (bytes : List ℕ) (i j : ℕ) → FirstWrong k bytes i → FirstWrong k bytes j → i ≡ j
-one-first k bytes i j f g =
-    by-test (ltb i j)
-    (λ e. absurd (g .before i (ltb-true i j e) (f .even) (f .here)))
-    (λ e. by-test (ltb j i)
-    (λ h. absurd (f .before j (ltb-true j i h) (g .even) (g .here)))
-    (λ h. omega (arith, ltb-false i j e, ltb-false j i h)))
 
 -- the place is even, whatever k is
 pub pair-even : (k : ℕ) (bytes : List ℕ) (i : ℕ) → length bytes ≡ width k → exactly k (decode 0 bytes) ≡ wrongAt i → i % 2 ≡ 0

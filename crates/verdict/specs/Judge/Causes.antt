@@ -40,7 +40,7 @@ examples =
     ∷ told (take 3 seal-a) item.Country rule.There 2
     ∷ told (take 9 seal-a) item.Names rule.There 4
     ∷ told (take 7 signed-b) item.SignerAndLength rule.There 4
-    ∷ told (take 9 signed-b) item.Reference rule.There 8
+    ∷ told (take 9 signed-b) (item.Reference 8) rule.There 8
     ∷ told (take 12 seal-a) item.Issued rule.There 10
     ∷ told (take 15 seal-a) item.Signed rule.There 13
     ∷ told (take 16 seal-a) item.Definition rule.There 16
