@@ -8,7 +8,7 @@
 
 #define MAKER(m)                                                                                                                                     \
     {                                                                                                                                                \
-        #m, m##_read, m##_judge, m##_write, m##_c40_read, m##_c40_write, m##_date_from_number, m##_date_to_number, m##_integer_read,                 \
+        #m, m##_read, m##_judge, m##_why, m##_write, m##_c40_read, m##_c40_write, m##_date_from_number, m##_date_to_number, m##_integer_read,        \
             m##_integer_write, m##_signature_to_der, m##_signature_to_raw, m##_hash                                                                  \
     }
 
@@ -16,13 +16,14 @@ const maker makers[MAKERS] = {MAKER(c), MAKER(rust), MAKER(fr)};
 
 static given g;
 static uint8_t seal[4096], text[6144], bytes[6144], ders[SIGNATURES][144], integers[INTEGERS][10];
-static size_t table[FR_TABLE_MOST], size, sizes[SIGNATURES], widths[INTEGERS];
+static size_t table[FR_TABLE_MOST], size, sizes[SIGNATURES], widths[INTEGERS], wanted;
 static signatures raws;
 
-/* calls a call so many times on input k, and gives how many were refused */
+/* calls a call so many times on input k, and gives how many were answered with another number than is wanted, which is
+   0 where no other is said */
 #define LOOP(CALL)                                                                                                                                   \
     size_t bad = 0;                                                                                                                                  \
-    for (size_t k = 0; k < times; k++) bad += (CALL).number != 0;                                                                                    \
+    for (size_t k = 0; k < times; k++) bad += (CALL).number != wanted;                                                                               \
     return bad
 
 static void lend(given one) {
@@ -30,9 +31,31 @@ static void lend(given one) {
     size = write_given(makers, &g, seal).count;
 }
 
+static void ready_a(void) { lend(given_a()); }
 static void ready_typical(void) { lend(given_typical(3)); }
 static void ready_four(void) { lend(given_typical(4)); }
 static void ready_full(void) { lend(given_full()); }
+
+/* one byte short: 2 at the signature */
+static void ready_cut(void) {
+    ready_typical();
+    size--;
+    wanted = 2;
+}
+
+/* the signer begins with digits, 012: 5 at its first byte */
+static void ready_signer(void) {
+    ready_four();
+    memcpy(seal + 4, "\x1B\x3C", 2);
+    wanted = 5;
+}
+
+/* the last of 255 tags is the first one: 9 there */
+static void ready_used(void) {
+    ready_full();
+    seal[186 + 254 * 14] = seal[186];
+    wanted = 9;
+}
 
 static void ready_text(void) {
     fill_text(text, 6144);
@@ -52,6 +75,7 @@ static void ready_nothing(void) {}
 
 static size_t run_read(const maker *m, size_t times) { LOOP(m->read(seal, size, table, FR_TABLE_MOST, text, FR_TEXT_MOST)); }
 static size_t run_judge(const maker *m, size_t times) { LOOP(m->judge(seal, size)); }
+static size_t run_why(const maker *m, size_t times) { LOOP(m->why(seal, size)); }
 static size_t run_write(const maker *m, size_t times) { LOOP(write_given(m, &g, bytes)); }
 static size_t run_c40_read(const maker *m, size_t times) { LOOP(m->c40_read(bytes, 4096, text, 6144)); }
 static size_t run_c40_write(const maker *m, size_t times) { LOOP(m->c40_write(text, 6144, bytes, 4096)); }
@@ -74,7 +98,18 @@ static const struct {
 } cases[] = {
     {"read-150", ready_typical, run_read},
     {"read-4096", ready_full, run_read},
+    {"judge-82", ready_a, run_judge},
     {"judge-150", ready_typical, run_judge},
+    {"judge-4096", ready_full, run_judge},
+    {"judge-cut", ready_cut, run_judge},
+    {"judge-signer", ready_signer, run_judge},
+    {"judge-used", ready_used, run_judge},
+    {"why-82", ready_a, run_why},
+    {"why-150", ready_typical, run_why},
+    {"why-4096", ready_full, run_why},
+    {"why-cut", ready_cut, run_why},
+    {"why-signer", ready_signer, run_why},
+    {"why-used", ready_used, run_why},
     {"write-150-4", ready_four, run_write},
     {"write-150-3", ready_typical, run_write},
     {"write-4096", ready_full, run_write},
@@ -96,7 +131,7 @@ static double now(void) {
     return (double)t.tv_sec * 1e9 + (double)t.tv_nsec;
 }
 
-/* the nanoseconds of a call in the best of so many rounds; stops where a call is refused, since the inputs are all good */
+/* the nanoseconds of a call in the best of so many rounds; stops where a call is answered otherwise than is wanted */
 static double measure(size_t c, const maker *m, size_t times, size_t rounds) {
     double best = 0;
     cases[c].ready();
@@ -104,7 +139,10 @@ static double measure(size_t c, const maker *m, size_t times, size_t rounds) {
         double from = now();
         size_t bad = cases[c].run(m, times);
         double spent = (now() - from) / (double)times;
-        if (bad) fprintf(stderr, "bench: %s by %s refused %zu of %zu\n", cases[c].name, m->name, bad, times), exit(1);
+        if (bad) {
+            fprintf(stderr, "bench: %s by %s: %zu of %zu are not %zu\n", cases[c].name, m->name, bad, times, wanted);
+            exit(1);
+        }
         if (round == 0 || spent < best) best = spent;
     }
     return best;

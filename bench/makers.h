@@ -8,6 +8,7 @@ typedef struct {
     const char *name;
     __typeof__(fr_read) *read;
     __typeof__(fr_judge) *judge;
+    __typeof__(fr_why) *why;
     __typeof__(fr_write) *write;
     __typeof__(fr_c40_read) *c40_read;
     __typeof__(fr_c40_write) *c40_write;

@@ -13,6 +13,10 @@ typedef struct {
 static seen got[MAKERS];
 static size_t inputs;
 
+/* by item and rule, whether some seal breaks that rule of that item; the first is for accepted seals */
+enum { RULES = 19 };
+static uint8_t met[18 * RULES];
+
 static void judge_same(const char *call) {
     inputs++;
     for (int i = 1; i < MAKERS; i++)
@@ -70,6 +74,13 @@ static void see_reading(seen *s, fr_reading r) {
     s->fields[18] = r.count;
 }
 
+static void see_reason(seen *s, fr_reason r) {
+    see(s, r.number, r.place, r.item);
+    s->fields[3] = r.rule;
+    s->fields[4] = r.judged.place;
+    s->fields[5] = r.judged.length;
+}
+
 static void see_dated(seen *s, fr_dated d) {
     see(s, d.number, d.place, 0);
     see_date(s->fields + 3, d.date);
@@ -83,6 +94,8 @@ static void same_read(const uint8_t *seal, size_t n, size_t numbers, size_t room
 static void same_seal(const uint8_t *seal, size_t n) {
     same_read(seal, n, FR_TABLE_MOST, FR_TEXT_MOST);
     SAME(see_reading(s, m->judge(seal, n)));
+    SAME(see_reason(s, m->why(seal, n)));
+    met[got[0].fields[2] * RULES + got[0].fields[3]] = 1;
 }
 
 /* a good seal with a table exact, a row longer, a row shorter and all between, with one number less a feature, and with text room exact and one short */
@@ -314,12 +327,20 @@ static void same_signatures(void) {
     }
 }
 
+/* stops unless the seals that were sent broke every rule of every item: 42 of them */
+static void all_met(void) {
+    size_t count = 0;
+    for (size_t k = 1; k < sizeof met; k++) count += met[k];
+    if (count != 42 || !met[0]) fprintf(stderr, "bench: %zu rules of items and not 42\n", count), exit(1);
+}
+
 size_t compare_all(void) {
     given three = given_typical(3), four = given_typical(4), full = given_full();
     same_seals(&three, 150);
     same_seals(&four, 150);
     same_seals(&full, 260);
     same_names();
+    all_met();
     same_writes(&three);
     same_writes(&four);
     same_write(full);

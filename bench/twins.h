@@ -6,6 +6,7 @@
 
 extern __typeof__(fr_read) c_read, rust_read;
 extern __typeof__(fr_judge) c_judge, rust_judge;
+extern __typeof__(fr_why) c_why, rust_why;
 extern __typeof__(fr_write) c_write, rust_write;
 extern __typeof__(fr_c40_read) c_c40_read, rust_c40_read;
 extern __typeof__(fr_c40_write) c_c40_write, rust_c40_write;

@@ -1,11 +1,12 @@
 /*
- * What a camera's overlay can start from: a seal as a picture, each feature in a frame from its tag to its value's end.
+ * What a camera's overlay can start from: a seal as a picture, each feature in a frame from its tag to its value's end;
+ * or, of a refused seal, the bytes judged in red, and beneath them why.
  * Build it with: cc frames.c $(pkg-config --cflags --libs fenderrope) -o frames
  *
  *   frames <SEAL >PICTURE   reads a seal and writes an SVG of its bytes; bytes are in hexadecimal, places in decimal
  *
- * The status is 0 where the picture is written, 1 where the seal is refused, of which nothing is drawn, and 2 where
- * something else is wrong; standard error then says what.
+ * The status is 0 where the picture is written, 1 where it is that of a refused seal, and 2 where something else is
+ * wrong; standard error then says what. At most 4,097 bytes are read and drawn: a longer seal is refused.
  */
 #include <errno.h>
 #include <fenderrope.h>
@@ -16,6 +17,7 @@
 /* Lengths: a line has CELLS cells; a frame stands INSET into its own, and comes OUT of the line where it goes on. */
 enum { CELLS = 16, CELL = 38, HIGH = 28, BASE = 19, LINE = 46, LEFT = 56, TOP = 88, WIDTH = LEFT + CELLS * CELL + 24 };
 enum { INSET = 3, OUT = 5, ENTRY = 20, ENTRIES = 6, SWATCH = 14, PART = 64, WORDS = LEFT + 22, LIST = LEFT + 276 };
+enum { TITLE = 128 }; /* bytes for a title */
 
 /* What printf takes for a box: kind, x, y, width and height; and for text: kind, x, y and what the words ask for. */
 #define BOX "<rect class=\"%s\" x=\"%d\" y=\"%d\" width=\"%d\" height=\"%d\"/>\n"
@@ -28,6 +30,8 @@ static const char style[] = "text { font: 15px 'DejaVu Sans Mono', Menlo, Consol
     "rect { fill: #fff; stroke: #fff } rect.header { fill: #9cc3e6 } rect.signature { fill: #d9d9d9 }\n"
     "rect.message, rect.value { fill: #fff3c4 } rect.tag { fill: #e69f00 } rect.length { fill: #f8cf7c }\n"
     ".frame { fill: none; stroke: #000; stroke-width: 2; stroke-linecap: square }\n";
+static const char red[] = "rect.byte { fill: #e8e8e8 } rect.judged { fill: #c00000 } .reason { text-anchor: start }\n"
+    "text.judged { fill: #fff; font-weight: bold } rect.missing { stroke: #c00000; stroke-width: 4 }\n";
 
 /* Where the cell of a place stands. */
 static int across(size_t place) { return LEFT + (int)(place % CELLS) * CELL; }
@@ -81,19 +85,60 @@ static void legend(fr_ends ends, int y) {
     printf(BOX, "frame", LEFT + INSET, sample + INSET, 3 * PART - 2 * INSET, HIGH - 2 * INSET);
 }
 
-static void draw(const uint8_t *seal, fr_reading r, const size_t *table) {
-    int y = down(r.ends.seal - 1) + LINE + 20, height = y + ENTRY * (r.count < ENTRIES ? ENTRIES : (int)r.count);
+/* What every picture begins with: size, title, style, columns, and the place of each line of so many cells. */
+static void begin(const char *title, const char *more, size_t count, int height) {
     printf("<svg xmlns=\"http://www.w3.org/2000/svg\" version=\"1.1\" role=\"img\" width=\"%d\" height=\"%d\" "
            "viewBox=\"0 0 %d %d\">\n", WIDTH, height, WIDTH, height);
-    printf("<title>Seal of version %zu, %zu bytes, features: %zu</title>\n", r.header.version, r.ends.seal, r.count);
-    printf("<style>\n%s</style>\n" BOX, style, "paper", 0, 0, WIDTH, height);
-    printf(TEXT("version %zu, %zu bytes, features: %zu"), "title", LEFT, 32, r.header.version, r.ends.seal, r.count);
+    printf("<title>Seal of %s</title>\n<style>\n%s%s</style>\n", title, style, more);
+    printf(BOX TEXT("%s"), "paper", 0, 0, WIDTH, height, "title", LEFT, 32, title);
     for (size_t i = 0; i < CELLS; i++) printf(TEXT("%zu"), "column", across(i) + CELL / 2, TOP - 20, i);
-    for (size_t at = 0; at < r.ends.seal; at += CELLS) printf(TEXT("%zu"), "place", LEFT - 12, down(at) + BASE - 1, at);
+    for (size_t at = 0; at < count; at += CELLS) printf(TEXT("%zu"), "place", LEFT - 12, down(at) + BASE - 1, at);
+}
+
+static void draw(const uint8_t *seal, fr_reading r, const size_t *table) {
+    int y = down(r.ends.seal - 1) + LINE + 20, height = y + ENTRY * (r.count < ENTRIES ? ENTRIES : (int)r.count);
+    char title[TITLE];
+    sprintf(title, "version %zu, %zu bytes, features: %zu", r.header.version, r.ends.seal, r.count);
+    begin(title, "", r.ends.seal, height);
     cells("header", seal, 0, r.ends.header);
     for (size_t i = 0; i < r.count; i++) feature(seal, table + FR_ROW * i, y + ENTRY * (int)i);
     cells("signature", seal, r.ends.message, r.ends.seal);
     legend(r.ends, y);
+    printf("</svg>\n");
+}
+
+/* A line of the reason, with words that the library gave: a `<` in them would begin an element. */
+static void line(int y, const char *label, const uint8_t *words, size_t count) {
+    printf("<text class=\"reason\" x=\"%d\" y=\"%d\">%s ", LEFT, y, label);
+    for (size_t i = 0; i < count; i++) {
+        if (words[i] == '<') printf("&lt;");
+        else putchar(words[i]);
+    }
+    printf("</text>\n");
+}
+
+/* Why a seal is refused. */
+static void reason(fr_reason why, int y) {
+    uint8_t item[FR_ITEM_NAME_MOST], rule[FR_RULE_WORDS_MOST];
+    printf(TEXT("number %zu at place %zu"), "reason", LEFT, y, why.number, why.place);
+    line(y + ENTRY, "item", item, fr_item_name(why.item, item, sizeof item).count);
+    line(y + 2 * ENTRY, "rule", rule, fr_rule_words(why.rule, rule, sizeof rule).count);
+}
+
+/* A refused seal: the bytes judged in red, or an empty cell for the missing byte where none were there to be judged. */
+static void draw_refused(const uint8_t *seal, size_t length, fr_reason why) {
+    size_t place = why.judged.place, end = place + why.judged.length, count = place < end ? length : length + 1;
+    int y = down(count - 1) + LINE + 20;
+    char title[TITLE];
+    const char *more = length > FR_SEAL_MOST ? " or more" : ""; /* no more than these were read */
+    sprintf(title, "%zu bytes%s, refused %zu at %zu", length, more, why.number, why.place);
+    begin(title, red, count, y + 3 * ENTRY);
+    cells("byte", seal, 0, place);
+    cells("judged", seal, place, end);
+    cells("byte", seal, end, length);
+    if (place == end)
+        printf(BOX, "missing", across(end) + INSET, down(end) + INSET, CELL - 2 * INSET, HIGH - 2 * INSET);
+    reason(why, y);
     printf("</svg>\n");
 }
 
@@ -112,8 +157,10 @@ int main(int count, char **arguments) {
     size_t length = fread(seal, 1, sizeof seal, stdin);
     if (ferror(stdin)) return failed("standard input", strerror(errno));
     fr_reading r = fr_read(seal, length, table, FR_TABLE_MOST, text, sizeof text);
+    if (r.number == 0) draw(seal, r, table);
+    else draw_refused(seal, length, fr_why(seal, length));
+    if (ferror(stdout) || fclose(stdout) != 0) return failed("standard output", strerror(errno));
+    if (r.number == 0) return 0;
     fr_words(r.number, (uint8_t *)words, FR_WORDS_MOST);
-    if (r.number != 0) return fprintf(stderr, "frames: refused %zu at %zu: %s\n", r.number, r.place, words) < 0 ? 2 : 1;
-    draw(seal, r, table);
-    return ferror(stdout) || fclose(stdout) != 0 ? failed("standard output", strerror(errno)) : 0;
+    return fprintf(stderr, "frames: refused %zu at %zu: %s\n", r.number, r.place, words) < 0 ? 2 : 1;
 }

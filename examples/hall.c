@@ -6,8 +6,9 @@
  *
  * The press is named by feature 11: 1 to 12 upper-case letters and digits, in C40. The line of a locked press ends
  * with the frame that a camera overlay draws around the feature: the place of its tag in FILE, and how many bytes tag,
- * length and value are together. The status is 0 where a press is locked or a tag made, 1 where FILE is refused or is
- * no lock tag, and 2 where something else is wrong; standard error then says what.
+ * length and value are together. After the line of a refusal come five that tell the crew why: number, item, place,
+ * bytes judged and the rule that they break. The status is 0 where a press is locked or a tag made, 1 where FILE is
+ * refused or is no lock tag, and 2 where something else is wrong; standard error then says what.
  *
  * Signing is the signing unit's work: make gives it the signed bytes on standard output and takes the raw signature, 64
  * bytes, from standard input. So is verifying: what is printed is what the tag says, not that it is genuine.
@@ -20,7 +21,7 @@
 #include <string.h>
 #include <time.h>
 
-enum { PRESS = 11, NAME_MOST = 12, VALUE_MOST = 8, SIGNATURE = 64 };
+enum { PRESS = 11, NAME_MOST = 12, VALUE_MOST = 8, SIGNATURE = 64, SHOWN = 16 };
 
 /* Something that is not the tag's is wrong. */
 static int wrong(const char *words) {
@@ -50,6 +51,27 @@ static const char *words_of(size_t number) {
     return words;
 }
 
+/* Bytes in hexadecimal, the first sixteen and how many more there are, or none. */
+static const char *bytes_of(const uint8_t *bytes, size_t count) {
+    static char text[3 * SHOWN + sizeof " and 18446744073709551615 more"];
+    size_t shown = count < SHOWN ? count : SHOWN;
+    int at = 0;
+    if (count == 0) return "none";
+    for (size_t i = 0; i < shown; i++) at += sprintf(text + at, i == 0 ? "%02X" : " %02X", bytes[i]);
+    if (count > shown) sprintf(text + at, " and %zu more", count - shown);
+    return text;
+}
+
+/* Why a seal is refused: the number in words, and then what the library says of the item that breaks a rule. */
+static int refused(const uint8_t *seal, fr_reason why) {
+    uint8_t item[FR_ITEM_NAME_MOST], rule[FR_RULE_WORDS_MOST];
+    int name = (int)fr_item_name(why.item, item, sizeof item).count;
+    int words = (int)fr_rule_words(why.rule, rule, sizeof rule).count;
+    return say(1, "refused %zu at %zu: %s\nnumber %zu\nitem %.*s\nplace %zu\nbytes %s\nrule %.*s\n", why.number,
+               why.place, words_of(why.number), why.number, name, (const char *)item, why.place,
+               bytes_of(seal + why.judged.place, why.judged.length), words, (const char *)rule);
+}
+
 /* Text that went through C40 is a press's name if it is not empty and has no space. */
 static int is_name(fr_filled c40, const void *text, size_t length) {
     return c40.number == 0 && length != 0 && !memchr(text, ' ', length);
@@ -64,7 +86,7 @@ static int show(const char *path) {
     if (ferror(file)) return failed(path);
     fclose(file);
     fr_reading r = fr_read(seal, length, table, FR_TABLE_MOST, text, sizeof text);
-    if (r.number != 0) return say(1, "refused %zu at %zu: %s\n", r.number, r.place, words_of(r.number));
+    if (r.number != 0) return refused(seal, fr_why(seal, length));
     const size_t *row = table, *end = table + FR_ROW * r.count;
     while (row < end && row[FR_ROW_TAG] != PRESS) row += FR_ROW;
     if (row == end) return say(1, "no lock tag: no press is named\n");

@@ -1,7 +1,8 @@
 /*
  * Fuzzing of the C face. The same bytes serve as a seal, as C40, as DER and as the arguments of a writing. Held to: no crash, no lent byte changed on a
  * refusal and none outside what is written, what is read writes back the same, and what is written reads back the same. The rows of a seal frame its
- * features, one after another, and the places of the tags change nothing of a writing.
+ * features, one after another, and the places of the tags change nothing of a writing. Why a seal is refused agrees
+ * with the verdict and with the bytes judged (why.h).
  *
  * The library is compiled code that the fuzzer cannot look into. So each buffer is lent against a page that must not be touched, before it or behind it,
  * and the fuzzer is told the number and place of each answer as its counters.
@@ -13,20 +14,24 @@
 #include <string.h>
 #include <sys/mman.h>
 
-#define MUST(condition) ((condition) ? (void)0 : broken(#condition, __LINE__))
+#define MUST(condition) ((condition) ? (void)0 : broken(#condition, __FILE__, __LINE__))
 
-static void broken(const char *what, int line) {
-    fprintf(stderr, "fuzz/face.c:%d: does not hold: %s\n", line, what);
+static void broken(const char *what, const char *file, int line) {
+    fprintf(stderr, "%s:%d: does not hold: %s\n", file, line, what);
     abort();
 }
+
+#include "why.h"
 
 /*
  * How often each number was answered and each call done; and the counters that the fuzzer follows, for each number, or call where it is 0, and a byte of
  * the place.
  */
-enum call { READ, WRITE, C40_READ, C40_WRITE, FROM_NUMBER, TO_NUMBER, INTEGER_READ, INTEGER_WRITE, TO_DER, TO_RAW, HASH, SAY, CALLS };
+enum call { READ, WRITE, C40_READ, C40_WRITE, FROM_NUMBER, TO_NUMBER, INTEGER_READ, INTEGER_WRITE, TO_DER, TO_RAW, HASH,
+            SAY, NAME, RULE, CALLS };
 static const char *const names[CALLS] = {"read", "write", "c40_read", "c40_write", "date_from_number", "date_to_number", "integer_read",
-                                         "integer_write", "signature_to_der", "signature_to_raw", "hash", "words"};
+                                         "integer_write", "signature_to_der", "signature_to_raw", "hash", "words",
+                                         "item_name", "rule_words"};
 enum { NUMBERS = 66 };
 static unsigned long answers[NUMBERS + CALLS];
 __attribute__((used, section("__libfuzzer_extra_counters"))) static volatile uint8_t counters[(NUMBERS + CALLS) * 256];
@@ -45,6 +50,7 @@ static void tell(void) {
     for (size_t i = 1; i < NUMBERS; i++)
         if (answers[i] != 0) fprintf(stderr, " %zu:%lu", i, answers[i]);
     fprintf(stderr, "\n");
+    tell_reasons();
 }
 
 /* Lent memory: pages between two that must not be touched, and a copy to compare with. */
@@ -194,9 +200,11 @@ static fr_reading read_whole(const void *bytes, size_t size) {
     const uint8_t *seal = (const uint8_t *)lend(SEAL, bytes, size);
     fr_reading r = read_into(seal, size, FR_TABLE_MOST, FR_TEXT_MOST);
     MUST(same_reading(r, fr_judge(seal, size)));
+    explained(r, seal, size);
+    MUST(kept(SEAL, 0));
     if (r.number != 0) return r;
     MUST(r.place == 0 && r.ends.header <= r.ends.message && r.ends.message < r.signature.place && r.ends.seal == size);
-    MUST(r.signature.place + r.signature.length == size && kept(SEAL, 0) && r.count <= FR_FEATURES_MOST);
+    MUST(r.signature.place + r.signature.length == size && r.count <= FR_FEATURES_MOST);
     framed(r, seal, (const size_t *)(const void *)rooms[TABLE].at);
     return r;
 }
@@ -408,25 +416,36 @@ static void dates(size_t number) {
     MUST(d.number == 0 ? n.number == 0 && n.value == number : d.number == 6 && d.date.month == 0 && d.date.day == 0 && d.date.year == 0 && n.number == 22);
 }
 
-/* A number's words in any room: all of them or none, in ASCII; the same in just their room, and refused in one byte less. */
-static void say(size_t number, size_t room) {
+/* The calls that give words: the number where there is no room, their most bytes, and the code after the last. */
+static const struct {
+    fr_filled (*words)(size_t, uint8_t *, size_t);
+    size_t no_room, most, end;
+} sayings[] = {{fr_words, 63, FR_WORDS_MOST, NUMBERS},
+               {fr_item_name, 42, FR_ITEM_NAME_MOST, ITEMS},
+               {fr_rule_words, 42, FR_RULE_WORDS_MOST, RULES}};
+
+static fr_filled said_in(enum call call, size_t code, size_t room) {
+    fr_filled f = sayings[call - SAY].words(code, (uint8_t *)lend(OUT, NULL, room), room);
+    filled(call, f, room);
+    return f;
+}
+
+/*
+ * A code's words in any room: all of them or none, in ASCII; the same in just their room, and refused in one byte less.
+ * Every item and every rule has some, and no other code.
+ */
+static void say(enum call call, size_t code, size_t room) {
     uint8_t words[FR_WORDS_MOST];
-    uint8_t *out = (uint8_t *)lend(OUT, NULL, room);
-    fr_filled f = fr_words(number, out, room);
-    filled(SAY, f, room);
-    MUST(f.number == 0 ? f.count <= FR_WORDS_MOST && (number < NUMBERS || f.count == 0) : f.number == 63 && f.place == 0 && room < FR_WORDS_MOST);
+    size_t no_room = sayings[call - SAY].no_room, most = sayings[call - SAY].most;
+    int listed = code < sayings[call - SAY].end;
+    fr_filled f = said_in(call, code, room);
+    MUST(f.number == 0 ? f.count <= most && (listed || f.count == 0) : f.number == no_room && room < most && listed);
+    MUST(f.place == 0 && (call == SAY || f.number != 0 || (f.count != 0) == (listed && code != 0)));
     if (f.count == 0) return;
-    for (size_t i = 0; i < f.count; i++) MUST(out[i] >= ' ' && out[i] <= '~');
-    memcpy(words, out, f.count);
-    size_t count = f.count;
-    out = (uint8_t *)lend(OUT, NULL, count);
-    f = fr_words(number, out, count);
-    filled(SAY, f, count);
-    MUST(f.number == 0 && f.count == count && memcmp(out, words, count) == 0);
-    out = (uint8_t *)lend(OUT, NULL, count - 1);
-    f = fr_words(number, out, count - 1);
-    filled(SAY, f, count - 1);
-    MUST(f.number == 63);
+    memcpy(words, rooms[OUT].at, f.count);
+    for (size_t i = 0; i < f.count; i++) MUST(words[i] >= ' ' && words[i] <= '~');
+    MUST(said_in(call, code, f.count).number == 0 && memcmp(rooms[OUT].at, words, f.count) == 0);
+    MUST(said_in(call, code, f.count - 1).number == no_room);
 }
 
 static void codecs(const uint8_t *data, size_t size) {
@@ -446,8 +465,10 @@ static void codecs(const uint8_t *data, size_t size) {
     fr_hashed h = fr_hash(n);
     seen(HASH, h.number, h.bits / 2);
     MUST(h.number == 0 ? h.bits >= 224 && h.bits <= 512 : h.number == 60 && h.bits == 0);
-    number = most(80);
-    say(number, rarely() ? room : take(1) % (FR_WORDS_MOST + 2));
+    for (size_t call = SAY; call <= RULE; call++) {
+        number = most(sayings[call - SAY].end + 14);
+        say((enum call)call, number, rarely() ? room : take(1) % (sayings[call - SAY].most + 2));
+    }
 }
 
 int LLVMFuzzerTestOneInput(const uint8_t *data, size_t size) {

@@ -3,9 +3,9 @@
  *
  * Every call takes every input and answers by value. `number` is 0 when the call is done; any other number is a
  * refusal from the list below, and `place` says where: it is 0 where the call names no other. On a refusal no lent
- * memory changes and every field but number and place is 0. On 0 a call that fills a buffer writes from its start,
- * gives the count written, and leaves the memory past it as it was. docs/NUMBERS.md has the numbers with their order
- * and places.
+ * memory changes and every field but number and place is 0; fr_why alone fills its other fields where a seal is
+ * refused. On 0 a call that fills a buffer writes from its start, gives the count written, and leaves the memory past
+ * it as it was. docs/NUMBERS.md has the numbers with their order and places.
  *
  * A buffer is a pointer and a length. The pointer is not null unless the length is 0, points to as many elements as
  * the length says, and a buffer that is written overlaps no other buffer of the same call. No call keeps a pointer,
@@ -35,7 +35,7 @@ extern "C" {
 #endif
 
 /* The version of this header and its library. */
-#define FR_VERSION "0.5.0"
+#define FR_VERSION "0.6.0"
 
 /* Sizes that hold for every legal seal (document 01, "Sizes"). */
 #define FR_SEAL_MOST 4096      /* bytes of a seal */
@@ -48,6 +48,8 @@ extern "C" {
 #define FR_CHARACTERS_MOST 6144 /* characters of text in C40 */
 #define FR_INTEGER_MOST 10     /* bytes of a DER INTEGER */
 #define FR_WORDS_MOST 92       /* bytes of the longest words that fr_words gives */
+#define FR_ITEM_NAME_MOST 20   /* bytes of the longest name that fr_item_name gives */
+#define FR_RULE_WORDS_MOST 61  /* bytes of the longest words that fr_rule_words gives */
 
 /* A row of a table: how many numbers it has, and which of them stands where. */
 #define FR_ROW 4               /* numbers of a row */
@@ -64,7 +66,7 @@ extern "C" {
 enum fr_number {
     FR_DONE = 0, /* done */
 
-    /* fr_read and fr_judge, item by item from the left; fr_date_from_number gives 6 */
+    /* fr_read, fr_judge and fr_why, item by item from the left; fr_date_from_number gives 6 */
     FR_TOO_LONG = 1,          /* seal longer than 4,096 */
     FR_CUT = 2,               /* the input ends before an item is whole */
     FR_FIRST_BYTE = 3,        /* first byte is not DC */
@@ -91,7 +93,7 @@ enum fr_number {
     FR_WRITE_TOO_LONG = 27,   /* writer: seal would pass 4,096 */
     FR_WRITE_ROOM = 28,       /* writer: no room for the whole seal */
 
-    /* fr_c40_read and fr_c40_write */
+    /* fr_c40_read and fr_c40_write; fr_item_name and fr_rule_words give 42 */
     FR_C40_ODD = 40,          /* C40 bytes odd in number */
     FR_C40_PAIR = 41,         /* C40 pair value of 0 or over 64,000 that does not begin with FE */
     FR_C40_TEXT_ROOM = 42,    /* no room for the text */
@@ -108,6 +110,55 @@ enum fr_number {
     FR_NO_ROOM = 63,          /* no room */
     /* 64 is retired: no input gives it */
     FR_NOT_INTEGER = 65       /* not one whole DER INTEGER of 1 to 8 bytes */
+};
+
+/*
+ * The items of a seal, in the order in which they are judged, each with its name, which fr_item_name gives too. Version
+ * 3 has one item for signer and reference, version 4 has two.
+ */
+enum fr_item {
+    FR_ITEM_SEAL = 1,              /* seal */
+    FR_ITEM_MARK = 2,              /* mark */
+    FR_ITEM_VERSION = 3,           /* version */
+    FR_ITEM_COUNTRY = 4,           /* country */
+    FR_ITEM_NAMES = 5,             /* signer and reference */
+    FR_ITEM_SIGNER_AND_LENGTH = 6, /* signer and length */
+    FR_ITEM_REFERENCE = 7,         /* reference */
+    FR_ITEM_ISSUED = 8,            /* issue date */
+    FR_ITEM_SIGNED = 9,            /* signature date */
+    FR_ITEM_DEFINITION = 10,       /* definition */
+    FR_ITEM_CATEGORY = 11,         /* category */
+    FR_ITEM_TAG = 12,              /* tag */
+    FR_ITEM_LENGTH = 13,           /* length */
+    FR_ITEM_VALUE = 14,            /* value */
+    FR_ITEM_SIGNATURE_LENGTH = 15, /* signature length */
+    FR_ITEM_SIGNATURE = 16,        /* signature */
+    FR_ITEM_END = 17               /* end */
+};
+
+/*
+ * The rules that an item keeps, each with its words, which fr_rule_words gives too. Up to 11 a rule's code is the
+ * number that is answered where it is broken; for 12 to 16 that is 5, for 17 it is 2, and for 18 it is 8.
+ */
+enum fr_rule {
+    FR_RULE_NOT_TOO_LONG = 1,    /* a seal has at most 4,096 bytes */
+    FR_RULE_THERE = 2,           /* all its bytes are there */
+    FR_RULE_MARK = 3,            /* a seal begins with DC */
+    FR_RULE_VERSION = 4,         /* the version is 02 or 03 */
+    FR_RULE_WELL_CODED = 5,      /* every two bytes stand for characters, as many as the item has */
+    FR_RULE_DAY = 6,             /* the date is a real day */
+    FR_RULE_ONE_TO_254 = 7,      /* the number is 1 to 254 */
+    FR_RULE_BEGINS_LENGTH = 8,   /* the length begins with 00 to 7F or with 81 to 84 */
+    FR_RULE_NOT_USED_BEFORE = 9, /* a tag is used once only */
+    FR_RULE_SIGNATURE_SIZE = 10, /* the signature is 56, 64, 96, 128 or 132 bytes long */
+    FR_RULE_NOTHING_AFTER = 11,  /* nothing follows the signature */
+    FR_RULE_COUNTRY = 12,        /* the country is a letter, then letters, then < to fill */
+    FR_RULE_SIGNER = 13,         /* the signer is two letters, then two letters or digits */
+    FR_RULE_REFERENCE = 14,      /* the reference is letters and digits */
+    FR_RULE_HEXADECIMAL = 15,    /* the reference's length is two of 0 to 9 and A to F */
+    FR_RULE_NOT_ZERO = 16,       /* the reference's length is not 00 */
+    FR_RULE_REST_THERE = 17,     /* all bytes of the length are there */
+    FR_RULE_SHORTEST = 18        /* the length is in its shortest form */
 };
 
 /* A day of the Gregorian calendar: month 1 to 12, day 1 to the month's last, year 1 to 9999. */
@@ -153,6 +204,15 @@ typedef struct fr_reading {
     fr_part signature; /* the raw signature: r, then s */
     size_t count;      /* of features */
 } fr_reading;
+
+/* What fr_why answers. */
+typedef struct fr_reason {
+    size_t number;
+    size_t place;
+    size_t item;    /* the item that breaks a rule, of enum fr_item */
+    size_t rule;    /* the first rule that it breaks, of enum fr_rule */
+    fr_part judged; /* the bytes judged, a part of the seal */
+} fr_reason;
 
 /* What a call that fills a buffer answers. */
 typedef struct fr_filled {
@@ -205,6 +265,24 @@ fr_reading fr_read(const uint8_t *seal, size_t seal_length, size_t *table, size_
 
 /* The same verdict and fields with nothing lent; 12 is not given. */
 fr_reading fr_judge(const uint8_t *seal, size_t seal_length);
+
+/*
+ * Why a seal is refused: number and place are fr_judge's; every item before the one named keeps all its rules, and that
+ * one keeps every rule that comes before the one named, and breaks it. Every field is 0 for an accepted seal.
+ *
+ * The bytes judged begin at the place and lie in the seal. Where bytes are missing they are those that are there, maybe
+ * none; of text that is wrongly coded the pair; of a wrong character, a date or a byte the whole item; of a length its
+ * first byte where that alone is judged, and else the whole length; of a seal that is too long, and of what follows the
+ * signature, the first byte that is too many.
+ */
+fr_reason fr_why(const uint8_t *seal, size_t seal_length);
+
+/*
+ * The name of an item and the words of a rule in ASCII, without an end mark: 0, or 42 where there is not room for all
+ * of them. A code that is not in the lists above has none: 0, with count 0.
+ */
+fr_filled fr_item_name(size_t item, uint8_t *out, size_t out_length);
+fr_filled fr_rule_words(size_t rule, uint8_t *out, size_t out_length);
 
 /*
  * Writes a seal: 0, or the first of 20 to 28 that holds, with place 0. `text` is signer and reference, and

@@ -15,10 +15,12 @@ import der_cases
 import listing_cases
 import pair_cases
 import seal_cases
+import why_cases
 import write_cases
 
 BUFFER = 65536   # the program's for a file of cases and for their answers, neither of which may fill it
-LETTERS = {"c40": "c", "numbers": "n", "signatures": "s", "seals": "r", "writing": "w", "listing": "l"}
+LETTERS = {"c40": "c", "numbers": "n", "signatures": "s", "seals": "r", "writing": "w", "listing": "l",
+           "why": "y"}
 BACK = "b"   # chapters of seals that are read and written back
 NAMES = {
     "c40": c40_cases.chapters(),
@@ -27,6 +29,7 @@ NAMES = {
     "seals": itertools.chain(seal_cases.chapters(), pair_cases.chapters()),
     "writing": write_cases.chapters(),
     "listing": listing_cases.chapters(),
+    "why": why_cases.chapters(),
 }
 
 

@@ -68,17 +68,6 @@ static item field(cursor at, const uint8_t *s, size_t n, uint8_t *text, size_t s
     return wrong_at(f.number == 0 || f.number == 42 ? width - 2 : f.place);
 }
 
-static int all_reference(const uint8_t *t, size_t size) {
-    for (size_t i = 0; i < size; i++)
-        if (!is_reference(t[i])) return 0;
-    return 1;
-}
-
-static size_t hex_value(uint8_t c) {
-    if (c >= '0' && c <= '9') return c - '0';
-    return c >= 'A' && c <= 'F' ? c - 55u : 16;
-}
-
 static item country_at(cursor at, const uint8_t *s, size_t n, uint8_t *t) {
     item f = field(at, s, n, t, 3);
     if (f.kind != READ) return f;

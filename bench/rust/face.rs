@@ -48,6 +48,16 @@ pub struct Reading {
 
 #[repr(C)]
 #[derive(Default)]
+pub struct Reason {
+    pub number: usize,
+    pub place: usize,
+    pub item: usize,
+    pub rule: usize,
+    pub judged: Part,
+}
+
+#[repr(C)]
+#[derive(Default)]
 pub struct Filled {
     pub number: usize,
     pub place: usize,

@@ -8,9 +8,10 @@ mod numbers;
 mod reader;
 mod signature;
 mod text;
+mod why;
 mod writer;
 
-use face::{Date, Dated, Filled, Hashed, Header, Integer, Numbered, Reading};
+use face::{Date, Dated, Filled, Hashed, Header, Integer, Numbered, Reading, Reason};
 
 #[no_mangle]
 pub unsafe extern "C" fn rust_read(
@@ -27,6 +28,11 @@ pub unsafe extern "C" fn rust_read(
 #[no_mangle]
 pub unsafe extern "C" fn rust_judge(seal: *const u8, n: usize) -> Reading {
     reader::judge(from_raw_parts(seal, n))
+}
+
+#[no_mangle]
+pub unsafe extern "C" fn rust_why(seal: *const u8, n: usize) -> Reason {
+    why::why(from_raw_parts(seal, n))
 }
 
 #[no_mangle]

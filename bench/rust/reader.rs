@@ -10,7 +10,7 @@ struct Cursor<'a> {
     place: usize,
 }
 
-fn is_signer(t: &[u8]) -> bool {
+pub fn is_signer(t: &[u8]) -> bool {
     t[..2].iter().all(u8::is_ascii_uppercase) && t[2..4].iter().all(is_letter_or_digit)
 }
 
@@ -18,11 +18,11 @@ fn is_letter_or_digit(c: &u8) -> bool {
     c.is_ascii_uppercase() || c.is_ascii_digit()
 }
 
-fn is_reference(c: &u8) -> bool {
+pub fn is_reference(c: &u8) -> bool {
     is_letter_or_digit(c)
 }
 
-fn is_country(t: &[u8; 3]) -> bool {
+pub fn is_country(t: &[u8; 3]) -> bool {
     match t {
         [a, b, c] if a.is_ascii_uppercase() && b.is_ascii_uppercase() => c.is_ascii_uppercase() || *c == b' ',
         [a, b' ', b' '] => a.is_ascii_uppercase(),
@@ -30,7 +30,7 @@ fn is_country(t: &[u8; 3]) -> bool {
     }
 }
 
-fn hex_value(c: u8) -> Option<usize> {
+pub fn hex_value(c: u8) -> Option<usize> {
     match c {
         b'0'..=b'9' => Some(usize::from(c - b'0')),
         b'A'..=b'F' => Some(usize::from(c - b'A') + 10),

@@ -7,6 +7,8 @@
 
 #include "codecs.h"
 #include "reading.h"
+#include "why.h"
+#include "why_words.h"
 #include "words.h"
 #include "writing.h"
 
@@ -21,6 +23,10 @@ int main(void) {
     test_pairs();
     test_lengths();
     test_places();
+    test_why_three();
+    test_why_four();
+    test_why_most();
+    test_why_met();
     test_writer_header();
     test_writer_rows();
     test_tables();
@@ -32,6 +38,7 @@ int main(void) {
     test_signatures();
     test_hash();
     test_words();
+    test_why_words();
     printf("face: %lu checks, %lu failed\n", checks, failures);
     return failures != 0;
 }

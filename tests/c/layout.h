@@ -1,6 +1,6 @@
 /*
- * Sizes, alignments and offsets of the structs, for x86-64, the types of the calls and the numbers' constants: checked
- * when compiled, against plain numbers, of which the Rust tests hold those of the structs too.
+ * Sizes, alignments and offsets of the structs, for x86-64, the types of the calls and the constants of numbers, items
+ * and rules: checked when compiled, against plain numbers, of which the Rust tests hold those of the structs too.
  */
 #ifndef LAYOUT_H
 #define LAYOUT_H
@@ -44,6 +44,13 @@ FIELD(fr_reading, ends, 104, 24);
 FIELD(fr_reading, signature, 128, 16);
 FIELD(fr_reading, count, 144, 8);
 
+LAYOUT(fr_reason, 48);
+FIELD(fr_reason, number, 0, 8);
+FIELD(fr_reason, place, 8, 8);
+FIELD(fr_reason, item, 16, 8);
+FIELD(fr_reason, rule, 24, 8);
+FIELD(fr_reason, judged, 32, 16);
+
 LAYOUT(fr_filled, 24);
 FIELD(fr_filled, number, 0, 8);
 FIELD(fr_filled, place, 8, 8);
@@ -73,6 +80,9 @@ FIELD(fr_hashed, bits, 16, 8);
 typedef const uint8_t *bytes_in;
 fr_reading (*call_read)(bytes_in, size_t, size_t *, size_t, uint8_t *, size_t) = fr_read;
 fr_reading (*call_judge)(bytes_in, size_t) = fr_judge;
+fr_reason (*call_why)(bytes_in, size_t) = fr_why;
+fr_filled (*call_item_name)(size_t, uint8_t *, size_t) = fr_item_name;
+fr_filled (*call_rule_words)(size_t, uint8_t *, size_t) = fr_rule_words;
 fr_filled (*call_write)(fr_header, bytes_in, size_t, const size_t *, size_t, bytes_in, size_t, bytes_in, size_t, uint8_t *, size_t) = fr_write;
 fr_filled (*call_c40_read)(bytes_in, size_t, uint8_t *, size_t) = fr_c40_read;
 fr_filled (*call_c40_write)(bytes_in, size_t, uint8_t *, size_t) = fr_c40_write;
@@ -131,5 +141,47 @@ NUMBER(FR_RAW_LENGTH, 61);
 NUMBER(FR_NOT_DER, 62);
 NUMBER(FR_NO_ROOM, 63);
 NUMBER(FR_NOT_INTEGER, 65);
+
+/* The items, in the order in which they are judged. */
+NUMBER(FR_ITEM_SEAL, 1);
+NUMBER(FR_ITEM_MARK, 2);
+NUMBER(FR_ITEM_VERSION, 3);
+NUMBER(FR_ITEM_COUNTRY, 4);
+NUMBER(FR_ITEM_NAMES, 5);
+NUMBER(FR_ITEM_SIGNER_AND_LENGTH, 6);
+NUMBER(FR_ITEM_REFERENCE, 7);
+NUMBER(FR_ITEM_ISSUED, 8);
+NUMBER(FR_ITEM_SIGNED, 9);
+NUMBER(FR_ITEM_DEFINITION, 10);
+NUMBER(FR_ITEM_CATEGORY, 11);
+NUMBER(FR_ITEM_TAG, 12);
+NUMBER(FR_ITEM_LENGTH, 13);
+NUMBER(FR_ITEM_VALUE, 14);
+NUMBER(FR_ITEM_SIGNATURE_LENGTH, 15);
+NUMBER(FR_ITEM_SIGNATURE, 16);
+NUMBER(FR_ITEM_END, 17);
+
+/* The rules: up to 11 each has the number that is answered where it is broken. */
+NUMBER(FR_RULE_NOT_TOO_LONG, 1);
+NUMBER(FR_RULE_THERE, 2);
+NUMBER(FR_RULE_MARK, 3);
+NUMBER(FR_RULE_VERSION, 4);
+NUMBER(FR_RULE_WELL_CODED, 5);
+NUMBER(FR_RULE_DAY, 6);
+NUMBER(FR_RULE_ONE_TO_254, 7);
+NUMBER(FR_RULE_BEGINS_LENGTH, 8);
+NUMBER(FR_RULE_NOT_USED_BEFORE, 9);
+NUMBER(FR_RULE_SIGNATURE_SIZE, 10);
+NUMBER(FR_RULE_NOTHING_AFTER, 11);
+NUMBER(FR_RULE_COUNTRY, 12);
+NUMBER(FR_RULE_SIGNER, 13);
+NUMBER(FR_RULE_REFERENCE, 14);
+NUMBER(FR_RULE_HEXADECIMAL, 15);
+NUMBER(FR_RULE_NOT_ZERO, 16);
+NUMBER(FR_RULE_REST_THERE, 17);
+NUMBER(FR_RULE_SHORTEST, 18);
+
+NUMBER(FR_ITEM_NAME_MOST, 20);
+NUMBER(FR_RULE_WORDS_MOST, 61);
 
 #endif

@@ -70,11 +70,25 @@ static int unread(fr_reading r, size_t number, size_t place) {
         && r.signature.place == 0 && r.signature.length == 0 && r.count == 0;
 }
 
+/*
+ * What holds of the reason for every input: number and place are the verdict's; an accepted seal has none; a refused
+ * one has an item, a rule and a part of the seal, which begins at the place.
+ */
+static int tells(const uint8_t *seal, size_t length) {
+    fr_reading r = fr_judge(seal, length);
+    fr_reason w = fr_why(seal, length);
+    if (w.number != r.number || w.place != r.place || w.judged.place != w.place) return 0;
+    if (w.number == 0) return w.place == 0 && w.item == 0 && w.rule == 0 && w.judged.length == 0;
+    if (w.item < FR_ITEM_SEAL || w.item > FR_ITEM_END) return 0;
+    if (w.rule < FR_RULE_NOT_TOO_LONG || w.rule > FR_RULE_SHORTEST) return 0;
+    return w.judged.place <= length && w.judged.length <= length - w.judged.place;
+}
+
 /* Reads with all the room that there can be: the verdict alone and the reading both refuse so, and nothing lent changes. */
 static int refuses(const uint8_t *seal, size_t length, size_t number, size_t place) {
     fresh();
     return unread(fr_judge(seal, length), number, place) && unread(fr_read(seal, length, table, FR_TABLE_MOST, lent, FR_TEXT_MOST), number, place)
-        && kept(0, 0);
+        && tells(seal, length) && kept(0, 0);
 }
 
 /* The numbers of a row, in their order. */

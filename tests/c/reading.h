@@ -8,7 +8,7 @@ static void test_seal_a(void) {
     size_t rows[FR_ROW];
     uint8_t text[9];
     fr_reading r;
-    CHECK(is_reading_a(fr_judge(seal_a, SEAL_A)));
+    CHECK(is_reading_a(fr_judge(seal_a, SEAL_A)) && tells(seal_a, SEAL_A));
     fresh();
     r = fr_read(seal_a, SEAL_A, table, FR_TABLE_MOST, lent, FR_TEXT_MOST);
     CHECK(is_reading_a(r));
@@ -62,7 +62,7 @@ static void test_reader_refusals(void) {
     memcpy(more + 24, more + 18, 6);
     CHECK(refuses(more, SEAL_A + 6, 9, 24));
     more[24] = 11;
-    CHECK(fr_judge(more, SEAL_A + 6).number == 0 && fr_judge(more, SEAL_A + 6).count == 2);
+    CHECK(fr_judge(more, SEAL_A + 6).number == 0 && fr_judge(more, SEAL_A + 6).count == 2 && tells(more, SEAL_A + 6));
 }
 
 /* A seal of either version with these three bytes as issue date, then as signature date: taken, or refused with 6 at that date. */
@@ -76,6 +76,7 @@ static int takes_date(const char *bytes, int taken) {
             length = fr_write(header_of(version), (const uint8_t *)"UTAB00001", 9, NULL, 0, NULL, 0, signature, 56, lent, ROOM).count;
             memcpy(seal, lent, length);
             memcpy(seal + at, bytes, 3);
+            if (!tells(seal, length)) return 0;
             if (taken ? fr_judge(seal, length).number != 0 : !refuses(seal, length, 6, at)) return 0;
         }
     return 1;
@@ -124,6 +125,7 @@ static int writes_names(fr_header header, const char *text, const uint8_t *bytes
     memcpy(seal, lent, written);
     fresh();
     r = fr_read(seal, written, NULL, 0, lent, FR_TEXT_MOST);
+    if (!tells(seal, written)) return 0;
     return r.number == 0 && is_last(r.header) && r.count == 0 && r.header.version == header.version && r.header.length == length - 4
         && r.ends.header == 10 + count && memcmp(r.header.country, header.country, 3) == 0 && memcmp(lent, text, length) == 0 && kept(length, 0);
 }
@@ -203,6 +205,7 @@ static fr_reading with_feature(size_t version, const char *form, size_t form_siz
     memset(seal + end + form_size, 0xFF, size);
     end += form_size + size;
     memcpy(seal + end, seal_a + 24, 58);
+    CHECK(tells(seal, end + 58));
     fresh();
     return fr_read(seal, end + 58, table, FR_TABLE_MOST, lent, FR_TEXT_MOST);
 }
@@ -233,6 +236,7 @@ static void test_lengths(void) {
 static void check_rows(size_t version, const feature *features, size_t count) {
     size_t length = make_seal(version, features, count);
     fr_reading r;
+    CHECK(tells(made, length));
     fresh();
     r = fr_read(made, length, table, FR_ROW * count, lent, 9);
     CHECK(r.number == 0 && r.place == 0 && r.count == count && kept(9, FR_ROW * count));

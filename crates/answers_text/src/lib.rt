@@ -1,9 +1,10 @@
-// What the calls of C40 text and of the words answer, as the C face tells it: number, place and count of every case. Each table stands
-// once, for the exported calls of `capi` and for the cases that are run.
+// What the calls of C40 text, of the words and of the names answer, as the C face tells it: number, place and count of every case. Each
+// table stands once, for the exported calls of `capi` and for the cases that are run.
 ghost use mathlib.Core.Path.{_≡_};
 ghost use Rattle.c40.specs.Calls.{readingOf, writingOf};
 ghost use Rattle.c40.specs.declared.Reading.the-variants.{WrongPair};
 ghost use Rattle.words.specs.Calls.{toldOf};
+ghost use Rattle.why_words.specs.Calls as names;
 ghost use Rattle.face.specs.Face.{filledOf};
 use c40::Reading;
 use c40::Writing;
@@ -54,5 +55,15 @@ pub fn words_told(answer: Told) -> FrFilled
     match answer {
         Told::Done(count) => FrFilled::done(count),
         Told::NoRoom => FrFilled::refused(63, 0),
+    }
+}
+
+// Number and count of an item's name told, or of a rule's words.
+pub fn name_told(answer: why_words::Told) -> FrFilled
+    ensures { λ r. ⌜ r ≡ filledOf (names.toldOf answer) ⌝ }
+{
+    match answer {
+        why_words::Told::Done(size) => FrFilled::done(size),
+        why_words::Told::NoRoom => FrFilled::refused(42, 0),
     }
 }

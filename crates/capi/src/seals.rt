@@ -1,4 +1,4 @@
-// Whole seals: read, judged and written.
+// Whole seals: read, judged and written, and why one is refused.
 ghost use mathlib.Core.Path.{_≡_};
 ghost use lib.ListN.{length};
 ghost use Rattle.format.specs.Answers.{told, filled};
@@ -8,9 +8,12 @@ ghost use Rattle.write_given.specs.Given.{given};
 ghost use Rattle.write_judge.specs.Calls.{writing};
 ghost use Rattle.face.specs.Face.{filledOf};
 ghost use Rattle.face_seals.specs.Face.{readingOf, innerHeader};
+ghost use Rattle.face_why.specs.Face.{reasonOf};
+ghost use Rattle.why.specs.Told.{told as reason};
 use face::FrFilled;
 use face_seals::FrHeader;
 use face_seals::FrReading;
+use face_why::FrReason;
 
 // Reads a seal: `reader::read`. On 0 a row for each feature stands in `table`, and signer and reference in `text`; on any
 // other number both stay, and every field but number and place is 0.
@@ -32,6 +35,14 @@ pub extern "C" fn fr_judge(seal: &[u8]) -> FrReading
     ensures { λ r. ⌜ r ≡ readingOf (answerOf (judge (now (seal .entry)))) ⌝ }
 {
     FrReading::of(reader::judge(seal))
+}
+
+// Why a seal is refused, and every field 0 for an accepted one: `why::why`.
+#[no_mangle]
+pub extern "C" fn fr_why(seal: &[u8]) -> FrReason
+    ensures { λ r. ⌜ r ≡ reasonOf (reason (now (seal .entry))) ⌝ }
+{
+    FrReason::of(why::why(seal))
 }
 
 // Writes a seal from the start of `out`: `writer::write`. The rows are the reader's, over `values`; a refusal leaves `out` as it was.

@@ -1,7 +1,7 @@
 // Why a byte string is no seal (document 01, "The numbers a call answers", Reader): the item that is not read, and the rule that it breaks.
 // The number that is answered is the rule's.
 ghost use mathlib.Core.Path.{_≡_};
-ghost use Rattle.causes.specs.Causes.{ruleNumber};
+ghost use Rattle.causes.specs.Causes.{ruleNumber, itemCode, ruleCode};
 
 // The items, in the order in which they are read. Version 3 has one item for signer and reference, version 4 two.
 pub enum Item {
@@ -74,6 +74,33 @@ pub struct Why {
     pub rule: Rule,
 }
 
+impl Item {
+    // The code under which callers are told of an item, from 1 on in the order in which items are read.
+    pub fn code(self) -> usize
+        ensures { λ r. ⌜ r ≡ itemCode self ⌝ }
+    {
+        match self {
+            Item::Seal => 1,
+            Item::Mark => 2,
+            Item::Version => 3,
+            Item::Country => 4,
+            Item::Names => 5,
+            Item::SignerAndLength => 6,
+            Item::Reference(_) => 7,
+            Item::Issued => 8,
+            Item::Signed => 9,
+            Item::Definition => 10,
+            Item::Category => 11,
+            Item::Tag => 12,
+            Item::Length => 13,
+            Item::Value => 14,
+            Item::SignatureLength => 15,
+            Item::Signature => 16,
+            Item::End => 17,
+        }
+    }
+}
+
 impl Rule {
     // Document 01's number for an item that breaks this rule.
     pub fn number(self) -> usize
@@ -96,6 +123,32 @@ impl Rule {
             Rule::BeginsLength => 8,
             Rule::RestThere => 2,
             Rule::Shortest => 8,
+            Rule::SignatureSize => 10,
+            Rule::NothingAfter => 11,
+        }
+    }
+
+    // The code under which callers are told of a rule: up to 11 the number, and from 12 on the rules that share one of those.
+    pub fn code(self) -> usize
+        ensures { λ r. ⌜ r ≡ ruleCode self ⌝ }
+    {
+        match self {
+            Rule::NotTooLong => 1,
+            Rule::There => 2,
+            Rule::IsMark => 3,
+            Rule::IsVersion => 4,
+            Rule::WellCoded => 5,
+            Rule::CountryCode => 12,
+            Rule::SignerCharacters => 13,
+            Rule::ReferenceCharacters => 14,
+            Rule::HexadecimalDigits => 15,
+            Rule::NotZero => 16,
+            Rule::IsDay => 6,
+            Rule::OneTo254 => 7,
+            Rule::NotUsedBefore => 9,
+            Rule::BeginsLength => 8,
+            Rule::RestThere => 17,
+            Rule::Shortest => 18,
             Rule::SignatureSize => 10,
             Rule::NothingAfter => 11,
         }

@@ -89,14 +89,14 @@ unfoldable pub free : ℕ → List ℕ → ℕ
 free zero used = 0
 free (suc k) used = pick (has k used) 0 1 + free k used
 
-free-most : (n : ℕ) (used : List ℕ) → free n used ≤ n
+pub free-most : (n : ℕ) (used : List ℕ) → free n used ≤ n
 unfolding free
 free-most zero used = omega arith
 free-most (suc k) used =
     let ih = free-most k used in
     by-test (has k used) (λ e. simp e (omega arith)) (λ e. simp e (omega arith))
 
-unused-not : (k : ℕ) (used : List ℕ) → Unused k used → has k used ≡ false
+pub unused-not : (k : ℕ) (used : List ℕ) → Unused k used → has k used ≡ false
 unfolding has
 unused-not k [] u = refl
 unused-not k (t ∷ used) u = let ih = unused-not k used (u .1) in simp (ne-eqb k t (u .0), ih)

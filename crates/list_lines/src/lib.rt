@@ -10,9 +10,10 @@ use dates::Date;
 use lines::put;
 use lines::put_number;
 use lines::put_text;
-use named::put_counted;
+pub use named::part;
+pub use named::put_counted;
 use named::put_day;
-use named::put_named;
+pub use named::put_named;
 
 // Version, country, signer and reference; `text` has the signer in its first four bytes, and then `size` bytes of the reference.
 pub fn put_names(

@@ -1,4 +1,5 @@
 // A line of a name, and after it a text, a number or a date.
+ghost use mathlib.Core.Path.{_≡_};
 ghost use lib.ListN.{take, drop};
 ghost use Rattle.lines.specs.Line.{Put, decimalOf};
 ghost use Rattle.list_lines.specs.ListLine.{lineOf, day};
@@ -9,7 +10,7 @@ use lines::put_number;
 use lines::put_text;
 
 // Puts down a line of a name and `size` bytes of `text` from a place on, as far as they are there.
-pub(crate) fn put_named(
+pub fn put_named(
     out: &mut [u8],
     at: usize,
     name: &[u8],
@@ -21,27 +22,27 @@ pub(crate) fn put_named(
         (lineOf (now (name .entry)) (take size (drop from (now (text .entry))))) (now (out .exit)) r ⌝ }
 {
     let mut o = put_text(out, at, name);
-    o = put_some(out, o, text, from, size);
+    o = put_text(out, o, part(text, from, size));
     put(out, o, b'\n')
 }
 
-// Puts down `size` bytes of `text` from a place on, as far as they are there.
-fn put_some(out: &mut [u8], at: usize, text: &[u8], from: usize, size: usize) -> usize
-    ensures { λ r. ⌜ Put (now (out .entry)) at (take size (drop from (now (text .entry)))) (now (out .exit)) r ⌝ }
+// `size` bytes of `text` from a place on, as far as they are there.
+pub fn part(text: &[u8], from: usize, size: usize) -> &[u8]
+    ensures { λ r. ⌜ now r ≡ take size (drop from (now (text .entry))) ⌝ }
 {
     let n = text.len();
     if n < from {
-        return at;
+        return &text[n..];
     }
     if n - from < size {
-        return put_text(out, at, &text[from..]);
+        return &text[from..];
     }
     let end = from + size;
-    put_text(out, at, &text[from..end])
+    &text[from..end]
 }
 
 // Puts down a line of a name and a number.
-pub(crate) fn put_counted(out: &mut [u8], at: usize, name: &[u8], n: usize) -> usize
+pub fn put_counted(out: &mut [u8], at: usize, name: &[u8], n: usize) -> usize
     ensures { λ r. ⌜ Put (now (out .entry)) at (lineOf (now (name .entry)) (decimalOf n)) (now (out .exit)) r ⌝ }
 {
     let mut o = put_text(out, at, name);

@@ -1,4 +1,5 @@
--- Condition 1 for the other entry points: C40 text, dates, INTEGERs, signature forms, the choice of hash and the words of the numbers.
+-- Condition 1 for the other entry points: C40 text, dates, INTEGERs, signature forms, the choice of hash, the words of the numbers, the
+-- names of the items and the words of the rules.
 -- Assumes nothing.
 use mathlib.Core.Path.{_≡_, refl, ap}
 use mathlib.Core.Logic.{_⊎_, inl, inr, ⊎-elim}
@@ -29,6 +30,8 @@ use Rattle.ecdsa.specs.Strict.{rawOf, bytesIn}
 use Rattle.ecdsa.specs.Calls as ecdsa
 use Rattle.words.specs.Words.{wordsOf}
 use Rattle.words.specs.Calls as words
+use Rattle.why_words.specs.Names.{nameOf, wordsOf as ruleWords}
+use Rattle.why_words.specs.Calls as why-words
 
 -- a number of a list
 abbrev pub OneOf : ℕ → List ℕ → Type 0
@@ -110,6 +113,13 @@ integer-writing v room = roomy 63 (integerOf v) room
 -- the words of a number: 63
 pub words-told : (number room : ℕ) → Answers (63 ∷ []) (words.saying number room)
 words-told number room = roomy 63 (wordsOf number) room
+
+-- the name of an item, and the words of a rule: 42
+pub item-named : (item room : ℕ) → Answers (42 ∷ []) (why-words.naming item room)
+item-named item room = roomy 42 (nameOf item) room
+
+pub rule-told : (rule room : ℕ) → Answers (42 ∷ []) (why-words.wording rule room)
+rule-told rule room = roomy 42 (ruleWords rule) room
 
 -- a call that gives a value: done, or refused with this number
 abbrev pub Gives : {A : Type 0} → ℕ → A → Result A → Type 0

@@ -11,6 +11,7 @@ enum Calls {
     Writing,
     Back,
     Listing,
+    Why,
 }
 
 // Runs the case of a line, and gives the place after what it puts down; a comment gives nothing.
@@ -25,6 +26,7 @@ fn run_line(calls: Calls, line: &[u8], out: &mut [u8], to: usize) -> usize
         Calls::Writing => case_writing::run_line(line, out, to),
         Calls::Back => case_back::run_line(line, out, to),
         Calls::Listing => case_listing::run_line(line, out, to),
+        Calls::Why => case_why::run_line(line, out, to),
     }
 }
 
@@ -81,6 +83,7 @@ fn calls_of(letter: u8) -> Calls {
         b'r' => Calls::Seals,
         b'w' => Calls::Writing,
         b'b' => Calls::Back,
+        b'y' => Calls::Why,
         _ => Calls::Listing,
     }
 }

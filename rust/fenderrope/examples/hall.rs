@@ -5,8 +5,9 @@
 //!
 //! The press is named by feature 11: 1 to 12 upper-case letters and digits, in C40. The line of a locked press ends
 //! with the frame that a camera overlay draws around the feature: the place of its tag in FILE, and how many bytes tag,
-//! length and value are together. The status is 0 where a press is locked or a tag made, 1 where FILE is refused or is
-//! no lock tag, and 2 where something else is wrong; standard error then says what.
+//! length and value are together. The line of a refused FILE is followed by five that say why. The status is 0 where a
+//! press is locked or a tag made, 1 where FILE is refused or is no lock tag, and 2 where something else is wrong;
+//! standard error then says what.
 //!
 //! Signing is the signing unit's work: make gives it the signed bytes on standard output and takes the raw signature,
 //! 64 bytes, from standard input. So is verifying: what is printed is what the tag says, not that it is genuine.
@@ -18,7 +19,7 @@ use std::os::unix::ffi::OsStrExt;
 use std::process::ExitCode;
 use std::time::{SystemTime, UNIX_EPOCH};
 
-use fenderrope::{c40_read, c40_write, read, write, Date, Header, Refusal};
+use fenderrope::{c40_read, c40_write, read, why, write, Date, Header, Refusal};
 use fenderrope::{ROW, ROW_TAG, ROW_VALUE_LENGTH, SEAL_MOST, TABLE_MOST, TEXT_MOST};
 
 const PRESS: usize = 11;
@@ -77,12 +78,18 @@ fn name_in(value: &[u8]) -> Option<String> {
     is_name(&name[..count]).then(|| String::from_utf8_lossy(&name[..count]).into_owned())
 }
 
+/// The line of a refused seal, and the five that say why.
+fn refused(seal: &[u8], refusal: Refusal) -> String {
+    let why = why(seal).map_or(String::new(), |reason| format!("\n{reason}"));
+    format!("{refusal}{why}")
+}
+
 /// What is said of the bytes of a file, and the status.
 pub fn told(seal: &[u8]) -> (u8, String) {
     let (mut table, mut text) = ([0; TABLE_MOST], [0; TEXT_MOST]);
     let reading = match read(seal, &mut table, &mut text) {
         Ok(reading) => reading,
-        Err(refusal) => return (1, refusal.to_string()),
+        Err(refusal) => return (1, refused(seal, refusal)),
     };
     let Some(press) = reading.feature(PRESS) else {
         return (1, "no lock tag: no press is named".to_string());
@@ -99,8 +106,8 @@ pub fn told(seal: &[u8]) -> (u8, String) {
 fn show(path: &OsStr) -> Result<u8, Fault> {
     // A byte more than a seal: a longer file is refused.
     let seal = File::open(path).and_then(|file| bytes_of(file, SEAL_MOST + 1)).map_err(Fault::failed(path))?;
-    let (status, line) = told(&seal);
-    say((line + "\n").as_bytes())?;
+    let (status, lines) = told(&seal);
+    say((lines + "\n").as_bytes())?;
     Ok(status)
 }
 

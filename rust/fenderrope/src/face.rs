@@ -4,7 +4,7 @@
 //! overlaps nothing else that is lent (the borrow checker sees to both), every pointer and length below comes from one
 //! slice, and the library is proved to keep inside the lengths, to keep no pointer, and to answer every input.
 
-use crate::layout::{Date, Dated, Filled, Hashed, Header, Integer, Numbered, Reading};
+use crate::layout::{Date, Dated, Filled, Hashed, Header, Integer, Numbered, Reading, Reason};
 
 extern "C" {
     fn fr_read(
@@ -16,6 +16,9 @@ extern "C" {
         text_length: usize,
     ) -> Reading;
     fn fr_judge(seal: *const u8, seal_length: usize) -> Reading;
+    fn fr_why(seal: *const u8, seal_length: usize) -> Reason;
+    fn fr_item_name(item: usize, out: *mut u8, out_length: usize) -> Filled;
+    fn fr_rule_words(rule: usize, out: *mut u8, out_length: usize) -> Filled;
     fn fr_write(
         header: Header,
         text: *const u8,
@@ -49,6 +52,21 @@ pub fn read(seal: &[u8], table: &mut [usize], text: &mut [u8]) -> Reading {
 /// The verdict on a seal; see [`crate::judge`].
 pub fn judge(seal: &[u8]) -> Reading {
     unsafe { fr_judge(seal.as_ptr(), seal.len()) }
+}
+
+/// Why a seal is refused; see [`crate::why`].
+pub fn why(seal: &[u8]) -> Reason {
+    unsafe { fr_why(seal.as_ptr(), seal.len()) }
+}
+
+/// The name of an item; see [`crate::item_name`].
+pub fn item_name(item: usize, out: &mut [u8]) -> Filled {
+    unsafe { fr_item_name(item, out.as_mut_ptr(), out.len()) }
+}
+
+/// The words of a rule; see [`crate::rule_words`].
+pub fn rule_words(rule: usize, out: &mut [u8]) -> Filled {
+    unsafe { fr_rule_words(rule, out.as_mut_ptr(), out.len()) }
 }
 
 /// Writes a seal; see [`crate::write`].

@@ -78,6 +78,23 @@ pub struct Reading {
     pub count: usize,
 }
 
+/// What a seal answers that is asked why it is refused. Every field is 0 where it is not.
+#[derive(Debug, Clone, Copy, PartialEq, Eq, Hash, Default)]
+#[must_use]
+#[repr(C)]
+pub struct Reason {
+    /// The refusal.
+    pub number: usize,
+    /// Where.
+    pub place: usize,
+    /// The code of the item that breaks a rule, as [`crate::Item::of_code`] takes it.
+    pub item: usize,
+    /// The code of the first rule that it breaks, as [`crate::Rule::of_code`] takes it.
+    pub rule: usize,
+    /// The bytes judged.
+    pub judged: Part,
+}
+
 /// What a call answers that fills a buffer.
 #[derive(Debug, Clone, Copy, PartialEq, Eq, Hash, Default)]
 #[must_use]
@@ -162,6 +179,7 @@ laid_out!(Ends: size 24, align 8, header at 0, message at 8, seal at 16);
 laid_out!(Part: size 16, align 8, place at 0, length at 8);
 laid_out!(Reading: size 152, align 8, number at 0, place at 8, header at 16, ends at 104, signature at 128,
     count at 144);
+laid_out!(Reason: size 48, align 8, number at 0, place at 8, item at 16, rule at 24, judged at 32);
 laid_out!(Filled: size 24, align 8, number at 0, place at 8, count at 16);
 laid_out!(Dated: size 40, align 8, number at 0, place at 8, date at 16);
 laid_out!(Numbered: size 24, align 8, number at 0, place at 8, value at 16);

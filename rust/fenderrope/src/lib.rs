@@ -8,7 +8,7 @@
 //! Seal A of the tender, read, listed as the listing program lists it, and written back:
 //!
 //! ```
-//! use fenderrope::{judge, read, Refusal, SEAL_MOST, TABLE_MOST, TEXT_MOST};
+//! use fenderrope::{judge, read, why, Refusal, SEAL_MOST, TABLE_MOST, TEXT_MOST};
 //! use std::fmt::Write;
 //!
 //! let mut seal = b"\xDC\x02\xD9\xC5\xD9\xB7\x5E\x65\x19\xA6\x31\x9E\xF5\x31\x9E\xF5\x01\x02".to_vec();
@@ -59,6 +59,14 @@
 //! let refusal = judge(&seal).unwrap_err();
 //! assert_eq!(refusal, Refusal { number: 11, place: 82 });
 //! assert_eq!(refusal.to_string(), "refused 11 at 82: bytes after the signature");
+//!
+//! // And the crew is told why: which item breaks which rule, and by which bytes.
+//! let reason = why(&seal).ok_or("accepted")?;
+//! assert_eq!(reason.judged, &seal[82..]);
+//! assert_eq!(
+//!     reason.to_string().lines().collect::<Vec<_>>(),
+//!     ["number 11", "item end", "place 82", "bytes 00", "rule nothing follows the signature"]
+//! );
 //! # Ok::<(), Box<dyn std::error::Error>>(())
 //! ```
 //!
@@ -75,10 +83,12 @@ mod codecs;
 mod dates;
 #[allow(unsafe_code)]
 mod face;
+mod items;
 mod layout;
 pub mod numbers;
 pub mod plain;
 mod reading;
+mod reason;
 mod refusal;
 mod seals;
 mod signatures;
@@ -87,11 +97,13 @@ mod verdict;
 mod words;
 
 pub use codecs::{c40_read, c40_write, integer_read, integer_write};
+pub use items::{Item, Rule};
 pub use layout::{Date, Ends, Header, Part};
 pub use reading::{Feature, Reading};
+pub use reason::Reason;
 pub use refusal::Refusal;
-pub use seals::{judge, read, write};
+pub use seals::{judge, read, why, write};
 pub use signatures::{hash, signature_to_der, signature_to_raw, Hash};
 pub use sizes::*;
 pub use verdict::Verdict;
-pub use words::{words, Words};
+pub use words::{item_name, rule_words, words, Words};

@@ -3,6 +3,7 @@
 use crate::face;
 use crate::layout::Header;
 use crate::reading::Reading;
+use crate::reason::Reason;
 use crate::refusal::Refusal;
 use crate::verdict::Verdict;
 
@@ -51,6 +52,33 @@ pub fn read<'a>(seal: &'a [u8], table: &'a mut [usize], text: &'a mut [u8]) -> R
 /// ```
 pub fn judge(seal: &[u8]) -> Result<Verdict, Refusal> {
     Verdict::of(face::judge(seal))
+}
+
+/// Why a seal is refused, with nothing lent: the item that breaks a rule, the rule, and the bytes judged; nothing where
+/// the seal is accepted. Number and place are those of [`judge`].
+///
+/// ```
+/// use fenderrope::{why, Item, Reason, Rule};
+///
+/// // Seal A of the tender, with its tag put once more where the message ends.
+/// let mut seal = b"\xDC\x02\xD9\xC5\xD9\xB7\x5E\x65\x19\xA6\x31\x9E\xF5\x31\x9E\xF5\x01\x02".to_vec();
+/// seal.extend([0x0A, 4, 0xDE, 0x51, 0x58, 0x26, 0x0A, 0, 0xFF, 56]);
+/// seal.extend([0xAA; 56]);
+///
+/// let reason = why(&seal).unwrap();
+/// let (item, rule) = (Item::Tag, Rule::NotUsedBefore);
+/// assert_eq!(reason, Reason { number: 9, place: 24, item, rule, judged: &seal[24..25] });
+/// assert_eq!(
+///     reason.to_string().lines().collect::<Vec<_>>(),
+///     ["number 9", "item tag", "place 24", "bytes 0A", "rule a tag is used once only"]
+/// );
+///
+/// seal.drain(24..26);
+/// assert_eq!(why(&seal), None);
+/// ```
+#[must_use]
+pub fn why(seal: &[u8]) -> Option<Reason<'_>> {
+    Reason::of(face::why(seal), seal)
 }
 
 /// Writes a seal from the start of `out` and gives its length; memory past it stays.

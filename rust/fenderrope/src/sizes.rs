@@ -45,3 +45,9 @@ pub const INTEGER_MOST: usize = 10;
 
 /// Bytes of a number's words.
 pub const WORDS_MOST: usize = 92;
+
+/// Bytes of an item's name.
+pub const ITEM_NAME_MOST: usize = 20;
+
+/// Bytes of a rule's words.
+pub const RULE_WORDS_MOST: usize = 61;

@@ -39,11 +39,77 @@ fn the_frame_is_the_whole_feature() {
 #[test]
 fn a_tag_that_is_not_good_locks_nothing() {
     let seal = tag("PRESS7");
-    assert_eq!(told(&seal[..30]), (1, "refused 2 at 28: the input ends before an item is whole".to_string()));
-    assert_eq!(told(&[0xDC; 4097]), (1, "refused 1 at 4096: seal longer than 4,096".to_string()));
-    let mut other = seal;
+    let mut other = seal.clone();
     other[20] = 12;
     assert_eq!(told(&other), (1, "no lock tag: no press is named".to_string()));
+    let no_name = [&seal[..20], &[11, 2, 0, 0], &seal[26..]].concat();
+    assert_eq!(told(&no_name), (1, "no lock tag: no name of a press at 22".to_string()));
+}
+
+/// The line of today, and then the five that say why.
+fn refused(seal: &[u8], lines: [&str; 6]) {
+    assert_eq!(told(seal), (1, lines.join("\n")));
+}
+
+#[test]
+fn a_refused_tag_says_why() {
+    let seal = tag("PRESS7");
+    let used = [&seal[..26], &[0x0B, 0x00], &seal[26..]].concat();
+    refused(
+        &used,
+        [
+            "refused 9 at 26: tag already used",
+            "number 9",
+            "item tag",
+            "place 26",
+            "bytes 0B",
+            "rule a tag is used once only",
+        ],
+    );
+    refused(
+        &seal[..30],
+        [
+            "refused 2 at 28: the input ends before an item is whole",
+            "number 2",
+            "item signature",
+            "place 28",
+            "bytes 00 00",
+            "rule all its bytes are there",
+        ],
+    );
+    refused(
+        &[],
+        [
+            "refused 2 at 0: the input ends before an item is whole",
+            "number 2",
+            "item mark",
+            "place 0",
+            "bytes none",
+            "rule all its bytes are there",
+        ],
+    );
+    refused(
+        &[0xDC; 4097],
+        [
+            "refused 1 at 4096: seal longer than 4,096",
+            "number 1",
+            "item seal",
+            "place 4096",
+            "bytes DC",
+            "rule a seal has at most 4,096 bytes",
+        ],
+    );
+    refused(
+        &seal[..91],
+        [
+            "refused 2 at 28: the input ends before an item is whole",
+            "number 2",
+            "item signature",
+            "place 28",
+            "bytes 00 00 00 00 00 00 00 00 00 00 00 00 00 00 00 00 and 47 more",
+            "rule all its bytes are there",
+        ],
+    );
 }
 
 #[test]

@@ -2,10 +2,12 @@
 //!
 //! It was written from the document, docs/NUMBERS.md and the decisions, without sight of the proved code or its specs,
 //! and in another structure: the reader is a set of small parsers over the bytes that are left, the writer builds the
-//! seal and only then looks for room, and "the shortest form" is "what the writer would have written". Where the two
-//! programs differ, one of them misreads.
+//! seal and only then looks for room, and "the shortest form" is "what the writer would have written". Why a seal is
+//! refused is told by a table of items and rules that does not ask the reader. Where two of these programs differ, one
+//! of them misreads.
 //!
-//! Every call takes every input. "On any other number all lent memory stays and every field but number and place is 0."
+//! Every call takes every input. "On any other number all lent memory stays and every field but number and place is 0";
+//! a [`Reason`] alone has its other fields where a seal is refused.
 #![forbid(unsafe_code)]
 
 mod c40;
@@ -15,6 +17,7 @@ pub mod inputs;
 mod integers;
 mod names;
 mod reading;
+mod reasons;
 mod rows;
 mod signatures;
 mod words;
@@ -24,6 +27,7 @@ pub use c40::{c40_read, c40_write};
 pub use dates::{date_from_number, date_to_number};
 pub use integers::{integer_read, integer_write};
 pub use reading::{judge, read};
+pub use reasons::{item_name, put_item_name, put_rule_words, rule_words, why, Reason};
 pub use rows::Row;
 pub use signatures::{hash, signature_to_der, signature_to_raw};
 pub use words::{put_words, words};

@@ -44,6 +44,8 @@ fn a_refusal_is_a_number_and_a_place() {
         assert!(outcome.untouched(), "{call:?}");
         let bare = match outcome.answer {
             Answer::Reading(_) => Answer::Reading(Reading { number, place, ..Reading::default() }),
+            // A reason has all its fields, and is not drawn.
+            Answer::Reason(_) => outcome.answer,
             Answer::Filled(_) => Answer::Filled(Filled { number, place, ..Filled::default() }),
             Answer::Dated(_) => Answer::Dated(Dated { number, place, ..Dated::default() }),
             Answer::Numbered(_) => Answer::Numbered(Numbered { number, place, ..Numbered::default() }),

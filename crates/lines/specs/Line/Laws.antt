@@ -8,11 +8,11 @@ use native.Mathlib.Decide.{decLe}
 use mathlib.Core.Path.{_≡_, refl, ap, ap₂, sym, _∙_}
 use mathlib.Core.List.{List, [], _∷_, _++_}
 use native.Mathlib.Numerals.{add-one}
-use lib.ListN.{length, getD, set, take, drop, length-set, length-append}
+use lib.ListN.{length, getD, set, take, drop, length-set, length-append, length-drop}
 use lib.Seq.{take-suc, length-take-le}
 use Rattle.format.specs.Answers.{done, filled}
 use Rattle.format.specs.Buffer.{over}
-use Rattle.format.specs.Buffer.Laws.{over-none, set-over, over-over}
+use Rattle.format.specs.Buffer.Laws.{over-none, over-start, set-over, over-over}
 use Rattle.lines.specs.Line.{Line, line, with, withAll, Within, Counts, Put, digits, decimalOf}
 
 -- a store past the end changes nothing
@@ -31,6 +31,11 @@ counts n s h = (h, sym (length-take-le n s h))
 -- as many as a text has that stands at the start
 pub counts-filled : (n : ℕ) (text out after : List ℕ) → n ≡ length text → after ≡ filled (done text) out → Counts n after
 counts-filled n text out after e f = counts n after (omega (arith, ap length f, length-append text (drop (length text) out)))
+
+-- the buffer keeps its length where it has room for the text
+pub filled-length : (text out after : List ℕ) → after ≡ filled (done text) out → length text ≤ length out → length out ≡ length after
+filled-length text out after f h =
+    omega (arith, ap length f, length-append text (drop (length text) out), length-drop (length text) out)
 
 pub put-none : (old : List ℕ) (at : ℕ) → Put old at [] old at
 unfolding withAll
@@ -113,3 +118,12 @@ pub put-whole :
 put-whole old at bytes new r p h =
     let e = p .is ∙ with-room old at bytes h in
     (ap (λ (l : Line). l .text) e, ap (λ (l : Line). l .at) e)
+
+-- from the buffer's start: the count, and what the buffer holds
+pub put-start :
+    (old text new : List ℕ) (r : ℕ) →
+    Put old 0 text new r →
+    length text ≤ length old →
+    (r ≡ length text) × (new ≡ filled (done text) old)
+put-start old text new r p h =
+    let held = put-whole old 0 text new r p (omega arith) in (omega (arith, held .1), held .0 ∙ over-start old text)

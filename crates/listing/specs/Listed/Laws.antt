@@ -6,14 +6,13 @@ use native.Mathlib.Omega.{arith}
 use native.Mathlib.Decide.{decLe}
 use borrow.Author.Tests.{ne-eqb}
 use mathlib.Core.List.{List, _++_, append-assoc}
-use lib.ListN.{length, take, drop, length-append, length-take, length-drop}
+use lib.ListN.{length, take, drop, length-take}
 use lib.Seq.{take-at, drop-at, take-all}
 use Rattle.format.specs.Choice.{pick}
 use Rattle.format.specs.Bytes.{Bytes}
 use Rattle.format.specs.Answers.{done, filled}
-use Rattle.format.specs.Buffer.Laws.{over-start}
 use Rattle.lines.specs.Line.{Put, Counts}
-use Rattle.lines.specs.Line.Laws.{counts-filled, put-whole}
+use Rattle.lines.specs.Line.Laws.{counts-filled, filled-length, put-start}
 use Rattle.rows.specs.declared.Row.{Row}
 use Rattle.rows.specs.Rows.{width, table}
 use Rattle.rows.specs.Rows.Laws.{rows-taken}
@@ -129,8 +128,8 @@ module _ (s : List ℕ) (bytes : Bytes s) (t x t′ x′ : List ℕ) (q : Readin
       ∙ ap₂ (listing (answerOf v)) f g
       ∙ ap (λ w. listing (answerOf w) (then (rowsIn w) t) (then (textIn w) x)) same
       ∙ listing-is (judge s) t x (from-list s) (four-signed s bytes (judge s) refl) in
-      let held = put-whole old 0 (listed (judge s)) new count (subst (λ l. Put old 0 l new count) is p) (omega (arith, most)) in
-      (omega (arith, held .1), (held .0 ∙ over-start old (listed (judge s)), omega (arith, most)))
+      let held = put-start old (listed (judge s)) new count (subst (λ l. Put old 0 l new count) is p) (omega (arith, most)) in
+      (held .0, (held .1, omega (arith, most)))
 
 -- for whoever calls it: the count lies within the buffer, which keeps its length
 module _ (s out after : List ℕ) (f : after ≡ filled (done (listed (judge s))) out) where
@@ -138,6 +137,4 @@ module _ (s out after : List ℕ) (f : after ≡ filled (done (listed (judge s))
   listed-counts n e = counts-filled n (listed (judge s)) out after e f
 
   pub listed-length : length (listed (judge s)) ≤ length out → length out ≡ length after
-  listed-length h =
-      let text = listed (judge s) in
-      omega (arith, ap length f, length-append text (drop (length text) out), length-drop (length text) out)
+  listed-length h = filled-length (listed (judge s)) out after f h

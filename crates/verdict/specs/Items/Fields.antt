@@ -76,7 +76,7 @@ country-three a b c la eb ec f =
         ⊎-elim (λ l. ap third-in (letter-carried c l) ∙ ap (λ x. either x (eqb c 32)) (letter c l))
         (λ g. subst (λ x. third-in (carried x) ≡ true) (sym g) refl) e
 
-country-passes : (t : List ℕ) → Country t → isCountry 32 (map carried t) ≡ true
+pub country-passes : (t : List ℕ) → Country t → isCountry 32 (map carried t) ≡ true
 country-passes [] l = let e = l .size in absurd (omega arith)
 country-passes (a ∷ []) l = let e = l .size in absurd (omega arith)
 country-passes (a ∷ b ∷ []) l = let e = l .size in absurd (omega arith)
@@ -110,7 +110,7 @@ names-three-there p s r rest l =
     ∙ ap (λ u. is (record { signer = s; reference = u }) (length p + 6)) (drop-at s r 4 (ss .0))
 
 -- version 4: the first six characters, by the signer's four
-six-length : (s : List ℕ) (n : ℕ) → length s ≡ 4 → n ≤ 255 → lengthIn (s ++ hexDigits n) ≡ n
+pub six-length : (s : List ℕ) (n : ℕ) → length s ≡ 4 → n ≤ 255 → lengthIn (s ++ hexDigits n) ≡ n
 six-length [] n e h = absurd (omega arith)
 six-length (a ∷ []) n e h = absurd (omega arith)
 six-length (a ∷ b ∷ []) n e h = absurd (omega arith)
@@ -120,7 +120,7 @@ six-length (a ∷ b ∷ c ∷ d ∷ []) n e h =
     ∙ ap (λ x. n / 16 * 16 + x) (digit-value (n % 16) (omega arith)) ∙ omega arith
 six-length (a ∷ b ∷ c ∷ d ∷ x ∷ t) n e h = absurd (omega arith)
 
-six-digits : (s : List ℕ) (n : ℕ) → length s ≡ 4 → n ≤ 255 → isHex (s ++ hexDigits n) ≡ true
+pub six-digits : (s : List ℕ) (n : ℕ) → length s ≡ 4 → n ≤ 255 → isHex (s ++ hexDigits n) ≡ true
 six-digits [] n e h = absurd (omega arith)
 six-digits (a ∷ []) n e h = absurd (omega arith)
 six-digits (a ∷ b ∷ []) n e h = absurd (omega arith)

@@ -128,7 +128,7 @@ pub record CountryOf (t : List ℕ) : Type 0 where
   pub legal : Country (map shown t)
   pub back : map carried (map shown t) ≡ t
 
-country-legal : (t : List ℕ) → length t ≡ 3 → isCountry 32 t ≡ true → CountryOf t
+pub country-legal : (t : List ℕ) → length t ≡ 3 → isCountry 32 t ≡ true → CountryOf t
 country-legal [] l e = absurd (omega arith)
 country-legal (a ∷ []) l e = absurd (omega arith)
 country-legal (a ∷ b ∷ []) l e = absurd (omega arith)

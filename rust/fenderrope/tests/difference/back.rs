@@ -1,6 +1,6 @@
 //! There and back through the library: an accepted seal is written anew, a written seal is read.
 
-use fenderrope::{judge, read, Feature, Reading, Refusal};
+use fenderrope::{judge, read, why, Feature, Reading, Refusal};
 use reference::inputs::{lent, Answer, Call, Outcome};
 use reference::{Header, Row};
 
@@ -37,6 +37,7 @@ fn read_again(seal: &[u8], good: impl Fn(Reading) -> Result<(), String>) -> Resu
     let (mut table, mut text) = (numbers(&vec![0; verdict.table_room()]), bytes(&vec![0; verdict.text_room()]));
     let reading = read(seal, table.content_mut(), text.content_mut()).map_err(|refusal| refusal.to_string())?;
     expect(reading.verdict() == verdict && reading.seal() == seal, "judge and read differ")?;
+    expect(why(seal).is_none(), "an accepted seal has a reason")?;
     expect(reading.features().len() == verdict.count, "another count of features")?;
     expect(reading.features().all(|feature| reading.feature(feature.tag) == Some(feature)), "a feature is not found")?;
     framed(reading)?;

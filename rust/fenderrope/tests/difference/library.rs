@@ -4,10 +4,10 @@ use std::cell::Cell;
 
 use fenderrope::plain;
 use reference::inputs::{run, Base, Call, Outcome};
-use reference::{Date, Dated, Filled, Hashed, Header, Integer, Numbered, Reading};
+use reference::{Date, Dated, Filled, Hashed, Header, Integer, Numbered, Reading, Reason};
 
 use crate::lent::{bytes, numbers, Lent};
-use crate::types::{date_in, date_out, filled_out, header_in, reading_out};
+use crate::types::{date_in, date_out, filled_out, header_in, reading_out, reason_out};
 
 /// The library, and whether it has touched memory that it may not.
 #[derive(Default)]
@@ -66,6 +66,13 @@ impl Base for Library {
         let answer = plain::judge(seal.content());
         self.read_only(&[&seal]);
         reading_out(answer)
+    }
+
+    fn why(&self, seal: &[u8]) -> Reason {
+        let seal = bytes(seal);
+        let answer = plain::why(seal.content());
+        self.read_only(&[&seal]);
+        reason_out(answer)
     }
 
     fn write(&self, h: &Header, text: &[u8], rows: &[usize], values: &[u8], sig: &[u8], out: &mut [u8]) -> Filled {

@@ -7,13 +7,16 @@ mod back;
 mod days;
 mod lent;
 mod library;
+mod lines;
 mod pairs;
+mod reasons;
 mod rows;
 mod show;
 mod types;
 mod words;
 mod wrapper;
 mod wrong;
+mod wrong_reasons;
 
 use std::collections::{BTreeMap, BTreeSet};
 use std::env;
@@ -34,28 +37,28 @@ fn setting(name: &str, otherwise: u64) -> u64 {
     }
 }
 
-/// Puts drawn calls to the programs and to the reference; how often each answer was given, how often the calendar, a
-/// pair or a row decided, or the first difference.
+/// Puts drawn calls to the programs and to the reference, and asks of the seal of each reading why it is refused; how
+/// often each answer was given, how often the calendar, a pair or a row decided, the reasons, or the first difference.
 fn compare(seed: u64, count: u64, programs: &[Program]) -> Result<Counts, String> {
     let (mut inputs, mut counts) = (Inputs::new(seed), Counts::default());
     for at in 0..count {
         let call = inputs.next();
-        let expected = run(&Reference, &call);
-        let agreed = programs.iter().try_for_each(|program| agrees(program, &call, &expected));
-        let agreed = agreed.and_then(|()| back::back(&call, &expected));
-        agreed.map_err(|said| told(seed, at, &call, &said, &expected))?;
-        *counts.answers.entry(expected.answer.told().0).or_default().entry(call.name()).or_default() += 1;
-        if let Some(decided) = days::decided(&call, &expected) {
-            *counts.dates.entry(decided).or_default().entry(call.name()).or_default() += 1;
-        }
-        for kind in pairs::decided(&call, &expected) {
-            *counts.pairs.entry(kind).or_default() += 1;
-        }
-        for (kind, times) in rows::decided(&call, &expected) {
-            *counts.rows.entry(kind).or_default() += times;
-        }
+        let why = call.why();
+        let calls = [Some(call), why];
+        let agreed = calls.iter().flatten().try_for_each(|call| put(call, programs, &mut counts));
+        agreed.map_err(|difference| format!("difference at input {at} of seed {seed}\n{difference}"))?;
     }
     Ok(counts)
+}
+
+/// Puts one call to the programs and to the reference, and counts what came of it, unless there is a difference.
+fn put(call: &Call, programs: &[Program], counts: &mut Counts) -> Result<(), String> {
+    let expected = run(&Reference, call);
+    let agreed = programs.iter().try_for_each(|program| agrees(program, call, &expected));
+    let agreed = agreed.and_then(|()| back::back(call, &expected));
+    agreed.map_err(|said| format!("{}\n{said}\nreference {}", show::given(call), show::outcome(&expected)))?;
+    counts.add(call, &expected);
+    Ok(())
 }
 
 /// Whether the program's outcome is the expected one; if not, what it said.
@@ -65,12 +68,6 @@ fn agrees((name, program): &Program, call: &Call, expected: &Outcome) -> Result<
         Ok(outcome) => Err(format!("{name} {}", show::outcome(&outcome))),
         Err(fault) => Err(format!("{name} {fault}")),
     }
-}
-
-/// A difference in full.
-fn told(seed: u64, at: u64, call: &Call, said: &str, expected: &Outcome) -> String {
-    let (given, expected) = (show::given(call), show::outcome(expected));
-    format!("difference at input {at} of seed {seed}\n{given}\n{said}\nreference {expected}")
 }
 
 #[test]
@@ -89,6 +86,7 @@ fn the_library_answers_as_the_reference_does() {
     }
     assert_eq!(seen(counts.pairs), all(&pairs::ALL), "not every kind of faulty pair");
     assert_eq!(seen(counts.rows), all(&rows::ALL), "not every kind of row or room");
+    counts.reasons.must_be_all();
 }
 
 /// The kinds that were counted at least once.

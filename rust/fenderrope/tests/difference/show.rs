@@ -4,7 +4,7 @@ use std::collections::BTreeMap;
 
 use reference::inputs::{Call, Outcome};
 
-use crate::{pairs, rows};
+use crate::{days, pairs, reasons, rows};
 
 /// How often, by call.
 type ByCall = BTreeMap<&'static str, u64>;
@@ -12,14 +12,28 @@ type ByCall = BTreeMap<&'static str, u64>;
 /// An answer, and what is counted of it.
 pub type Kind = (&'static str, &'static str);
 
-/// How often each call gave each number, how often the calendar decided, how often a pair or a character did, and how
-/// often the tag's place in a row mattered.
+/// How often each call gave each number, how often the calendar decided, how often a pair or a character did, how often
+/// the tag's place in a row mattered, and why seals were refused.
 #[derive(Debug, Default)]
 pub struct Counts {
     pub answers: BTreeMap<usize, ByCall>,
     pub dates: BTreeMap<&'static str, ByCall>,
     pub pairs: BTreeMap<Kind, u64>,
     pub rows: BTreeMap<Kind, u64>,
+    pub reasons: reasons::Counts,
+}
+
+impl Counts {
+    /// Counts what came of one call.
+    pub fn add(&mut self, call: &Call, outcome: &Outcome) {
+        *self.answers.entry(outcome.answer.told().0).or_default().entry(call.name()).or_default() += 1;
+        if let Some(decided) = days::decided(call, outcome) {
+            *self.dates.entry(decided).or_default().entry(call.name()).or_default() += 1;
+        }
+        pairs::decided(call, outcome).into_iter().for_each(|kind| *self.pairs.entry(kind).or_default() += 1);
+        rows::decided(call, outcome).into_iter().for_each(|(kind, times)| *self.rows.entry(kind).or_default() += times);
+        self.reasons.add(call, outcome);
+    }
 }
 
 fn hex(bytes: &[u8]) -> String {
@@ -32,7 +46,7 @@ pub fn given(call: &Call) -> String {
         Call::Read { seal, table_room, text_room } => {
             format!("table room {table_room}, text room {text_room}\n  seal {}", hex(seal))
         }
-        Call::Judge { seal } => format!("\n  seal {}", hex(seal)),
+        Call::Judge { seal } | Call::Why { seal } => format!("\n  seal {}", hex(seal)),
         Call::Write { header, text, rows, values, signature, room } => format!(
             "room {room}\n  {header:?}\n  text {}\n  rows {rows:X?}\n  values {}\n  signature {}",
             hex(text),
@@ -59,7 +73,8 @@ pub fn outcome(outcome: &Outcome) -> String {
 }
 
 /// One line for each number: how often it was given, and by which calls. Then the same for what the calendar decided,
-/// for each refusal of a pair or a character where it stood and what was wrong, and what was counted of rows.
+/// for each refusal of a pair or a character where it stood and what was wrong, what was counted of rows, and the
+/// reasons by item and by rule.
 pub fn counts(counts: &Counts) -> String {
     let times = |by_call: &ByCall| {
         let calls: Vec<_> = by_call.iter().map(|(name, count)| format!("{name} {count}")).collect();
@@ -69,7 +84,7 @@ pub fn counts(counts: &Counts) -> String {
     let dates = counts.dates.iter().map(|(decided, by_call)| format!("date {decided}\n       {}", times(by_call)));
     let pairs = pairs::ALL.iter().map(|(answer, kinds)| format!("pair {}", by_kind(answer, kinds, &counts.pairs)));
     let rows = rows::ALL.iter().map(|(answer, kinds)| format!("row {}", by_kind(answer, kinds, &counts.rows)));
-    answers.chain(dates).chain(pairs).chain(rows).collect()
+    answers.chain(dates).chain(pairs).chain(rows).chain([counts.reasons.show()]).collect()
 }
 
 /// An answer, and a line of how often each kind of it was counted.

@@ -53,6 +53,16 @@ pub fn reading_out(answer: ours::plain::Reading) -> reference::Reading {
     }
 }
 
+pub fn reason_out(answer: ours::plain::Reason) -> reference::Reason {
+    reference::Reason {
+        number: answer.number,
+        place: answer.place,
+        item: answer.item,
+        rule: answer.rule,
+        judged: part_out(answer.judged),
+    }
+}
+
 pub fn filled_out(answer: ours::plain::Filled) -> reference::Filled {
     reference::Filled { number: answer.number, place: answer.place, count: answer.count }
 }

@@ -2,15 +2,17 @@
 
 use fenderrope::{Refusal, Verdict};
 use reference::inputs::{run, Base, Call, Outcome};
-use reference::{Date, Dated, Filled, Hashed, Header, Integer, Numbered, Reading};
+use reference::{Date, Dated, Filled, Hashed, Header, Integer, Numbered, Part, Reading, Reason};
 
+use crate::lines;
 use crate::types::{date_in, date_out, ends_out, header_in, header_out, part_out};
 
 struct Wrapper;
 
-/// The outcome of the crate's safe calls.
+/// The outcome of the crate's safe calls, unless a reason shows other lines than its own.
 pub fn wrapper(call: &Call) -> Result<Outcome, String> {
-    Ok(run(&Wrapper, call))
+    let outcome = run(&Wrapper, call);
+    lines::lines(call, &outcome).map(|()| outcome)
 }
 
 fn reading(answer: Result<Verdict, Refusal>) -> Reading {
@@ -33,6 +35,13 @@ pub fn filled(answer: Result<usize, Refusal>) -> Filled {
     }
 }
 
+/// The reason with its parts as codes, and where in the seal the bytes judged lie.
+fn reason(seal: &[u8], why: fenderrope::Reason) -> Reason {
+    let place = why.judged.as_ptr() as usize - seal.as_ptr() as usize;
+    let judged = Part { place, length: why.judged.len() };
+    Reason { number: why.number, place: why.place, item: why.item.code(), rule: why.rule.code(), judged }
+}
+
 impl Base for Wrapper {
     fn read(&self, seal: &[u8], table: &mut [usize], text: &mut [u8]) -> Reading {
         reading(fenderrope::read(seal, table, text).map(|read| read.verdict()))
@@ -40,6 +49,10 @@ impl Base for Wrapper {
 
     fn judge(&self, seal: &[u8]) -> Reading {
         reading(fenderrope::judge(seal))
+    }
+
+    fn why(&self, seal: &[u8]) -> Reason {
+        fenderrope::why(seal).map_or(Reason::default(), |why| reason(seal, why))
     }
 
     fn write(&self, h: &Header, text: &[u8], rows: &[usize], values: &[u8], sig: &[u8], out: &mut [u8]) -> Filled {

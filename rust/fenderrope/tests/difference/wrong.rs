@@ -8,7 +8,7 @@ use reference::{Date, Dated, Filled, Reading, Row};
 use crate::{compare, pairs};
 
 /// The reference's outcome, changed by the fault; the difference that the comparison tells must show `shown`.
-fn noticed(fault: impl Fn(&Call, &mut Outcome), shown: &str) {
+pub fn noticed(fault: impl Fn(&Call, &mut Outcome), shown: &str) {
     let wrong = |call: &Call| {
         let mut outcome = run(&Reference, call);
         fault(call, &mut outcome);

@@ -114,7 +114,8 @@ fn calls_that_give_words() {
 #[test]
 fn numbers_in_the_header() {
     let text = "int a;\nenum fr_number {\n    FR_DONE = 0, /* done */\n    FR_TAG_USED = 9 /* tag already used */\n};";
-    let numbers = |text: &str| header::numbers(text).map(|numbers| numbers.into_iter().collect::<Vec<_>>());
+    let numbers =
+        |text: &str| header::numbers(text, "fr_number", "FR_").map(|numbers| numbers.into_iter().collect::<Vec<_>>());
     let named = |done: &str, used| vec![(done.to_string(), 0), ("TAG_USED".to_string(), used)];
     assert_eq!(numbers(text), Ok(named("DONE", 9)));
     assert_eq!(numbers(&with(text, "FR_TAG_USED = 9", "FR_TAG_USED = 9,")), Ok(named("DONE", 9)));
@@ -129,6 +130,51 @@ fn numbers_in_the_header() {
         assert!(numbers(&with(text, old, new)).is_err(), "`{new}` for `{old}`");
     }
     assert_eq!(numbers("int a;"), Ok(vec![]));
+    assert_eq!(numbers(&with(text, "fr_number", "fr_item")), Ok(vec![]));
+    assert!(header::numbers(text, "fr_number", "FR_TAG_").is_err());
+}
+
+#[test]
+fn words_in_the_header() {
+    let words = |text: &str| header::words(text, "fr_item").into_iter().collect::<Vec<_>>();
+    let text =
+        "enum fr_number {\n    FR_CUT = 2 /* cut */\n};\nenum fr_item {\n    FR_ITEM_MARK = 2,  /* mark */\n    \
+                FR_ITEM_NAMES = 5 /* signer\n                     and reference */\n};";
+    let named = |mark: &str, names: &str| vec![(2, mark.to_string()), (5, names.to_string())];
+    assert_eq!(words(text), named("mark", "signer and reference"));
+    assert_eq!(words(&with(text, "/* mark", "/* a mark")), named("a mark", "signer and reference"));
+    assert_eq!(words(&with(text, "/* mark */", "")), named("mark", "signer and reference")[1..]);
+    assert_eq!(words("enum fr_number { FR_CUT = 2 /* cut */ };"), vec![]);
+}
+
+#[test]
+fn numbers_in_the_enums_of_this_crate() {
+    let text = "enum None { A = 1, }\npub enum Rule {\n    There = 2,\n    // last\n    OneTo254 = 7,\n}";
+    let numbers = |text: &str| source::enumerated(text, "Rule").map(|numbers| numbers.into_iter().collect::<Vec<_>>());
+    let named = |name: &str, there| vec![(name.to_string(), 7), ("THERE".to_string(), there)];
+    assert_eq!(numbers(text), Ok(named("ONE_TO_254", 2)));
+    assert_eq!(numbers(&with(text, "OneTo254", "NotUsedBefore")), Ok(named("NOT_USED_BEFORE", 2)));
+    assert_eq!(numbers(&with(text, "= 2", "= 17")), Ok(named("ONE_TO_254", 17)));
+    for (old, new) in [(" = 7", ""), ("There", "OneTo254"), ("enum Rule", "enum Rules"), ("7,\n}", "7,\n")] {
+        assert!(numbers(&with(text, old, new)).is_err(), "`{new}` for `{old}`");
+    }
+}
+
+#[test]
+fn reasons_in_header_and_crate() {
+    rust_noticed("fn fr_why(seal: *const u8", "fn fr_why(seal: *mut u8", "fr_why: ");
+    rust_noticed("pub item: usize,", "pub rule_first: usize,", "reason: ");
+    rust_noticed("pub judged: Part,", "pub judged: Ends,", "reason: ");
+    rust_noticed("fn fr_item_name(item: usize", "fn fr_item_name(item: u8", "fr_item_name: ");
+    rust_noticed(
+        "fn fr_rule_words(rule: usize, out: *mut",
+        "fn fr_rule_words(rule: usize, out: *const",
+        "fr_rule_words: ",
+    );
+    header_noticed("fr_part judged;", "fr_ends judged;", "reason: ");
+    header_noticed("fr_reason fr_why(", "fr_reading fr_why(", "fr_why: ");
+    source_noticed("fn fr_why(seal: &[u8]) -> FrReason", "fn fr_why(seal: &[u8]) -> FrReading", "fr_why: ");
+    source_noticed("pub rule: usize,", "pub rule: u8,", "reason: ");
 }
 
 #[test]

@@ -1,5 +1,5 @@
-//! Reads include/fenderrope.h: `typedef struct`s, prototypes, the enum of the numbers and defined sizes, and nothing
-//! else.
+//! Reads include/fenderrope.h: `typedef struct`s, prototypes, enums with the words in their comments, defined sizes,
+//! and nothing else.
 
 use std::collections::BTreeMap;
 
@@ -17,7 +17,8 @@ pub fn face(text: &str) -> Result<Face, String> {
             tokens.must(&format!("{name} ;"))?;
             face.add_struct(word(name), fields)?;
         } else if tokens.take("enum") {
-            enumerated(&mut tokens)?;
+            tokens.next()?;
+            enumerated(&mut tokens, "FR_")?;
         } else {
             let (name, result) = declared(&mut tokens)?;
             let parameters = parameters(&mut tokens)?;
@@ -27,28 +28,27 @@ pub fn face(text: &str) -> Result<Face, String> {
     Ok(face)
 }
 
-/// The numbers that the header names, without the front `FR_`; none where it has no enum.
-pub fn numbers(text: &str) -> Result<Numbers, String> {
+/// The numbers of an enum of the header by name, without the front that they share; none where it has no such enum.
+pub fn numbers(text: &str, name: &str, front: &str) -> Result<Numbers, String> {
     let text = declarations(&without_comments(text));
     let mut tokens = Tokens::of(&text);
     while !tokens.done() {
-        if tokens.take("enum") {
-            return enumerated(&mut tokens);
+        if tokens.take(&format!("enum {name}")) {
+            return enumerated(&mut tokens, front);
         }
         tokens.next()?;
     }
     Ok(Numbers::new())
 }
 
-/// An enum's name and its numbers, each written out: `fr_number { FR_DONE = 0, FR_TAG_USED = 9 };`.
-fn enumerated(tokens: &mut Tokens) -> Result<Numbers, String> {
+/// The numbers of an enum, each written out: `{ FR_DONE = 0, FR_TAG_USED = 9 };`.
+fn enumerated(tokens: &mut Tokens, front: &str) -> Result<Numbers, String> {
     let mut numbers = Numbers::new();
-    tokens.next()?;
     tokens.must("{")?;
     while !tokens.take("}") {
         let name = tokens.next()?;
         tokens.must("=")?;
-        let bare = name.strip_prefix("FR_").ok_or(format!("{name} does not begin with FR_"))?;
+        let bare = name.strip_prefix(front).ok_or(format!("{name} does not begin with {front}"))?;
         add_number(&mut numbers, bare, tokens.next()?)?;
         if !tokens.take(",") {
             tokens.must("}")?;
@@ -57,6 +57,18 @@ fn enumerated(tokens: &mut Tokens) -> Result<Numbers, String> {
     }
     tokens.must(";")?;
     Ok(numbers)
+}
+
+/// The words of an enum of the header, by number: `FR_ITEM_TAG = 12, /* tag */` is 12 and `tag`.
+pub fn words(text: &str, name: &str) -> BTreeMap<usize, String> {
+    let after = text.split_once(&format!("enum {name} {{")).map_or("", |(_, after)| after);
+    let inside = after.split_once("};").map_or("", |(inside, _)| inside);
+    let entries = inside.split(" = ").skip(1).filter_map(|entry| {
+        let (number, rest) = entry.split_once([',', ' '])?;
+        let words = rest.split_once("/* ")?.1.split_once(" */")?.0;
+        Some((number.parse().ok()?, words.split_whitespace().collect::<Vec<_>>().join(" ")))
+    });
+    entries.collect()
 }
 
 /// The text without preprocessor lines and without what is for C++ alone.

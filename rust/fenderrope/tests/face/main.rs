@@ -1,6 +1,6 @@
 //! The face in three texts: include/fenderrope.h, the Rattle sources of the calls, and this crate's declarations of
 //! them. They agree in every name, in the order and width of fields and parameters, and in what is lent for writing.
-//! The sizes, the numbers of a row and the names of the answers are compared too.
+//! The sizes, the numbers of a row, the names of the answers, and items and rules with their words are compared too.
 //! The layout in memory is asserted where the structs stand, in src/layout.rs and in the C test, by the same numbers.
 
 mod doctored;
@@ -31,7 +31,8 @@ fn header_text() -> String {
 
 /// All Rattle sources of the face, one after another: the structs, then the calls.
 fn rattle_text() -> String {
-    let folders = ["crates/face/src", "crates/face_seals/src", "crates/capi/src"].map(in_repository);
+    let folders =
+        ["crates/face/src", "crates/face_seals/src", "crates/face_why/src", "crates/capi/src"].map(in_repository);
     folders.iter().map(|folder| sources_of(folder)).collect()
 }
 
@@ -59,7 +60,7 @@ fn differences(left: Result<Face, String>, right: Result<Face, String>) -> Vec<S
 #[test]
 fn the_header_says_what_the_rattle_sources_say() {
     let header = header::face(&header_text()).expect("a header that is understood");
-    assert_eq!((header.structs.len(), header.calls.len()), (10, 13));
+    assert_eq!((header.structs.len(), header.calls.len()), (11, 16));
     let none: Vec<String> = Vec::new();
     assert_eq!(differences(Ok(header), source::face(&rattle_text(), "Fr")), none);
 }
@@ -83,6 +84,8 @@ fn the_sizes_are_those_of_the_header() {
         ("FR_CHARACTERS_MOST", fenderrope::CHARACTERS_MOST),
         ("FR_INTEGER_MOST", fenderrope::INTEGER_MOST),
         ("FR_WORDS_MOST", fenderrope::WORDS_MOST),
+        ("FR_ITEM_NAME_MOST", fenderrope::ITEM_NAME_MOST),
+        ("FR_RULE_WORDS_MOST", fenderrope::RULE_WORDS_MOST),
         ("FR_ROW", fenderrope::ROW),
         ("FR_ROW_TAG", fenderrope::ROW_TAG),
         ("FR_ROW_TAG_PLACE", fenderrope::ROW_TAG_PLACE),
@@ -101,7 +104,28 @@ fn the_numbers_have_the_names_of_the_header() {
     let ours = ours.expect("a source that is understood");
     let listed = (0..=200).filter(|&number| !reference::words(number).is_empty());
     assert_eq!(ours.values().copied().collect::<BTreeSet<_>>(), listed.collect());
-    assert_eq!(header::numbers(&header_text()).expect("a header that is understood"), ours);
+    assert_eq!(header::numbers(&header_text(), "fr_number", "FR_").expect("a header that is understood"), ours);
+}
+
+#[test]
+fn items_and_rules_have_the_names_of_the_header() {
+    let text = text_of(&in_repository("rust/fenderrope/src/items.rs"));
+    for (ours, theirs, front, count) in [("Item", "fr_item", "FR_ITEM_", 17), ("Rule", "fr_rule", "FR_RULE_", 18)] {
+        let ours = source::enumerated(&text, ours).expect("a source that is understood");
+        assert_eq!(ours.values().copied().collect::<BTreeSet<_>>(), (1..=count).collect());
+        assert_eq!(header::numbers(&header_text(), theirs, front).expect("a header that is understood"), ours);
+    }
+}
+
+/// The words that the library gives are compared with the reference's; the header's comments say the same.
+#[test]
+fn items_and_rules_have_the_words_of_the_header() {
+    type Words = fn(usize) -> &'static str;
+    for (name, words) in [("fr_item", reference::item_name as Words), ("fr_rule", reference::rule_words)] {
+        let listed = (0..=200).filter(|&code| !words(code).is_empty());
+        let expected = listed.map(|code| (code, words(code).to_string()));
+        assert_eq!(header::words(&header_text(), name), expected.collect());
+    }
 }
 
 #[test]
@@ -117,6 +141,22 @@ fn a_seal_is_read_through_these_declarations() {
     assert_eq!((reading.ends.header, reading.ends.message, reading.ends.seal), (18, 24, 82));
     assert_eq!((reading.signature.place, reading.signature.length), (26, 56));
     assert_eq!((table, &text), ([10, 18, 20, 4, 7, 7], b"UTAB00001\x07\x07"));
+}
+
+/// Seal A with a signature length that is not the shortest: all numbers of the reason are others.
+#[test]
+fn a_reason_is_told_through_these_declarations() {
+    let mut seal = seal_a();
+    seal[25] = 0x81;
+    seal[26] = 56;
+    let reason = fenderrope::plain::why(&seal);
+    assert_eq!((reason.number, reason.place, reason.item, reason.rule), (8, 25, 15, 18));
+    assert_eq!((reason.judged.place, reason.judged.length), (25, 2));
+    let (mut name, mut words) = ([7; 18], [7; 36]);
+    let (item, rule) = (fenderrope::plain::item_name(15, &mut name), fenderrope::plain::rule_words(18, &mut words));
+    assert_eq!((item.number, item.place, item.count, &name), (0, 0, 16, b"signature length\x07\x07"));
+    assert_eq!((rule.number, rule.place, rule.count), (0, 0, 34));
+    assert_eq!(&words, b"the length is in its shortest form\x07\x07");
 }
 
 /// Seal A of the tender.

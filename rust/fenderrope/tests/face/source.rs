@@ -54,6 +54,39 @@ pub fn numbers(text: &str) -> Result<Numbers, String> {
     Ok(numbers)
 }
 
+/// The numbers of an enum of this crate, each written out: `pub enum Item { Tag = 12, }`. The names are turned into the
+/// header's: `SignerAndLength` is SIGNER_AND_LENGTH, `OneTo254` is ONE_TO_254.
+pub fn enumerated(text: &str, name: &str) -> Result<Numbers, String> {
+    let text = without_comments(text);
+    let (mut tokens, mut numbers) = (Tokens::of(&text), Numbers::new());
+    while !tokens.take(&format!("pub enum {name} {{")) {
+        tokens.next()?;
+    }
+    while !tokens.take("}") {
+        let name = tokens.next()?;
+        tokens.must("=")?;
+        add_number(&mut numbers, &in_capitals(name), tokens.next()?)?;
+        tokens.must(",")?;
+    }
+    Ok(numbers)
+}
+
+/// A name in capitals, with `_` before each word of it but the first, and before digits.
+fn in_capitals(name: &str) -> String {
+    let begins = |c: char, before: Option<char>| {
+        c.is_uppercase() || (c.is_ascii_digit() && !before.is_some_and(|before| before.is_ascii_digit()))
+    };
+    let (mut capitals, mut before) = (String::new(), None);
+    for c in name.chars() {
+        if before.is_some() && begins(c, before) {
+            capitals.push('_');
+        }
+        capitals.extend(c.to_uppercase());
+        before = Some(c);
+    }
+    capitals
+}
+
 fn fields(tokens: &mut Tokens, prefix: &str) -> Result<Vec<Named>, String> {
     let mut fields = Vec::new();
     tokens.must("{")?;

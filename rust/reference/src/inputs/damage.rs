@@ -66,7 +66,7 @@ fn find(random: &mut Random, pieces: &[Piece], kinds: &[Kind]) -> Option<usize> 
 /// One wrong item in place of a right one.
 fn item(random: &mut Random, draft: &Draft, pieces: &mut Vec<Piece>) {
     use Kind::*;
-    let kinds: &[Kind] = match random.below(28) {
+    let kinds: &[Kind] = match random.below(32) {
         0 => &[Mark],
         1 => &[Version],
         2 => &[Country],
@@ -78,8 +78,8 @@ fn item(random: &mut Random, draft: &Draft, pieces: &mut Vec<Piece>) {
         17..=19 => &[Length, SignatureLength],
         20..=21 => &[SignatureLength],
         22..=24 => return other_signature(random, pieces),
-        25 => return cut_length(random, pieces),
-        26 => return cut_item(random, pieces),
+        25..=26 => return cut_length(random, pieces),
+        27..=30 => return cut_item(random, pieces),
         _ => return too_many_tags(random, draft, pieces),
     };
     let Some(index) = find(random, pieces, kinds) else { return };
@@ -127,14 +127,17 @@ fn cut_length(random: &mut Random, pieces: &mut Vec<Piece>) {
     pieces.truncate(index + 1);
 }
 
-/// The seal up to some item, of which the last bytes may be missing and the others wrong.
+/// The seal up to some item, in the header or of any kind, of which mostly the last bytes are missing and the others
+/// may be wrong.
 fn cut_item(random: &mut Random, pieces: &mut Vec<Piece>) {
     let in_header = random.below(pieces.len().min(10));
-    let anywhere = random.below(pieces.len());
-    pieces.truncate(1 + random.pick(&[in_header, anywhere]));
+    let kind = random.pick(&Kind::ALL);
+    let of_kind = find(random, pieces, &[kind]).unwrap_or(in_header);
+    pieces.truncate(1 + random.pick(&[in_header, of_kind, of_kind]));
     let wrong = random.pick(&[None, Some(0x00), Some(0xFF)]);
     if let Some((_, bytes)) = pieces.last_mut() {
-        bytes.truncate(random.below(bytes.len() + 1));
+        let kept = if random.one_in(4) { bytes.len() } else { random.below(bytes.len()) };
+        bytes.truncate(kept);
         bytes.iter_mut().for_each(|byte| *byte = wrong.unwrap_or(*byte));
     }
 }

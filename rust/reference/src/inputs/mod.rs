@@ -2,11 +2,12 @@
 //!
 //! The calls are drawn from a seed, so that a run can be repeated. Legal contents are drawn first and then damaged in
 //! one place or a few, as bytes drawn blindly hardly ever come past the country. The weights see to it that every
-//! answer the base can give is frequent, and that a call is cheap on average.
+//! answer the base can give is frequent, and so is every reason why a seal is refused, and that a call is cheap on
+//! average.
 //!
-//! A program is compared by answering the calls of [`Base`] in the types of this crate; for each call of [`Inputs`]
-//! then `run(&Reference, &call)` and `run(&program, &call)` must be equal: number, place, every field and every lent
-//! byte.
+//! A program is compared by answering the calls of [`Base`] in the types of this crate; for each call of [`Inputs`],
+//! and for what [`Call::why`] makes of it, then `run(&Reference, &call)` and `run(&program, &call)` must be equal:
+//! number, place, every field and every lent byte.
 
 mod codecs;
 mod damage;
@@ -30,6 +31,7 @@ use seals::Draft;
 pub enum Call {
     Read { seal: Vec<u8>, table_room: usize, text_room: usize },
     Judge { seal: Vec<u8> },
+    Why { seal: Vec<u8> },
     Write { header: Header, text: Vec<u8>, rows: Vec<usize>, values: Vec<u8>, signature: Vec<u8>, room: usize },
     C40Read { bytes: Vec<u8>, room: usize },
     C40Write { text: Vec<u8>, room: usize },
@@ -48,6 +50,7 @@ impl Call {
         match self {
             Call::Read { .. } => "read",
             Call::Judge { .. } => "judge",
+            Call::Why { .. } => "why",
             Call::Write { .. } => "write",
             Call::C40Read { .. } => "c40_read",
             Call::C40Write { .. } => "c40_write",
@@ -58,6 +61,15 @@ impl Call {
             Call::ToDer { .. } => "signature_to_der",
             Call::ToRaw { .. } => "signature_to_raw",
             Call::Hash(_) => "hash",
+        }
+    }
+
+    /// The same seal, asked why it is refused; nothing where the call is no reading. Such calls are not drawn: they are
+    /// put beside every reading that is.
+    pub fn why(&self) -> Option<Call> {
+        match self {
+            Call::Read { seal, .. } | Call::Judge { seal } => Some(Call::Why { seal: seal.clone() }),
+            _ => None,
         }
     }
 }

@@ -32,14 +32,31 @@ fn change_character(random: &mut Random, kind: Kind, item: &mut Vec<u8>) {
     let Ok(mut text) = c40::decode(item) else { return };
     match kind {
         Kind::Country if text.len() == 3 => text.copy_from_slice(&wrong_country(random)),
-        Kind::Signer if text.len() == 6 && random.one_in(2) => text[4..].copy_from_slice(&wrong_digits(random)),
-        _ => {
-            let wide = if kind == Kind::Signer { text.len().min(4) } else { text.len() };
-            let place = random.below(wide);
-            text.get_mut(place).into_iter().for_each(|character| *character = random.pick(b"   7"));
-        }
+        Kind::Signer if text.len() == 6 => change_signer(random, &mut text, |random, digits| {
+            digits.copy_from_slice(&wrong_digits(random));
+        }),
+        Kind::Names if text.len() == 9 => change_signer(random, &mut text, spoil),
+        _ => spoil(random, &mut text),
     }
     *item = c40::encode(&text).unwrap_or_default();
+}
+
+/// Changes the signer, what stands behind it in the same item, or both: then the signer is the reason.
+fn change_signer(random: &mut Random, text: &mut [u8], behind: impl FnOnce(&mut Random, &mut [u8])) {
+    let (signer, rest) = text.split_at_mut(4);
+    let (first, second) = random.pick(&[(true, false), (false, true), (false, true), (true, true)]);
+    if first {
+        spoil(random, signer);
+    }
+    if second {
+        behind(random, rest);
+    }
+}
+
+/// A space in the place of some character, or a digit, which is wrong where a letter stands.
+fn spoil(random: &mut Random, text: &mut [u8]) {
+    let place = random.below(text.len());
+    text.get_mut(place).into_iter().for_each(|character| *character = random.pick(b"   7"));
 }
 
 /// Three characters that are no country.
@@ -58,7 +75,7 @@ fn wrong_country(random: &mut Random) -> [u8; 3] {
 /// Two characters that are no length L, or another.
 fn wrong_digits(random: &mut Random) -> [u8; 2] {
     let other = [random.pick(b"0F"), random.pick(LETTERS_AND_DIGITS)];
-    random.pick(&[*b"00", *b"00", *b"0G", *b"G0", *b" 5", *b"5 ", *b"FF", other])
+    random.pick(&[*b"00", *b"00", *b"00", *b"00", *b"0G", *b"G0", *b" 5", *b"5 ", *b"FF", other])
 }
 
 /// A last pair of one, two or three characters; only one of these fits.

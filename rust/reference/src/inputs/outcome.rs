@@ -1,12 +1,13 @@
 //! What comes of a call: the answer and the lent memory after it, both as plain values that can be compared.
 
 use super::Call;
-use crate::{Date, Dated, Filled, Hashed, Header, Integer, Numbered, Reading};
+use crate::{Date, Dated, Filled, Hashed, Header, Integer, Numbered, Reading, Reason};
 
 /// The calls of the base. A program that is compared answers all of them, in the types of this crate.
 pub trait Base {
     fn read(&self, seal: &[u8], table: &mut [usize], text: &mut [u8]) -> Reading;
     fn judge(&self, seal: &[u8]) -> Reading;
+    fn why(&self, seal: &[u8]) -> Reason;
     fn write(&self, h: &Header, text: &[u8], rows: &[usize], values: &[u8], sig: &[u8], out: &mut [u8]) -> Filled;
     fn c40_read(&self, bytes: &[u8], out: &mut [u8]) -> Filled;
     fn c40_write(&self, text: &[u8], out: &mut [u8]) -> Filled;
@@ -29,6 +30,9 @@ impl Base for Reference {
     }
     fn judge(&self, seal: &[u8]) -> Reading {
         crate::judge(seal)
+    }
+    fn why(&self, seal: &[u8]) -> Reason {
+        crate::why(seal)
     }
     fn write(&self, h: &Header, text: &[u8], rows: &[usize], values: &[u8], sig: &[u8], out: &mut [u8]) -> Filled {
         crate::write(h, text, rows, values, sig, out)
@@ -66,6 +70,7 @@ impl Base for Reference {
 #[derive(Debug, Clone, Copy, PartialEq, Eq)]
 pub enum Answer {
     Reading(Reading),
+    Reason(Reason),
     Filled(Filled),
     Dated(Dated),
     Numbered(Numbered),
@@ -78,6 +83,7 @@ impl Answer {
     pub fn told(&self) -> (usize, usize) {
         match self {
             Answer::Reading(answer) => (answer.number, answer.place),
+            Answer::Reason(answer) => (answer.number, answer.place),
             Answer::Filled(answer) => (answer.number, answer.place),
             Answer::Dated(answer) => (answer.number, answer.place),
             Answer::Numbered(answer) => (answer.number, answer.place),
@@ -128,6 +134,7 @@ pub fn run(base: &impl Base, call: &Call) -> Outcome {
     let answer = match call {
         Call::Read { seal, .. } => Answer::Reading(base.read(seal, &mut table, out)),
         Call::Judge { seal } => Answer::Reading(base.judge(seal)),
+        Call::Why { seal } => Answer::Reason(base.why(seal)),
         Call::Write { header, text, rows, values, signature, .. } => {
             Answer::Filled(base.write(header, text, rows, values, signature, out))
         }

@@ -26,6 +26,26 @@ pub(super) enum Kind {
     Signature,
 }
 
+impl Kind {
+    /// All kinds, in the order of the layout.
+    pub const ALL: [Kind; 14] = [
+        Kind::Mark,
+        Kind::Version,
+        Kind::Country,
+        Kind::Names,
+        Kind::Signer,
+        Kind::Reference,
+        Kind::Day,
+        Kind::LastByte,
+        Kind::Tag,
+        Kind::Length,
+        Kind::Value,
+        Kind::End,
+        Kind::SignatureLength,
+        Kind::Signature,
+    ];
+}
+
 /// An item's bytes.
 pub(super) type Piece = (Kind, Vec<u8>);
 

@@ -1,8 +1,11 @@
 //! What the test programs share: bytes from hexadecimal, Seal A, and calls that also watch the lent memory.
 #![allow(dead_code)]
 
+pub mod codes;
+
+use codes::rules;
 use reference::inputs::{lent, lent_table};
-use reference::{Date, Filled, Header, Reading, Row};
+use reference::{why, write, Date, Filled, Header, Reading, Reason, Row};
 
 /// Bytes from hexadecimal digits; spaces do not matter.
 pub fn hex(digits: &str) -> Vec<u8> {
@@ -50,6 +53,23 @@ pub fn read(seal: &[u8]) -> (usize, usize) {
     let answer = read_in(seal, 256 * Row::WIDTH, 300).0;
     assert_eq!(answer, reference::judge(seal));
     (answer.number, answer.place)
+}
+
+/// Item, rule, place, and how many bytes were judged. The number goes with the rule, the bytes judged begin at the
+/// place and lie in the seal, and the reader gives the same number and place.
+pub fn told(seal: &[u8]) -> (usize, usize, usize, usize) {
+    let Reason { number, place, item, rule, judged } = why(seal);
+    assert_eq!((number, place), read(seal));
+    assert_eq!((number, place), (rules::number(rule), judged.place));
+    assert!(judged.place + judged.length <= seal.len());
+    (item, rule, place, judged.length)
+}
+
+/// A version 4 seal with a reference of so many Z, which begins at 8.
+pub fn with_reference(length: usize) -> Vec<u8> {
+    let header = Header { version: 4, length, ..header_a() };
+    let text = [b"UTAB", &vec![b'Z'; length][..]].concat();
+    filled(4096, |out| write(&header, &text, &[], &[], &[0xAA; 56], out)).expect("a legal content")
 }
 
 /// A reading in a room for so many numbers and so many characters, and the table after it. Memory past what is written

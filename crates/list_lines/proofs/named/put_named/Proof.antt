@@ -8,8 +8,11 @@ use Rattle.list_lines.proofs.named.put_named.Tie as tie
 put-text-requires : tie.Need-put-text-requires
 put-text-requires c κs = search needs
 
-put-some-requires : tie.Need-put-some-requires
-put-some-requires c κs = search needs
+part-requires : tie.Need-part-requires
+part-requires c κs = search needs
+
+put-text-requires-2 : tie.Need-put-text-requires-2
+put-text-requires-2 c κs = search needs
 
 put-requires : tie.Need-put-requires
 put-requires c κs = search needs
@@ -21,10 +24,12 @@ returns : tie.Need-returns
 returns c =
     let end = c .before .before in
     let bytes = end .before .before .before .before in
-    let name = bytes .before .before .before .before in
+    let name = bytes .before .before .before .before .before in
     put-more _ _ _ _ _ _ _ _ (name .put-text .ensures) (name .put-text .kept .0)
-    (put-more _ _ _ _ _ _ _ _ (bytes .put-some .ensures) (bytes .put-some .kept .0) (end .put .ensures))
+    (put-more _ _ _ _ _ _ _ _ (rw (bytes .before .part .ensures) at (bytes .put-text2 .ensures)) (bytes .put-text2 .kept .0)
+    (end .put .ensures))
 
 pub put-named-spec : {M : Type 1} → statement M
 put-named-spec =
-    tie.close (tie.spec put-text-requires put-some-requires put-requires same-length returns)
+    tie.close
+    (tie.spec put-text-requires part-requires put-text-requires-2 put-requires same-length returns)

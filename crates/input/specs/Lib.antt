@@ -1,0 +1,3 @@
+-- What the contracts of input cite.
+-- Assumes nothing.
+pub mod Input

@@ -1,3 +1,0 @@
--- What the contracts of the listing program cite.
--- Assumes nothing.
-pub mod Input

@@ -1,0 +1,4 @@
+pub mod Rules
+pub mod Layout
+pub mod Reason
+pub mod Pins

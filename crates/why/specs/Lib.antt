@@ -1,0 +1,3 @@
+pub mod Told
+pub mod Theorems
+pub mod Pins
