@@ -94,11 +94,11 @@ def repeat(length, period):
 
 
 # ---- The families ---------------------------------------------------------------------------
-FAMILIES = []   # (heading, cases)
+CHAPTERS = {"text": [], "long": []}   # families, (heading, cases)
 
 
-def family(heading, cases):
-    FAMILIES.append((heading, cases))
+def family(heading, cases, chapter="text"):
+    CHAPTERS[chapter].append((heading, cases))
 
 
 PUBLISHED = [(b"VISA01", "DE515826"), (b"XKCD", "EB11FE45"), (b"XK CD", "EB0466A9"),
@@ -221,6 +221,28 @@ family("Writing, several faults at once, in the order 45, 43, 44; of two wrong c
        + [case("w", 0, repeat(6143, TEXT_32) + [(b"z", 1)], 43, 6143)]
        + [case("w", 9, text, 43, at) for text, at in (
            (b"<<", 0), (b"a<A", 0), (b"A<z", 1), (b"ABC\x80D\0", 3), (b"ABCDEF\xFF!", 6), (b"AB-CD-", 2))])
+family("Reading 250 to 262 bytes and 384, where a reader may lay out the chart, good, with the room exact and one short, and "
+       "with each fault as the first pair, the second, one in the middle, those before the last and the last.",
+       [case("r", room, repeat(k, DATA_32), 42, 0, (TEXT_48 * 12)[:k // 2 * 3] if room >= k // 2 * 3 else None)
+        for k in (250, 252, 254, 256, 258, 260, 262, 384) for room in (k // 2 * 3 - 1, k // 2 * 3)]
+       + [case("r", 7000, repeat(at, DATA_32) + [(p, 1)] + repeat(k - at - 2, DATA_32), number, at)
+          for k in (254, 256, 258, 384) for at in (0, 2, 128, k - 6, k - 4, k - 2)
+          for p, number in (NOT_LAST if at < k - 2 else ANYWHERE).items()]
+       + [case("r", 7000, repeat(k - 2, DATA_32) + [(p, 1)], 0, 0, (TEXT_48 * 12)[:k // 2 * 3 - 3] + text)
+          for k in (254, 256, 258) for p, text in ((SHORT, b"MS"), (LONE, b"A"))], "long")
+family("Every value at each place of a pair in long text, whose other pairs are good: 37 times three texts of 258 bytes.",
+       [case("r", 387, [(GOOD, 64), (encode(text), 1), (GOOD, 64)], 0, 0, b"VIS" * 64 + text + b"VIS" * 64)
+        for c in CHART for text in (b"%c7Q" % c, b"Q%c7" % c, b"7Q%c" % c)], "long")
+family("Writing 381 to 388 characters, where a writer may judge and code in one pass, with the room exact and one short, and "
+       "with a wrong character as each of the first three, one in the middle and each of the last four.",
+       [case("w", room, repeat(k, TEXT_32), 44, 0, encode((TEXT_32 * 13)[:k]) if room >= need else None)
+        for k in range(381, 389) for need in [(k + 2) // 3 * 2] for room in (need - 1, need)]
+       + [case("w", 7000, repeat(at, TEXT_32) + [(bad, 1)] + repeat(k - at - 1, TEXT_32), 43, at)
+          for k in (383, 384, 385, 386) for at in (0, 1, 2, 192, k - 4, k - 3, k - 2, k - 1)
+          for bad in (b"<", b"a", b"\x80")], "long")
+family("Every character of the chart at each place of a group in long text, written: 37 times three texts of 387.",
+       [case("w", 258, [(b"VIS", 64), (text, 1), (b"VIS", 64)], 0, 0, GOOD * 64 + encode(text) + GOOD * 64)
+        for c in CHART for text in (b"%c7Q" % c, b"Q%c7" % c, b"7Q%c" % c)], "long")
 
 
 # ---- Checks and output ----------------------------------------------------------------------
@@ -267,14 +289,16 @@ def answer_to(line):
 
 
 def chapters():
-    """The one chapter: no name, the lines of its cases, and of their answers."""
+    """Two chapters, the second of texts about as long as those from which a reader or writer may go a way of its own: their
+    names, the lines of their cases, and of the answers."""
     check_reference()
-    cases, answers = [], []
-    for heading, members in FAMILIES:
-        cases.append("# " + heading)
-        for letter, room, pieces, expected in members:
-            cases.append(case_line(letter, room, pieces))
-            assert answer_to(cases[-1]) == expected, (cases[-1], expected)   # family and reference agree
-            answers.append(answer_line(*expected))
-    assert len(answers) >= 120 and max(map(len, cases)) <= 300
-    yield "", cases, answers
+    for chapter, families in CHAPTERS.items():
+        cases, answers = [], []
+        for heading, members in families:
+            cases.append("# " + heading)
+            for letter, room, pieces, expected in members:
+                cases.append(case_line(letter, room, pieces))
+                assert answer_to(cases[-1]) == expected, (cases[-1], expected)   # family and reference agree
+                answers.append(answer_line(*expected))
+        assert len(answers) >= 120 and max(map(len, cases)) <= 300
+        yield chapter, cases, answers

@@ -5,8 +5,10 @@ ghost use Rattle.format.specs.Answers.{told, filled};
 ghost use Rattle.c40.specs.Calls.{writing, writingOf};
 
 mod encode;
+mod turned;
 
 use c40::Writing;
+pub use turned::turned_chart;
 
 // Writes text into `out` as C40 bytes: all characters are judged before the room is, and both before the first byte is written.
 pub fn write(text: &[u8], out: &mut [u8]) -> Writing
@@ -17,15 +19,14 @@ pub fn write(text: &[u8], out: &mut [u8]) -> Writing
     if 6144 < n {
         return Writing::TooLong;
     }
-    let chart = pairs::the_chart();
-    let known = encode::known(&chart, text);
-    if known < n {
-        return Writing::Stranger(known);
+    let values = turned_chart();
+    if !encode::all_known(&values, text) {
+        return Writing::Stranger(encode::known(&values, text));
     }
     let size = octets::threes(n + 2) * 2;
     if out.len() < size {
         return Writing::NoRoom;
     }
-    encode::put(text, out);
+    encode::put(&values, text, out);
     Writing::Done(size)
 }

@@ -10,9 +10,9 @@ use face::FrFilled;
 // Makes the call that a case asks for: `r` reads, and anything else writes.
 fn call(kind: u8, input: &[u8], room: &mut [u8]) -> FrFilled {
     if kind == b'r' {
-        return answers_text::text_read(c40_read::read(input, room));
+        return answers_text::text_read(c40_read_long::read(input, room));
     }
-    answers_text::text_written(c40_write::write(input, room))
+    answers_text::text_written(c40_write_long::write(input, room))
 }
 
 // Puts down the line of a case: the answer, and what the whole buffer holds after the call.

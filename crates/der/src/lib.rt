@@ -1,9 +1,9 @@
-// DER (document 01; X.690): lengths read and formed, and the content of an INTEGER. `elements` reads elements.
+// DER (document 01; X.690): lengths read and formed, and which first byte of an INTEGER is needless. `elements` reads elements.
 ghost use mathlib.Core.Path.{_≡_};
 ghost use Prim.Native.Nat.{_<_};
 ghost use lib.ListN.{length, drop};
 ghost use Rattle.der.specs.Length.{readLength, longForm, lengthForm, written, least as leastOf};
-ghost use Rattle.der.specs.Content.{redundant, strict};
+ghost use Rattle.der.specs.Content.{redundant};
 use octets::low;
 use octets::wide;
 
@@ -135,18 +135,4 @@ pub fn is_redundant(x: u8, y: u8) -> bool
         return x == 0;
     }
     x == 0xFF
-}
-
-// Whether the content of an INTEGER is of the shortest form.
-pub fn is_shortest(content: &[u8]) -> bool
-    ensures { λ r. ⌜ r ≡ strict (now (content .entry)) ⌝ }
-{
-    let n = content.len();
-    if n == 0 {
-        return false;
-    }
-    if n == 1 {
-        return true;
-    }
-    !is_redundant(content[0], content[1])
 }

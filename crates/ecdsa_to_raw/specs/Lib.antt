@@ -1,1 +1,2 @@
 pub mod Rawed
+pub mod Short

@@ -1,11 +1,15 @@
 -- A quotient by a constant without a division (document 02, Ticket 5): a product and a shift, over the range that the constants leave;
--- and for every number, by its parts.
+-- and for every number, by its parts. What the quotient leaves is told by the low bits of the product.
 -- Assumes nothing.
 use mathlib.Core.Path.{_≡_, ap, sym, _∙_}
 use Prim.Native.Nat.{ℕ, _+_, _*_, _/_, _%_, _<_, _≤_}
 use native.Mathlib.Omega.{arith}
 use native.Mathlib.Nat.{add-assoc, mul-add, add-mul, mul-assoc, mul-right-comm, one-mul, mul-le-mul-right, le-of-mul-le-mul-right}
 use native.Mathlib.Nat.{lt-of-mul-lt-mul-right, div-mul-le-self, lt-div-mul-add, div-eq-of-lt-le, div-add-mod', add-mul-div-right}
+use native.Mathlib.Nat.{mod-lt, mod-eq-of-lt, add-mul-mod-self-right}
+use borrow.Author.Tests.{leb-true, leb-false, le-leb, lt-leb}
+use lib.Dec.{leb}
+use Rattle.format.specs.Choice.Laws.{by-test}
 
 -- k is the quotient by p where it is once both sides are taken d times
 between : (d m p n k : ℕ) → 0 < d → k * d * p ≤ n * (m * d) → n * (m * d) < k * d * p + d * p → n * m / p ≡ k
@@ -53,3 +57,30 @@ module _ (d m t e : ℕ) (pos : 0 < d) (ex : m * d ≡ t + e) (p q c b r : ℕ) 
       ∙ ap (λ x. n / p * c + (rest / q * b + x)) (quotient d m t e pos ex last small ∙ ap (λ x. x / d) g)
       ∙ ap (λ x. n / p * c + x) (by-part d q b r pos middle rest ∙ ap (λ x. x / d) f)
       ∙ by-part d p c r pos high n
+
+one-more : (k m : ℕ) → (k + 1) * m ≡ k * m + m
+one-more k m = add-mul k 1 m ∙ ap (λ x. k * m + x) (one-mul m)
+
+-- m * d is p and a little, e: then what p leaves of a product by m is what d leaves of n, so many times m, and the little once for each
+-- time that d goes into n; so a test of the one is a test of the other, as long as all the little together is below m
+module _ (d m p e : ℕ) (pos : 0 < d) (ex : m * d ≡ p + e) (n : ℕ) (small : n / d * e + e < m) where
+  left-of : n * m % p ≡ n % d * m + n / d * e
+  left-of =
+      let q = n / d in
+      let r = n % d in
+      let wholes : q * d * m ≡ q * p + q * e = mul-right-comm q d m ∙ mul-assoc q m d ∙ ap (λ x. q * x) ex ∙ mul-add q p e in
+      let parts : n * m ≡ q * d * m + r * m = ap (λ x. x * m) (sym (div-add-mod' n d)) ∙ add-mul (q * d) r m in
+      let whole : n * m ≡ r * m + q * e + q * p = omega (arith, wholes, parts) in
+      let most : (r + 1) * m ≤ d * m = mul-le-mul-right m (omega (arith, mod-lt n pos)) in
+      let turned : d * m ≡ m * d = omega arith in
+      ap (λ x. x % p) whole ∙ add-mul-mod-self-right (r * m + q * e) q p ∙ mod-eq-of-lt (omega (arith, most, one-more r m, turned, ex))
+
+  pub left-test : (b : ℕ) → leb (b * m) (n * m % p) ≡ leb b (n % d)
+  left-test b =
+      by-test (leb b (n % d))
+      (λ e.
+      let least : b * m ≤ n % d * m = mul-le-mul-right m (leb-true b (n % d) e) in
+      le-leb (b * m) (n * m % p) (omega (arith, left-of, least)) ∙ sym e)
+      (λ e.
+      let most : (n % d + 1) * m ≤ b * m = mul-le-mul-right m (omega (arith, leb-false b (n % d) e)) in
+      lt-leb (b * m) (n * m % p) (omega (arith, left-of, most, one-more (n % d) m)) ∙ sym e)

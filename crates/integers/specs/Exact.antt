@@ -2,15 +2,15 @@
 -- number reads as that number,
 -- what reads as a number is what is written for it, and everything else is refused. So a number has one encoding that is taken.
 -- Assumes nothing.
-use mathlib.Core.Path.{_≡_, refl, ap, sym, subst, _∙_}
+use mathlib.Core.Path.{_≡_, refl, ap, ap₂, sym, subst, _∙_}
 use mathlib.Core.Bool.{true}
 use Prim.Native.Nat.{ℕ, _-_, _<_, _≤_}
 use native.Mathlib.Omega.{arith}
 use borrow.Author.Tests.{ltb-true, ltb-false, eqb-true, eqb-false}
-use mathlib.Core.List.{List}
+use mathlib.Core.List.{List, [], _∷_}
 use lib.Dec.{ltb, eqb}
 use lib.IntN.{ℤ, pos}
-use lib.ListN.{length, drop}
+use lib.ListN.{length, getD, drop}
 use mir.Syntax.{w64}
 use mir.Val.{SFits}
 use Rattle.format.specs.Answers.{Outcome, Result, done, refused, result, refusal}
@@ -19,17 +19,22 @@ use Rattle.format.specs.Bytes.Laws.{bytes-drop, bytes-take}
 use Rattle.format.specs.Choice.Laws.{by-test}
 use Rattle.format.specs.BigEndian.{be}
 use Rattle.format.specs.BigEndian.Laws.{length-be}
+use Rattle.der.specs.Length.{Sized}
 use Rattle.der.specs.Element.{elementIn}
 use Rattle.der.specs.declared.Element.{Element}
 use Rattle.der.specs.declared.Element.the-variants.{Body, Nothing}
 use Rattle.der.specs.Content.{shortest, strict, integer}
 use Rattle.integers.specs.Integer.{word, valueOf, integerOf}
-use Rattle.integers.specs.Integer.Laws.{shortest-size, shortest-is-strict}
+use Rattle.integers.specs.Integer.Laws.{shortest-size, shortest-is-strict, strict-some}
 use Rattle.integers.specs.Integer.Values.{value-shortest, value-be, value-fits, strict-back}
 use Rattle.integers.specs.OneElement.{part, element-reads, element-part, element-is}
 use Rattle.integers.specs.Calls.{content, reading, writing}
 use Rattle.integers.specs.Calls.Laws.{content-loose, content-long, content-is, reading-none, reading-more, reading-all, writing-not}
-use Rattle.integers.specs.Calls.Laws.{writing-done}
+use Rattle.integers.specs.Calls.Laws.{writing-done, integer-short}
+
+-- an INTEGER reads as its content
+integer-reads : (c : List ℕ) → Sized (length c) → reading (integer c) ≡ content c
+integer-reads c h = reading-all (integer c) _ _ (element-reads 0x02 c h) refl ∙ ap content (element-part 0x02 c)
 
 -- what is written for a number reads as that number
 pub written-reads : (v : ℤ) → SFits w64 v → reading (integerOf v) ≡ result v
@@ -38,8 +43,7 @@ written-reads v f =
     let c = shortest s in
     let eight = length-be 8 (word v) in
     let few : length c ≤ 8 = omega (arith, shortest-size s) in
-    reading-all (integer c) _ _ (element-reads 0x02 c (omega arith)) refl
-    ∙ ap content (element-part 0x02 c)
+    integer-reads c (omega arith)
     ∙ content-is c (shortest-is-strict s (omega arith)) few
     ∙ ap result (value-shortest s ∙ value-be v f)
 
@@ -89,6 +93,29 @@ pub else-refused : (s : List ℕ) → Bytes s → ((v : ℤ) → SFits w64 v →
 else-refused s bytes none =
     read-cases s bytes (λ r. r)
     (λ c b is t few r. absurd (none (valueOf c) (value-fits c b few) (is ∙ ap integer (sym (strict-back c b few t)))))
+
+-- and what is taken is 02, the size in one byte, and 1 to 8 bytes: a length in more bytes is not the shortest of so few
+pub small-reads :
+    (s : List ℕ) →
+    2 ≤ length s →
+    length s ≤ 10 →
+    getD s 0 0 ≡ 0x02 →
+    getD s 1 0 ≡ length s - 2 →
+    reading s ≡ content (drop 2 s)
+small-reads [] h l e f = absurd (omega arith)
+small-reads (x ∷ []) h l e f = absurd (omega arith)
+small-reads (x ∷ y ∷ c) h l e f =
+    let size : y ≡ length c = omega arith in
+    ap₂ (λ a b. reading (a ∷ b ∷ c)) e size ∙ ap reading (sym (integer-short c (omega arith))) ∙ integer-reads c (omega arith)
+
+pub not-small :
+    (s : List ℕ) →
+    Bytes s →
+    ((c : List ℕ) → 0 < length c → length c ≤ 8 → s ≡ 0x02 ∷ length c ∷ c → ⊥) →
+    reading s ≡ refusal (pos 0) 65
+not-small s bytes none =
+    read-cases s bytes (λ r. r)
+    (λ c b is t few r. absurd (none c (strict-some c t) few (is ∙ integer-short c (omega arith))))
 
 -- the calls: what was written reads as the number, and what was read is written again wherever there is room
 pub writing-reads : (v : ℤ) → SFits w64 v → (room : ℕ) (s : List ℕ) → writing v room ≡ done s → reading s ≡ result v

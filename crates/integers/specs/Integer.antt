@@ -4,6 +4,7 @@ pub mod Laws
 pub mod FirstByte
 pub mod Signed
 pub mod Values
+pub mod Bytewise
 use Prim.Native.Nat.{ℕ, suc, _-_, _^_}
 use mathlib.Core.List.{List}
 use lib.Dec.{ltb}

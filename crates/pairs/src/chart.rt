@@ -55,19 +55,21 @@ pub fn the_chart() -> [u8; 40]
     CHART
 }
 
-// The value that a character has if it is in the chart: the chart's entry there is the character exactly then.
+// The value that a character has if it is in the chart: the chart's entry there is the character exactly then. Later tests overrule
+// earlier ones, so that the compiler makes no branches of them, which mixed text would have the processor guess wrongly.
 pub fn value_of(c: u8) -> usize
     ensures { λ r. ⌜ (r ≡ valueOf c) × (r < 40) ⌝ }
 {
     let n = wide(c);
-    if n < 48 {
-        return 3;
+    let mut value: usize = 3;
+    if 48 <= n {
+        value = n - 44;
     }
-    if n < 65 {
-        return n - 44;
+    if 65 <= n {
+        value = n - 51;
     }
-    if n < 91 {
-        return n - 51;
+    if 91 <= n {
+        value = 3;
     }
-    3
+    value
 }

@@ -26,6 +26,8 @@ pub fn read_features(start: Cursor, seal: &[u8], version: Version) -> Features
     ensures { λ r. ⌜ featuresOf r ≡ through length (featuresFrom 256 version [] (start .place) (now (seal .entry))) ⌝ }
 {
     let mut tags = [0u8; 255];
+    // a bit for each tag, set where it was used: where it is not, no earlier row is looked at, so the inner loop is entered at most once
+    let mut marks = [0u64; 4];
     let mut count: usize = 0;
     let mut at = start.place;
     let repeat = 'rows: loop {
@@ -36,12 +38,16 @@ pub fn read_features(start: Cursor, seal: &[u8], version: Version) -> Features
         if tag == 0xFF {
             return Features::Are(count, here);
         }
-        let mut i: usize = 0;
-        while i < count {
-            if wide(tags[i]) == tag {
-                break 'rows at;
+        let word = tag >> 6;
+        let bit = tag & 63;
+        if (marks[word] >> bit) & 1 == 1 {
+            let mut i: usize = 0;
+            while i < count {
+                if wide(tags[i]) == tag {
+                    break 'rows at;
+                }
+                i += 1;
             }
-            i += 1;
         }
         let length = next.feature_length(seal, version);
         let Number::Is(size, value) = length else {
@@ -51,6 +57,7 @@ pub fn read_features(start: Cursor, seal: &[u8], version: Version) -> Features
             return Features::Not(Refusal::of(Item::Value, Rule::There, value.place));
         };
         tags[count] = tag as u8;
+        marks[word] = marks[word] | (1 << bit);
         count += 1;
         at = end.place;
     };

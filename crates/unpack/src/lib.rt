@@ -1,7 +1,10 @@
 // What a pair of C40 bytes carries (document 01, C40; Doc 9303-13, 2.6.2).
 ghost use mathlib.Core.Path.{_≡_};
+ghost use mathlib.Core.Bool.{false};
 ghost use Prim.Native.Nat.{_+_, _*_, _<_};
+ghost use lib.Dec.{eqb};
 ghost use lib.ListN.{length};
+ghost use Rattle.pairs.specs.Chart.{theChart};
 ghost use Rattle.pairs.specs.Pairs.{pairOf, charsOf, first, second, third};
 use octets::wide;
 use pairs::Fault;
@@ -21,6 +24,27 @@ pub fn split(n: usize) -> Values
         b: forties - a * 40,
         c: n - forties * 40,
     }
+}
+
+// Whether a pair carries three characters: its number is in range, and none of its three values is a shift. Nothing is divided for it.
+// 107374183 is 2^32 / 40 and a little, so the low 32 bits of `n` times 107374183 are the third value times 107374183, and a little: below 3
+// times 107374183 exactly where the third value is below 3. By 2684355, which is 2^32 / 1600 and a little, they tell in the same way what
+// the sixteen hundreds leave, which is below 120 exactly where the second value is below 3. The first is, where the number is below 4,801.
+pub fn is_full(x: u8, y: u8) -> bool
+    ensures { λ r. ⌜ r ≡ eqb (length (charsOf (pairOf theChart false x y))) 3 ⌝ }
+{
+    let number = wide(x) * 256 + wide(y);
+    if number < 4801 {
+        return false;
+    }
+    if 64000 < number {
+        return false;
+    }
+    let n = number - 1;
+    if (n * 107374183) & 4294967295 < 322122549 {
+        return false;
+    }
+    322122600 <= (n * 2684355) & 4294967295
 }
 
 // What a pair over 64,000 carries: one character, FE and its code plus 1, and only as the last pair.

@@ -1,16 +1,11 @@
--- The C40 bytes of characters that are not judged: for every byte, where the published form is one of text alone; and the
--- first characters of version 4's names.
+-- The C40 bytes of characters that are not judged: for every byte, where the published form is one of text alone.
 -- Assumes nothing.
 pub mod Laws
-use Prim.Native.Nat.{ℕ, _+_, _-_, _%_}
+use Prim.Native.Nat.{ℕ, _+_}
 use mathlib.Core.List.{List, [], _∷_, _++_}
-use lib.Dec.{ltb}
-use lib.ListN.{length, take, replicate}
-use Rattle.format.specs.Choice.{pick}
 use Rattle.format.specs.BigEndian.{be}
 use Rattle.pairs.specs.Chart.{valueOf}
 use Rattle.pairs.specs.Pairs.{triple, number}
-use Rattle.grammar.specs.Publish.{hexDigits}
 
 -- full triples; two left over are completed with 0; one left over is FE and its code plus 1, as a number in two bytes
 unfoldable pub coded : List ℕ → List ℕ
@@ -18,7 +13,3 @@ coded [] = []
 coded (a ∷ []) = be 2 (number 0xFE (a + 1))
 coded (a ∷ b ∷ []) = triple (valueOf a) (valueOf b) 0
 coded (a ∷ b ∷ c ∷ t) = triple (valueOf a) (valueOf b) (valueOf c) ++ coded t
-
--- the signer, and the reference's length in two hexadecimal digits, which are its last two where it has more
-unfoldable pub firstSix : List ℕ → List ℕ
-firstSix t = pick (ltb (length t) 4) (replicate 6 0) (take 4 t ++ hexDigits ((length t - 4) % 256))

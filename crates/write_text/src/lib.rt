@@ -1,13 +1,11 @@
 // Text put down in C40 (document 01, C40 and Layout) for the writer, which has judged its characters: none is judged again.
 ghost use mathlib.Core.Path.{_≡_};
 ghost use Prim.Native.Nat.{_+_, _<_, _≤_};
-ghost use mathlib.Core.List.{[], _∷_};
-ghost use lib.ListN.{length, getD};
+ghost use lib.ListN.{length};
 ghost use Rattle.format.specs.BigEndian.{be};
 ghost use Rattle.format.specs.Buffer.{over};
 ghost use Rattle.octets.specs.Copy.{copied, reached};
-ghost use Rattle.grammar.specs.Publish.{carried as carriedIn};
-ghost use Rattle.write_text.specs.Coded.{coded, firstSix};
+ghost use Rattle.write_text.specs.Coded.{coded};
 use octets::low;
 use pairs::number_of;
 use pairs::number_of_one;
@@ -69,40 +67,4 @@ pub fn put_text(text: &[u8], out: &mut [u8], at: usize) -> usize
         return at;
     }
     put_pairs(text, out, at)
-}
-
-// A filler is carried as a space.
-fn carried(c: u8) -> u8
-    ensures { λ r. ⌜ r ≡ carriedIn c ⌝ }
-{
-    if c == b'<' {
-        return b' ';
-    }
-    c
-}
-
-// The country's three characters as they are carried.
-pub fn country(code: [u8; 3]) -> [u8; 3]
-    ensures { λ r. ⌜ r ≡ carriedIn (getD code 0 0) ∷ carriedIn (getD code 1 0) ∷ carriedIn (getD code 2 0) ∷ [] ⌝ }
-{
-    [carried(code[0]), carried(code[1]), carried(code[2])]
-}
-
-// The six characters that fill version 4's first two pairs: the signer, and the reference's length in two hexadecimal
-// digits; all 0 where the text is shorter than a signer.
-pub fn first_six(text: &[u8]) -> [u8; 6]
-    ensures { λ r. ⌜ r ≡ firstSix (now (text .entry)) ⌝ }
-{
-    let n = text.len();
-    if n < 4 {
-        return [0; 6];
-    }
-    [
-        text[0],
-        text[1],
-        text[2],
-        text[3],
-        octets::hex_digit((n - 4) >> 4),
-        octets::hex_digit(n - 4),
-    ]
 }

@@ -1,7 +1,7 @@
--- Laws of the parts put down: names, a date, a length, a feature, the features of the rows.
+-- Laws of the parts put down: a date, a length, a feature, the features of the rows.
 -- Assumes nothing.
 use mathlib.Core.Path.{_≡_, refl, ap, sym, subst, _∙_}
-use Prim.Native.Nat.{ℕ, _+_, _-_, _/_, _%_, _<_, _≤_}
+use Prim.Native.Nat.{ℕ, _+_, _/_, _%_, _<_, _≤_}
 use native.Mathlib.Omega.{arith}
 use mathlib.Core.List.{List, [], _∷_, _++_, map, append-assoc, append-nil}
 use lib.ListN.{length, take, drop, set, length-append, length-drop, length-set}
@@ -10,40 +10,30 @@ use Rattle.format.specs.Bytes.{All}
 use Rattle.format.specs.BigEndian.{be}
 use Rattle.format.specs.Buffer.{over}
 use Rattle.format.specs.Buffer.Laws.{over-none, length-over, over-over, set-over, over-two, over-three}
-use Rattle.c40.specs.Text.{Text, publish as c40}
 use Rattle.dates.specs.Days.{numberOf, publish as date}
 use Rattle.dates.specs.declared.Date.{Date}
-use Rattle.grammar.specs.Content.{Version, four}
+use Rattle.grammar.specs.Content.{Version}
 use Rattle.grammar.specs.Legal.{ValueSize}
-use Rattle.grammar.specs.Publish.{names, lengthOf, feature, messageZone}
-use Rattle.grammar.specs.Parts.{Names, six, six-text, four-form, reference-text}
+use Rattle.grammar.specs.Publish.{lengthOf, feature, messageZone}
 use Rattle.verdict.specs.Report.{featureOf}
 use Rattle.rows.specs.declared.Row.{Row}
 use Rattle.rows.specs.Rows.{width, rowAt, rowsOf}
 use Rattle.rows.specs.Rows.Laws.{rows-here, rows-end}
-use Rattle.octets.specs.Copy.{copied, reached}
-use Rattle.write_text.specs.Coded.{coded, firstSix}
-use Rattle.write_text.specs.Coded.Laws.{text-put, six-spelled}
-use Rattle.write_judge.specs.Needs.{Room, Named, Measured, Fits, Fitting}
-use Rattle.write_given.specs.Tests.Laws.{size-four}
+use Rattle.write_judge.specs.Needs.{Room, Measured, Fits, Fitting}
 use Rattle.write_judge.specs.Size.{zone-none, zone-cons}
-use Rattle.write_judge.specs.Needs.Laws.{named-legal}
 
 -- three bytes of a date, each the last of a quotient of its number
 pub put-date :
-    (d : Date) (n x y z : ℕ) (out : List ℕ) (at : ℕ) →
-    n ≡ numberOf d →
-    x ≡ n / 65536 % 256 →
-    y ≡ n / 256 % 256 →
-    z ≡ n % 256 →
+    (d : Date) (x y z : ℕ) (out : List ℕ) (at : ℕ) →
+    x ≡ numberOf d / 65536 % 256 →
+    y ≡ numberOf d / 256 % 256 →
+    z ≡ numberOf d % 256 →
     at + 3 ≤ length out →
     set (set (set out at x) (at + 1) y) (at + 2) z ≡ over out at (date d)
 unfolding date be
-put-date d n x y z out at e high middle low room =
-    let twice : n / 65536 ≡ n / 256 / 256 = omega arith in
-    over-three out at x y z room
-    ∙ (λ i. over out at ((high ∙ ap (λ k. k % 256) twice) i ∷ middle i ∷ low i ∷ []))
-    ∙ ap (λ m. over out at ((m / 256 / 256 % 256) ∷ (m / 256 % 256) ∷ (m % 256) ∷ [])) e
+put-date d x y z out at high middle low room =
+    let twice : numberOf d / 65536 ≡ numberOf d / 256 / 256 = omega arith in
+    over-three out at x y z room ∙ (λ i. over out at ((high ∙ ap (λ k. k % 256) twice) i ∷ middle i ∷ low i ∷ []))
 
 -- one, two or three stores of a form
 pub put-one :
@@ -108,68 +98,6 @@ module _ (v : Version) (tag : ℕ) (value out : List ℕ) (at : ℕ) (room : Roo
               ∙ ap (λ k. over (over out at (tag ∷ form)) k value) sum
               ∙ over-over out at (tag ∷ form) value (omega arith),
         )
-
--- version 4's names put down: the six characters, then the reference
-module _ (v : Version) (t out : List ℕ) (at : ℕ) (n : Named v t) (other : v ≡ four)
-    (room : Room out at (names v (take 4 t) (drop 4 t))) where
-  four-size : (5 ≤ length t) × (length t ≤ 259)
-  four-size = size-four v (length t) other (n .size)
-
-  abbrev codes : List ℕ
-  codes = firstSix t
-
-  abbrev given : List ℕ × List ℕ
-  given = (take 4 t, drop 4 t)
-
-  legal : Names four given
-  legal = subst (λ w. Names w given) other (named-legal v t n)
-
-  six-is : codes ≡ six given
-  six-is = six-spelled t (omega (arith, four-size .0)) (four-size .1)
-
-  -- the six characters fill two pairs
-  both-parts : names v (take 4 t) (drop 4 t) ≡ c40 codes ++ c40 (drop 4 t)
-  both-parts =
-      ap (λ w. names w (take 4 t) (drop 4 t)) other ∙ four-form given legal ∙ ap (λ l. c40 l ++ c40 (drop 4 t)) (sym six-is)
-
-  length-both : length (names v (take 4 t) (drop 4 t)) ≡ length (c40 codes) + length (c40 (drop 4 t))
-  length-both = ap length both-parts ∙ length-append (c40 codes) (c40 (drop 4 t))
-
-  six-text-put : (next : ℕ) (out1 : List ℕ) →
-      next ≡ reached (coded codes) (length out) at →
-      out1 ≡ copied (coded codes) out at →
-      (next ≡ at + length (c40 codes)) × (out1 ≡ over out at (c40 codes))
-  six-text-put next out1 =
-      text-put codes out at next out1
-      (subst Text (sym six-is) (six-text given legal .1))
-      (omega (arith, length-both, room))
-
-  pub names-put :
-      (next : ℕ) (out1 : List ℕ) →
-      next ≡ reached (coded (firstSix t)) (length out) at →
-      out1 ≡ copied (coded (firstSix t)) out at →
-      (left : List ℕ) →
-      left ≡ drop 4 t →
-      (to : ℕ) (after : List ℕ) →
-      to ≡ reached (coded left) (length out1) next →
-      after ≡ copied (coded left) out1 next →
-      (to ≡ at + length (names v (take 4 t) (drop 4 t))) × (after ≡ over out at (names v (take 4 t) (drop 4 t)))
-  names-put next out1 en eo left is-left to after et ea =
-      let l = c40 (drop 4 t) in
-      let six = six-text-put next out1 en eo in
-      let same : length out1 ≡ length out = ap length (six .1) ∙ length-over out at (c40 codes) (omega (arith, length-both, room)) in
-      let long = ap (λ x. length (c40 x)) is-left in
-      let last =
-      text-put left out1 next to after (subst Text (sym is-left) (reference-text (drop 4 t) (legal .reference)))
-      (omega (arith, long, length-both, room, six .0, same)) et ea in (
-        omega (arith, last .0, long, length-both, six .0),
-        last .1
-            ∙ ap (λ x. over out1 next (c40 x)) is-left
-            ∙ ap (λ o. over o next l) (six .1)
-            ∙ ap (λ k. over (over out at (c40 codes)) k l) (six .0)
-            ∙ over-over out at (c40 codes) l (omega (arith, length-both, room))
-            ∙ ap (over out at) (sym both-parts),
-      )
 
 -- how far the features are put down
 pub record Putting (version : Version) (values t out₀ : List ℕ) (start : ℕ) (out : List ℕ) (at row : ℕ) : Type 0 where

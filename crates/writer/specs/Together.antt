@@ -12,13 +12,12 @@ use Rattle.format.specs.Bytes.{All}
 use Rattle.format.specs.Choice.{both}
 use Rattle.format.specs.Buffer.{over}
 use Rattle.format.specs.Buffer.Laws.{length-over, over-over, over-two, Held, held-more}
-use Rattle.octets.specs.Copy.{copied, reached}
-use Rattle.c40.specs.Text.{Text, publish as c40}
+use Rattle.c40.specs.Text.{publish as c40}
+use Rattle.c40.specs.Text.Laws.{length-publish}
 use Rattle.dates.specs.Days.{isDay, publish as date}
 use Rattle.dates.specs.Days.Laws.{length-publish as length-date}
 use Rattle.grammar.specs.Content.{Version, four}
 use Rattle.versions.specs.Versions.{versionByte}
-use Rattle.grammar.specs.Parts.{country-text}
 use Rattle.grammar.specs.Publish.{carried, names, feature, messageZone, publish}
 use Rattle.format.specs.Choice.Laws.{both-true, within-both}
 use Rattle.verdict.specs.Report.{featureOf}
@@ -31,59 +30,45 @@ use Rattle.fields.specs.declared.Header.{Header}
 use Rattle.write_rows.specs.Tests.Laws.{sized-head}
 use Rattle.write_rows.specs.Tests.{areSized}
 use Rattle.write_given.specs.Given.{threeOf, Given, contentAs}
-use Rattle.write_judge.specs.Needs.{Room, Fitting, Headed, Dated, front, rest, Passed}
-use Rattle.writer.specs.Legal.Names.{country-legal}
-use Rattle.write_text.specs.Coded.{coded}
-use Rattle.write_text.specs.Coded.Laws.{text-put}
+use Rattle.write_judge.specs.Needs.{Room, Fitting, Dated, front, rest, Passed}
 use Rattle.write_size.specs.SealSize.{rowsSize}
-use Rattle.write_judge.specs.Size.{headed-country, length-rest, Inside, inside, seal-parts, length-seal}
+use Rattle.write_judge.specs.Size.{length-rest, Inside, inside, seal-parts, length-seal}
 
 -- the front put down
-module _ (v : Version) (h : Header) (t out : List ℕ) (d : Headed v h t) (room : Room out 0 (front v h t)) (b : ℕ)
-    (is-byte : b ≡ versionByte v) where
-  front-text : Text (map carried (threeOf (h .country)))
-  front-text =
-      let code = threeOf (h .country) in country-text code (country-legal code refl (headed-country v h t d)) .1
+module _ (v : Version) (h : Header) (t out : List ℕ) (room : Room out 0 (front v h t)) (b : ℕ) (is-byte : b ≡ versionByte v) where
+  abbrev code : List ℕ
+  code = c40 (map carried (threeOf (h .country)))
 
-  front-room : (code : List ℕ) → map carried (threeOf (h .country)) ≡ code → Room (set (set out 0 0xDC) 1 b) 2 (c40 code)
-  front-room code e =
-      let n = names v (take 4 t) (drop 4 t) in
+  code-two : length code ≡ 2
+  code-two = length-publish (map carried (threeOf (h .country)))
+
+  pub front-room : 4 ≤ length (set (set out 0 0xDC) 1 b)
+  front-room =
       omega (
         arith,
-        length-append (c40 (map carried (threeOf (h .country)))) n,
-        ap (λ l. length (c40 l)) e,
+        length-append code (names v (take 4 t) (drop 4 t)),
+        code-two,
         length-set (set out 0 0xDC) 1 b,
         length-set out 0 0xDC,
       )
 
-  module _ (code out1 : List ℕ) (at1 : ℕ) (e : map carried (threeOf (h .country)) ≡ code)
-      (to : at1 ≡ reached (coded code) (length (set (set out 0 0xDC) 1 b)) 2)
-      (put : out1 ≡ copied (coded code) (set (set out 0 0xDC) 1 b) 2) where
-    placed : (at1 ≡ 2 + length (c40 code)) × (out1 ≡ over (set (set out 0 0xDC) 1 b) 2 (c40 code))
-    placed = text-put code (set (set out 0 0xDC) 1 b) 2 at1 out1 (subst Text e front-text) (front-room code e) to put
-
+  module _ (out1 : List ℕ) (at1 : ℕ) (to : at1 ≡ 4)
+      (put : out1 ≡ over (set (set out 0 0xDC) 1 b) 2 (c40 (map carried (threeOf (h .country))))) where
     first : Held out (set (set out 0 0xDC) 1 b) 2 (0xDC ∷ b ∷ [])
     first = record {
       many = refl;
-      is = over-two out 0 0xDC b (omega (arith, length-append (c40 (map carried (threeOf (h .country)))) (names v (take 4 t) (drop 4 t))));
+      is = over-two out 0 0xDC b (omega (arith, length-append code (names v (take 4 t) (drop 4 t))));
     }
 
     sum : length (front v h t) ≡ at1 + length (names v (take 4 t) (drop 4 t))
-    sum =
-        omega (
-          arith,
-          length-append (c40 (map carried (threeOf (h .country)))) (names v (take 4 t) (drop 4 t)),
-          ap (λ l. length (c40 l)) e,
-          placed .0,
-        )
+    sum = omega (arith, length-append code (names v (take 4 t) (drop 4 t)), code-two)
 
-    second : Held out out1 at1 (0xDC ∷ b ∷ c40 code)
+    second : Held out out1 at1 (0xDC ∷ b ∷ code)
     second =
-        held-more out (set (set out 0 0xDC) 1 b) 2 (0xDC ∷ b ∷ []) first (c40 code) out1 at1 (placed .1) (sym (placed .0))
-        (omega (arith, sum))
+        held-more out (set (set out 0 0xDC) 1 b) 2 (0xDC ∷ b ∷ []) first code out1 at1 put (omega (arith, code-two)) (omega (arith, sum))
 
     pub names-room : Room out1 at1 (names v (take 4 t) (drop 4 t))
-    names-room = omega (arith, sum, ap length (second .is) ∙ length-over out 0 (0xDC ∷ b ∷ c40 code) (omega (arith, second .many, sum)))
+    names-room = omega (arith, sum, ap length (second .is) ∙ length-over out 0 (0xDC ∷ b ∷ code) (omega (arith, second .many, sum)))
 
     pub put-front :
         (out2 : List ℕ) (at2 : ℕ) →
@@ -92,11 +77,9 @@ module _ (v : Version) (h : Header) (t out : List ℕ) (d : Headed v h t) (room 
         (at2 ≡ length (front v h t)) × (out2 ≡ over out 0 (front v h t))
     put-front out2 at2 e2 o2 =
         let n = names v (take 4 t) (drop 4 t) in
-        let third = held-more out out1 at1 (0xDC ∷ b ∷ c40 code) second n out2 at2 o2 (sym e2) (omega (arith, sum)) in (
+        let third = held-more out out1 at1 (0xDC ∷ b ∷ code) second n out2 at2 o2 (sym e2) (omega (arith, sum)) in (
           omega (arith, sum),
-          third .is
-              ∙ ap (λ x. over out 0 (0xDC ∷ x ∷ (c40 code ++ n))) is-byte
-              ∙ ap (λ l. over out 0 (0xDC ∷ versionByte v ∷ (c40 l ++ n))) (sym e),
+          third .is ∙ ap (λ x. over out 0 (0xDC ∷ x ∷ (code ++ n))) is-byte,
         )
 
 -- a part after a part

@@ -10,9 +10,9 @@ ghost use Rattle.rows.specs.Rows.{rowsOf};
 ghost use Rattle.verdict.specs.Report.{featureOf};
 ghost use Rattle.write_given.specs.Given.{given, contentAs};
 ghost use Rattle.write_judge.specs.Needs.{Room, Measured, Fitting, Headed, Dated, front, rest, Passed};
+use crate::names::put_country;
 use crate::names::put_names;
 use dates::Date;
-use dates::Numbered;
 use der::Form;
 use fields::Header;
 use octets::low;
@@ -20,18 +20,14 @@ use rows::Found;
 use rows::WIDTH;
 use rows::row_at;
 use versions::Version;
-use write_text::country;
-use write_text::put_text;
 
-// Puts down a date.
+// Puts down a date, which was judged to be a day: its number MMDDYYYY.
 pub(crate) fn put_date(date: Date, out: &mut [u8], at: usize) -> usize
     requires { ⌜ Day date × Room (now out) at (dateIn date) ⌝ }
     ensures place { λ r. ⌜ r ≡ at + 3 ⌝ }
     ensures buffer { λ r. ⌜ now (out .exit) ≡ over (now (out .entry)) at (dateIn date) ⌝ }
 {
-    let Numbered::Number(number) = date.number() else {
-        return at + 3;
-    };
+    let number = date.month * 1000000 + date.day * 10000 + date.year;
     out[at] = low(number >> 16);
     out[at + 1] = low(number >> 8);
     out[at + 2] = low(number);
@@ -46,9 +42,8 @@ pub(crate) fn put_front(version: Version, header: Header, text: &[u8], out: &mut
 {
     out[0] = 0xDC;
     out[1] = version.byte();
-    let letters = header.country;
-    let code = country(letters);
-    let at = put_text(&code, out, 2);
+    let code = header.country;
+    let at = put_country(code, out, 2);
     put_names(version, text, out, at)
 }
 
@@ -96,19 +91,14 @@ pub(crate) fn put_length(version: Version, size: usize, out: &mut [u8], at: usiz
     }
 }
 
-// Puts down the bytes of a value, each touched once; there is room for them, so none is tested for.
+// Puts down the bytes of a value from a place on and answers the place reached.
 pub(crate) fn put_value(value: &[u8], out: &mut [u8], at: usize) -> usize
     requires { ⌜ Room (now out) at (now value) ⌝ }
     ensures place { λ r. ⌜ r ≡ at + length (now (value .entry)) ⌝ }
     ensures buffer { λ r. ⌜ now (out .exit) ≡ over (now (out .entry)) at (now (value .entry)) ⌝ }
 {
-    let n = value.len();
-    let mut i: usize = 0;
-    while i < n {
-        out[at + i] = value[i];
-        i += 1;
-    }
-    at + n
+    blocks::copy_lent(value, &mut out[at..]);
+    at + value.len()
 }
 
 // Puts down a feature; the signature is put down as one too, after its mark FF and with a DER length.

@@ -5,12 +5,13 @@ use Prim.Native.Nat.{ℕ, zero, suc, _+_, _-_, _*_, _/_, _%_, _^_, _<_, _≤_}
 use native.Mathlib.Omega.{arith}
 use native.Mathlib.Nat.{pow-suc, pow-le-pow-right, mul-le-mul-right, mul-assoc, div-div-eq-div-mul}
 use native.Mathlib.Numerals.{add-one}
-use mathlib.Core.List.{List, [], _∷_}
+use mathlib.Core.List.{List, [], _∷_, _++_}
 use lib.Dec.{lit≤}
-use lib.ListN.{length, getD}
+use lib.ListN.{length, getD, length-append}
+use lib.Seq.{getD-append-add}
 use Rattle.format.specs.Bytes.{Bytes}
 use Rattle.format.specs.BigEndian.{be, val}
-use Rattle.format.specs.BigEndian.Laws.{val-below, val-more}
+use Rattle.format.specs.BigEndian.Laws.{val-below, val-append, val-more}
 
 -- the first byte of a number, and the rest
 pub val-cons : (x : ℕ) (s : List ℕ) (k : ℕ) → val (x ∷ s) (suc k) ≡ x * 256 ^ k + val s k
@@ -55,17 +56,26 @@ high-small (x ∷ s) b h l =
     subst (λ n. n < 2 ^ 63) (sym (ap₂ (λ p v. p - suc v) (pow-suc 256 (length s)) (val-cons x s (length s))))
     (half-high x (val s (length s)) (256 ^ length s) l (val-below (length s) s (λ i. b (suc i))) (few (length s) (omega arith)))
 
--- how far below the next power a number lies, a byte more
-pub flip-more :
-    (s : List ℕ) (i value x : ℕ) →
-    x ≡ getD s i 0 →
-    x < 256 →
-    suc (value + val s i) ≡ 256 ^ i →
-    suc (value * 256 + (255 - x) + val s (i + 1)) ≡ 256 ^ (i + 1)
-flip-more s i value x e h f =
-    let more = val-more s i in
-    let next : 256 ^ (i + 1) ≡ 256 ^ i * 256 = ap (λ n. 256 ^ n) (add-one i) ∙ pow-suc 256 i in
-    omega arith
+-- a byte behind: the number it makes, and how far that lies below the next power
+module _ (s : List ℕ) (x : ℕ) where
+  pub val-end : val (s ++ (x ∷ [])) (length (s ++ (x ∷ []))) ≡ val s (length s) * 256 + x
+  val-end =
+      let t = s ++ (x ∷ []) in
+      let last : length s ≡ length s + 0 = omega arith in
+      ap (val t) (length-append s (x ∷ []))
+      ∙ val-more t (length s)
+      ∙ ap₂ (λ a b. a * 256 + b) (val-append (length s) s (x ∷ []) (omega arith))
+      (ap (λ k. getD t k 0) last ∙ getD-append-add s (x ∷ []) 0 0)
+
+  pub val-end-high :
+      Bytes s →
+      x < 256 →
+      256 ^ length (s ++ (x ∷ [])) - suc (val (s ++ (x ∷ [])) (length (s ++ (x ∷ []))))
+      ≡ (256 ^ length s - suc (val s (length s))) * 256 + (255 - x)
+  val-end-high b h =
+      let next : 256 ^ length (s ++ (x ∷ [])) ≡ 256 ^ length s * 256 =
+      ap (λ n. 256 ^ n) (length-append s (x ∷ []) ∙ add-one (length s)) ∙ pow-suc 256 (length s) in
+      omega (arith, val-end, val-below (length s) s b)
 
 -- a number in eight bytes, one by one
 pub be-eight :

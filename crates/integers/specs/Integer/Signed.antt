@@ -106,9 +106,6 @@ other n = pos 0 -ℤ toZ w64 n
 abbrev pub under : ℕ → ℤ
 under n = toZ w64 (ofZ w64 (other n)) -ℤ pos 1
 
-pub pos-fits : (n : ℕ) → n < 2 ^ 63 → SFits w64 (pos n)
-pos-fits n h = record { sfits = h }
-
 neg-fits : (n : ℕ) → n < 2 ^ 63 → SFits w64 (negℤ (pos n))
 neg-fits zero h = record { sfits = h }
 neg-fits (suc n) h = record { sfits = omega arith }
@@ -129,6 +126,3 @@ module _ (n : ℕ) (h : n < 2 ^ 63) where
 
   pub under-fits : SFits w64 (under n)
   under-fits = subst (SFits w64) (sym under-is) (record { sfits = h })
-
-  pub under-back : toZ w64 (ofZ w64 (under n)) ≡ negsuc n
-  under-back = toZ-ofZ under-fits ∙ under-is

@@ -2,13 +2,13 @@
 -- Assumes nothing.
 use mathlib.Core.Path.{_≡_, refl, ap, sym, subst, _∙_}
 use mathlib.Core.Bool.{true}
-use Prim.Native.Nat.{ℕ, zero, suc, _-_, _^_, _<_, _≤_}
+use Prim.Native.Nat.{ℕ, zero, suc, _+_, _*_, _-_, _^_, _<_, _≤_}
 use native.Mathlib.Omega.{arith}
 use borrow.Author.Tests.{ltb-true, ltb-false, lt-ltb, le-ltb}
-use mathlib.Core.List.{List, [], _∷_}
+use mathlib.Core.List.{List, [], _∷_, _++_}
 use lib.Dec.{ltb}
-use lib.IntN.{ℤ, pos, negsuc}
-use lib.ListN.{length, getD}
+use lib.IntN.{ℤ, pos, negsuc, negℤ, _+ℤ_, _*ℤ_}
+use lib.ListN.{length, getD, List·getD-append}
 use lib.Seq.{take-all}
 use mir.Syntax.{w64}
 use mir.Val.{SFits}
@@ -21,7 +21,7 @@ use Rattle.integers.specs.Integer.{word, valueOf}
 use Rattle.der.specs.Content.Laws.{strict-shortest}
 use Rattle.integers.specs.Integer.Laws.{sign, sign-low, sign-high, redundant-is, by-shortest, strict-some, extended, one-extended}
 use Rattle.integers.specs.Integer.Laws.{length-extended, shortest-extended, bytes-extended}
-use Rattle.integers.specs.Integer.FirstByte.{val-cons, val-low, val-high, low-small, high-small}
+use Rattle.integers.specs.Integer.FirstByte.{val-cons, val-low, val-high, low-small, high-small, val-end, val-end-high}
 
 module _ (s : List ℕ) where
   pub value-low : getD s 0 0 < 0x80 → valueOf s ≡ pos (val s (length s))
@@ -46,6 +46,31 @@ pub value-shortest : (s : List ℕ) → valueOf (shortest s) ≡ valueOf s
 value-shortest =
     by-shortest (λ s t. valueOf t ≡ valueOf s) refl (λ s e. refl)
     (λ x y s t e ih. ih ∙ sym (ap (λ z. valueOf (z ∷ y ∷ s)) (redundant-is x y e) ∙ value-sign (y ∷ s)))
+
+-- a byte behind makes the number 256 times as large, and adds itself
+neg-end : (n x : ℕ) → x < 256 → negsuc n *ℤ pos 256 +ℤ pos x ≡ negsuc (n * 256 + (255 - x))
+neg-end n x h =
+    let more : suc n * 256 ≡ suc (n * 256 + 255) = omega arith in
+    let less : suc (n * 256 + 255) - suc x ≡ n * 256 + (255 - x) = omega arith in
+    ap (λ m. negℤ (pos m) +ℤ pos x) more ∙ simp (lt-ltb x (suc (n * 256 + 255)) (omega arith)) (ap negsuc less)
+
+pub value-end :
+    (s : List ℕ) →
+    Bytes s →
+    0 < length s →
+    (x : ℕ) →
+    x < 256 →
+    valueOf (s ++ (x ∷ [])) ≡ valueOf s *ℤ pos 256 +ℤ pos x
+value-end s b some x small =
+    let t = s ++ (x ∷ []) in
+    let first : getD t 0 0 ≡ getD s 0 0 = List·getD-append s (x ∷ []) 0 0 some in
+    by-test (ltb (getD s 0 0) 0x80)
+    (λ e. let h = ltb-true (getD s 0 0) 0x80 e in
+    value-low t (omega arith) ∙ ap pos (val-end s x) ∙ sym (ap (λ v. v *ℤ pos 256 +ℤ pos x) (value-low s h)))
+    (λ e. let h = ltb-false (getD s 0 0) 0x80 e in
+    value-high t (omega arith)
+    ∙ ap negsuc (val-end-high s x b small)
+    ∙ sym (ap (λ v. v *ℤ pos 256 +ℤ pos x) (value-high s h) ∙ neg-end (256 ^ length s - suc (val s (length s))) x small))
 
 -- what 1 to 8 bytes carry is of 64 bits
 pub value-fits : (s : List ℕ) → Bytes s → length s ≤ 8 → SFits w64 (valueOf s)

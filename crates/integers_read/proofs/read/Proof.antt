@@ -1,71 +1,93 @@
--- `integers_read::read` meets its contract, by the element at the head.
+-- `integers_read::read` meets its contract: what is taken is 02, the size in one byte, and 1 to 8 bytes of content.
 -- Assumes nothing.
 use native.Mathlib.Omega.{arith}
-use mathlib.Core.Path.{_≡_, _∙_, sym}
+use mathlib.Core.Path.{_∙_, ap, sym}
+use mathlib.Core.List.{List}
+use Prim.Native.Nat.{ℕ, _-_}
 use denote.Ref.{now}
-use Rattle.der.specs.Element.{elementIn}
-use Rattle.der.specs.declared.Element.the-variants.{Body}
-use Rattle.der.specs.Element.Exact.{Found, element-whole}
-use Rattle.integers.specs.Calls.Laws.{reading-none, reading-more, reading-all}
+use lib.ListN.{length, getD, drop, length-drop}
+use lib.Seq.{take-all}
+use Rattle.format.specs.Bytes.{Bytes}
+use Rattle.integers.specs.Calls.{content}
+use Rattle.integers.specs.Exact.{small-reads, not-small}
 use borrow.Author.Needs.{needs}
 use Rattle.integers_read.proofs.read.Statement.{statement}
 use Rattle.integers_read.proofs.read.Tie as tie
 
-is-body :
-    (c : tie.After-found) →
-    elementIn 0x02 (now (c .before .before .before .before .args .s)) ≡ Body (c .found .given .0 .0) (c .found .given .0 .1 .0)
-is-body c = sym (c .before .before .element-of .ensures) ∙ c .found .given .1
+-- the bytes of the entry
+abbrev string : tie.After-shared-slice-known → List ℕ
+string c = now (c .before .args .s)
 
-whole :
-    (c : tie.After-found) →
-    Found 0x02 (now (c .before .before .before .before .args .s)) (c .found .given .0 .0) (c .found .given .0 .1 .0)
-whole c = element-whole 0x02 _ (λ i. c .before .before .before .shared-slice-known .given i .fits) _ _ (is-body c)
+bytes : (c : tie.After-shared-slice-known) → Bytes (string c)
+bytes c i = c .shared-slice-known .given i .fits
 
-element-of-requires : tie.Need-element-of-requires
-element-of-requires c κs = search needs
+-- the entry, from past the tag and from where the size is read
+abbrev past-tag : tie.Else3 → tie.After-shared-slice-known
+past-tag c = c .before .before .before .before
 
-enum-known-found : tie.Need-enum-known-found
-enum-known-found c = search needs
-
-enum-told : tie.Need-enum-told
-enum-told c = search needs
+abbrev at-size : tie.After-wide → tie.After-shared-slice-known
+at-size c = past-tag (c .before .before)
 
 returns : tie.Need-returns
-returns c =
-    let o = c .before .before in
-    sym (reading-none _ (sym (o .element-of .ensures) ∙ c .enum-told .given .1))
+returns c = sym (not-small _ (bytes (c .before)) (λ z some few e. omega (arith, ap length e)))
 
 returns-2 : tie.Need-returns-2
-returns-2 c = sym (reading-more _ _ _ (is-body (c .before .before)) (λ h. omega (arith, c .if1 .taken)))
+returns-2 c = sym (not-small _ (bytes (c .before .before)) (λ z some few e. omega (arith, ap length e)))
+
+shared-slice-read-if3 : tie.Need-shared-slice-read-if3
+shared-slice-read-if3 c = search needs
+
+returns-3 : tie.Need-returns-3
+returns-3 c = sym (not-small _ (bytes (c .before .before .before .before)) (λ z some few e. c .if3 .taken (ap (λ t. getD t 0 0) e)))
+
+shared-slice-read-wide : tie.Need-shared-slice-read-wide
+shared-slice-read-wide c = search needs
+
+wide-requires : tie.Need-wide-requires
+wide-requires c κs = search needs
+
+sub-if4 : tie.Need-sub-if4
+sub-if4 c = search needs
+
+returns-4 : tie.Need-returns-4
+returns-4 c =
+    let o = c .before in
+    sym (not-small _ (bytes (at-size o)) (λ z some few e. omega (arith, o .wide .ensures, ap length e, ap (λ t. getD t 1 0) e)))
 
 sub-value-of : tie.Need-sub-value-of
-sub-value-of c = whole (c .before .before) .order
+sub-value-of c = search needs
 
 part-value-of-start : tie.Need-part-value-of-start
-part-value-of-start c = whole (c .before .before) .order
+part-value-of-start c = search needs
 
 part-value-of-end : tie.Need-part-value-of-end
-part-value-of-end c = whole (c .before .before) .inside
+part-value-of-end c = search needs
 
 value-of-requires : tie.Need-value-of-requires
 value-of-requires c κs = search needs
 
-returns-3 : tie.Need-returns-3
-returns-3 c =
-    let o = c .before .before in
-    c .value-of .ensures ∙ sym (reading-all _ _ _ (is-body (o .before .before)) (omega arith))
+returns-5 : tie.Need-returns-5
+returns-5 c =
+    let o = c .before .before .before in
+    let s = string (at-size o) in
+    c .value-of .ensures
+    ∙ ap content (take-all (length s - 2) (drop 2 s) (omega (arith, length-drop 2 s)))
+    ∙ sym (small-reads s (omega arith) (omega arith) (omega arith) (omega (arith, o .wide .ensures)))
 
 pub read-spec : {M : Type 1} → statement M
 read-spec =
     tie.close
     (tie.spec
-    element-of-requires
-    enum-known-found
-    enum-told
     returns
     returns-2
+    shared-slice-read-if3
+    returns-3
+    shared-slice-read-wide
+    wide-requires
+    sub-if4
+    returns-4
     sub-value-of
     part-value-of-start
     part-value-of-end
     value-of-requires
-    returns-3)
+    returns-5)

@@ -1,16 +1,15 @@
 -- Laws of the C40 bytes: of text they are its published form; their number; and how far they are put down.
 -- Assumes nothing.
 use mathlib.Core.Path.{_≡_, refl, ap, sym, _∙_}
-use Prim.Native.Nat.{ℕ, _+_, _-_, _/_, _%_, _<_, _≤_}
+use Prim.Native.Nat.{ℕ, _+_, _/_, _%_, _<_, _≤_}
 use native.Mathlib.Omega.{arith}
 use mathlib.Core.List.{List, [], _∷_, _++_, append-assoc, append-nil}
-use borrow.Author.Tests.{lt-ltb, le-ltb}
-use lib.ListN.{length, getD, take, drop, replicate, length-append, length-drop}
+use lib.ListN.{length, getD, drop, length-append, length-drop}
 use Rattle.format.specs.BigEndian.{be}
 use Rattle.format.specs.BigEndian.Laws.{length-be, be-two}
 use Rattle.format.specs.Buffer.{over}
 use Rattle.format.specs.Buffer.Laws.{over-none, length-over, over-over}
-use Rattle.format.specs.Places.{at-place, past-end, first-four}
+use Rattle.format.specs.Places.{at-place, past-end}
 use Rattle.octets.specs.Copy.{copied, reached}
 use Rattle.octets.specs.Copy.Laws.{copied-all, reached-all}
 use Rattle.pairs.specs.Chart.{valueOf}
@@ -18,9 +17,7 @@ use Rattle.pairs.specs.Chart.Laws.{char-below}
 use Rattle.pairs.specs.Pairs.{packedOf, triple, number}
 use Rattle.c40.specs.Text.{Text, publish, width}
 use Rattle.c40.specs.Text.Laws.{publish-none, publish-one, publish-two, publish-three}
-use Rattle.format.specs.Hex.{hexDigit}
-use Rattle.grammar.specs.Publish.{hexDigits}
-use Rattle.write_text.specs.Coded.{coded, firstSix}
+use Rattle.write_text.specs.Coded.{coded}
 
 one-form : (a : ℕ) → a < 255 → be 2 (number 0xFE (a + 1)) ≡ 0xFE ∷ (a + 1) ∷ []
 one-form a h =
@@ -180,30 +177,3 @@ text-put t out at to after is-text room e o =
       e ∙ sym (reached-all (coded t) out at fits) ∙ ap (λ l. at + length l) same,
       o ∙ sym (copied-all (coded t) out at fits) ∙ ap (over out at) same,
     )
-
--- the first six characters, by the text's size
-module _ (t : List ℕ) where
-  six-of : 4 ≤ length t → firstSix t ≡ take 4 t ++ hexDigits ((length t - 4) % 256)
-  unfolding firstSix
-  six-of h = rw (le-ltb (length t) 4 h) refl
-
-  pub six-not : length t < 4 → replicate 6 0 ≡ firstSix t
-  unfolding firstSix
-  six-not h = rw (lt-ltb (length t) 4 h) refl
-
-  pub six-all :
-      4 ≤ length t →
-      getD t 0 0 ∷ getD t 1 0 ∷ getD t 2 0 ∷ getD t 3 0 ∷ hexDigit ((length t - 4) / 16 % 16) ∷ hexDigit ((length t - 4) % 16) ∷ []
-      ≡ firstSix t
-  six-all h =
-      let high : (length t - 4) / 16 % 16 ≡ (length t - 4) % 256 / 16 = omega arith in
-      let low : (length t - 4) % 16 ≡ (length t - 4) % 256 % 16 = omega arith in
-      ap (λ f. f ++ (hexDigit ((length t - 4) / 16 % 16) ∷ hexDigit ((length t - 4) % 16) ∷ [])) (first-four t h)
-      ∙ (λ i. take 4 t ++ (hexDigit (high i) ∷ hexDigit (low i) ∷ []))
-      ∙ sym (six-of h)
-
-  -- of a text that a header can have, they are the signer and the reference's length
-  pub six-spelled : 4 ≤ length t → length t ≤ 259 → firstSix t ≡ take 4 t ++ hexDigits (length (drop 4 t))
-  six-spelled h l =
-      let small : (length t - 4) % 256 ≡ length (drop 4 t) = omega (arith, length-drop 4 t) in
-      six-of h ∙ ap (λ n. take 4 t ++ hexDigits n) small

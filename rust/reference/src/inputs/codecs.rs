@@ -6,9 +6,14 @@ use crate::{c40, Date};
 
 const CHART: &[u8] = b" 0123456789ABCDEFGHIJKLMNOPQRSTUVWXYZ";
 
-/// A text of the chart; mostly short.
+/// A text of the chart; mostly short, at times the longest, at times about as long as those from which the library goes a
+/// way of its own, 384 characters or 256 bytes.
 fn text(random: &mut Random) -> Vec<u8> {
-    let count = if random.one_in(60) { random.pick(&[255, 6142, 6143, 6144]) } else { random.below(20) };
+    let count = match random.below(60) {
+        0 => random.pick(&[255, 6142, 6143, 6144]),
+        1..=4 => random.within(376, 398),
+        _ => random.below(20),
+    };
     random.text(count, CHART)
 }
 

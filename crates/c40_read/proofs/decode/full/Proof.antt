@@ -1,78 +1,76 @@
--- `decode::full` meets its contract: a pair that carries something and is not the last carries three characters,
--- so its number is in range.
+-- `decode::full` meets its contract. The loop's invariant: all pairs before the place are full.
 -- Assumes nothing.
 use borrow.Author.Needs.{needs}
+use borrow.Author.Tests.{not-true, not-false, eqb-true, eqb-false}
 use native.Mathlib.Omega.{arith}
-use mathlib.Core.Path.{_≡_, _∙_, refl, ap, sym}
-use mathlib.Core.Bool.{false}
-use Prim.Native.Nat.{ℕ, _+_, _*_, _-_, _<_, _≤_}
-use mathlib.Core.List.{List}
-use lib.ListN.{getD}
-use Rattle.pairs.specs.Chart.{theChart, char}
-use Rattle.pairs.specs.Pairs.{number, first, second, third, pairOf}
-use Rattle.pairs.specs.Pairs.Laws.{pair-full, chars-some}
-use Rattle.pairs.specs.declared.decode.Pair.the-variants.{Three}
+use mathlib.Core.Path.{_∙_, sym}
+use Prim.Native.Nat.{_-_, _≤_}
+use Rattle.c40_read.specs.Full.{FullTo}
+use Rattle.c40_read.specs.Full.Laws.{full-start, full-more}
 use Rattle.c40_read.proofs.decode.full.Statement.{statement}
 use Rattle.c40_read.proofs.decode.full.Tie as tie
 
--- the pair's number is in range, and the pair carries the characters of its three values
-in-range : (c : tie.Start)
-    → let n = number (c .args .x) (c .args .y) in
-    (0 < n) × (n ≤ 64000)
-    × (pairOf theChart false (c .args .x) (c .args .y) ≡ Three (char (first n)) (char (second n)) (char (third n)))
-in-range c = pair-full false _ _ refl (chars-some _ (omega arith))
+abbrev Inv-loop : tie.InvT-loop
+Inv-loop bytes last i₀ i = (i ≤ last) × FullTo bytes i
 
-wide-requires : tie.Need-wide-requires
-wide-requires c κs = search needs
+abbrev μ-loop : tie.MeasureT-loop
+μ-loop bytes last i₀ i = last - i
 
-mul-split : tie.Need-mul-split
-mul-split c = search needs
+-- the loop, from where its pair was told
+abbrev on-loop : tie.After-is-full Inv-loop μ-loop → tie.At-loop Inv-loop μ-loop
+on-loop c = c .before .before .before .before
 
-wide-requires-2 : tie.Need-wide-requires-2
-wide-requires-2 c κs = search needs
+loop-holds : tie.Need-loop-holds Inv-loop μ-loop
+loop-holds c = (omega arith, full-start _)
 
-add-split : tie.Need-add-split
-add-split c = search needs
+shared-slice-read-is-full : tie.Need-shared-slice-read-is-full Inv-loop μ-loop
+shared-slice-read-is-full c = omega arith
 
-sub-split : tie.Need-sub-split
-sub-split c = let h = in-range (c .before .before) in omega arith
+add-is-full : tie.Need-add-is-full Inv-loop μ-loop
+add-is-full c = omega arith
 
-split-requires : tie.Need-split-requires
-split-requires c κs = search needs
+shared-slice-read-is-full-2 : tie.Need-shared-slice-read-is-full-2 Inv-loop μ-loop
+shared-slice-read-is-full-2 c = omega arith
 
-element-copy-out-t15 : tie.Need-element-copy-out-t15
-element-copy-out-t15 c = let h = in-range (c .before .before .before) in omega arith
+is-full-requires : tie.Need-is-full-requires Inv-loop μ-loop
+is-full-requires c κs = search needs
 
-element-copy-out-t18 : tie.Need-element-copy-out-t18
-element-copy-out-t18 c = search needs
-
-element-copy-out-t21 : tie.Need-element-copy-out-t21
-element-copy-out-t21 c = search needs
-
-returns : tie.Need-returns
+returns : tie.Need-returns Inv-loop μ-loop
 returns c =
-    let on = c .before .before .before in
-    let start = on .before .before .before in
-    let v = on .split .result in
-    let s = on .split .ensures in
-    let low = in-range start .0 in
-    let less = on .before .before .wide .result * 256 + on .before .wide2 .result - 1 in
-    let e : less + 1 ≡ number (start .args .x) (start .args .y) = omega arith in
-    ap (λ (t : List ℕ). Three (getD t (v .a) 0) (getD t (v .b) 0) (getD t (v .c) 0)) (start .pre .0)
-    ∙ (λ i. Three (char ((s .0 ∙ ap first e) i)) (char ((s .1 .0 ∙ ap second e) i)) (char ((s .1 .1 ∙ ap third e) i)))
-    ∙ sym (in-range start .2)
+    let on = on-loop (c .before) in
+    record {
+      full = on .loop .inv .1;
+      inside = omega arith;
+      not-full = λ h. eqb-false _ 3 (sym (c .before .is-full .ensures) ∙ not-true _ (c .if1 .taken));
+    }
+
+add-i : tie.Need-add-i Inv-loop μ-loop
+add-i c = omega arith
+
+loop-less : tie.Need-loop-less Inv-loop μ-loop
+loop-less c = omega arith
+
+loop-again : tie.Need-loop-again Inv-loop μ-loop
+loop-again c =
+    let on = on-loop (c .before) in
+    (omega arith, full-more _ _ (on .loop .inv .1) (eqb-true _ 3 (sym (c .before .is-full .ensures) ∙ not-false _ (c .if1 .left))))
+
+returns-2 : tie.Need-returns-2 Inv-loop μ-loop
+returns-2 c = record { full = c .before .loop .inv .1; inside = omega arith; not-full = λ h. absurd (omega arith) }
 
 pub full-spec : {M : Type 1} → statement M
 full-spec =
     tie.close
     (tie.spec
-    wide-requires
-    mul-split
-    wide-requires-2
-    add-split
-    sub-split
-    split-requires
-    element-copy-out-t15
-    element-copy-out-t18
-    element-copy-out-t21
-    returns)
+    Inv-loop
+    μ-loop
+    loop-holds
+    shared-slice-read-is-full
+    add-is-full
+    shared-slice-read-is-full-2
+    is-full-requires
+    returns
+    add-i
+    loop-less
+    loop-again
+    returns-2)

@@ -28,11 +28,11 @@ start c = c .before .before .before
 abbrev bytes : tie.At-loop Inv-loop μ-loop → List ℕ
 bytes c = now (start c .args .bytes)
 
-abbrev from-full : tie.After-full Inv-loop μ-loop → tie.In-loop Inv-loop μ-loop
-from-full c = c .before .before .before
+abbrev from-three : tie.After-three Inv-loop μ-loop → tie.In-loop Inv-loop μ-loop
+from-three c = c .before .before .before
 
 abbrev from-put : tie.After-slice-known2 Inv-loop μ-loop → tie.In-loop Inv-loop μ-loop
-from-put c = from-full (c .before .before .before .before)
+from-put c = from-three (c .before .before .before .before)
 
 abbrev on-loop : tie.Then1 Inv-loop μ-loop → tie.At-loop Inv-loop μ-loop
 on-loop c = c .before .before
@@ -61,22 +61,22 @@ loop-holds c = (omega arith, omega arith, omega arith, [], sofar-start _, held-s
 add-loop : tie.Need-add-loop Inv-loop μ-loop
 add-loop c = omega arith
 
-shared-slice-read-full : tie.Need-shared-slice-read-full Inv-loop μ-loop
-shared-slice-read-full c = omega arith
+shared-slice-read-three : tie.Need-shared-slice-read-three Inv-loop μ-loop
+shared-slice-read-three c = omega arith
 
-add-full : tie.Need-add-full Inv-loop μ-loop
-add-full c = omega arith
+add-three : tie.Need-add-three Inv-loop μ-loop
+add-three c = omega arith
 
-shared-slice-read-full-2 : tie.Need-shared-slice-read-full-2 Inv-loop μ-loop
-shared-slice-read-full-2 c = omega arith
+shared-slice-read-three-2 : tie.Need-shared-slice-read-three-2 Inv-loop μ-loop
+shared-slice-read-three-2 c = omega arith
 
-full-requires : tie.Need-full-requires Inv-loop μ-loop
-full-requires c κs = let on = c .before .before in (start (on .before) .pre .is-chart, inner on .three)
+three-requires : tie.Need-three-requires Inv-loop μ-loop
+three-requires c κs = let on = c .before .before in (start (on .before) .pre .is-chart, inner on .three)
 
 put-pair-requires : tie.Need-put-pair-requires Inv-loop μ-loop
 put-pair-requires c κs =
-    let on = from-full (c .before) in
-    let many = ap (λ p. length (charsOf p)) (c .before .full .ensures) in
+    let on = from-three (c .before) in
+    let many = ap (λ p. length (charsOf p)) (c .before .three .ensures) in
     let inv = on .before .loop .inv in
     omega (arith, inner on .three, inner on .room, many, inv .5 .many, held-length _ _ _ _ (inv .5) (inv .2))
 
@@ -93,7 +93,7 @@ loop-less c = omega arith
 
 loop-again : tie.Need-loop-again Inv-loop μ-loop
 loop-again c =
-    let full = c .before .before .before .before .full in
+    let full = c .before .before .before .before .three in
     let on = from-put c in
     let inv = on .before .loop .inv in
     let many = ap (λ p. length (charsOf p)) (full .ensures) in
@@ -165,10 +165,10 @@ put-spec =
     μ-loop
     loop-holds
     add-loop
-    shared-slice-read-full
-    add-full
-    shared-slice-read-full-2
-    full-requires
+    shared-slice-read-three
+    add-three
+    shared-slice-read-three-2
+    three-requires
     put-pair-requires
     add-i
     add-at

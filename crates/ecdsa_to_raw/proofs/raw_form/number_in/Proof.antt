@@ -1,55 +1,64 @@
--- `raw_form::number_in` meets its contract: an element that was found is whole, so its content is there.
+-- `raw_form::number_in` meets its contract: what is read for so few bytes has one byte of length.
 -- Assumes nothing.
 use borrow.Author.Needs.{needs}
-use mathlib.Core.Path.{_≡_, _∙_, sym}
+use native.Mathlib.Omega.{arith}
+use mathlib.Core.Path.{_∙_}
 use denote.Ref.{now}
-use Rattle.der.specs.Element.{elementIn}
-use Rattle.der.specs.Element.Exact.{element-whole}
-use Rattle.der.specs.declared.Element.the-variants.{Body}
-use Rattle.ecdsa.specs.Strict.{part, digitsIn}
-use Rattle.ecdsa.specs.Strict.Laws.{number-none, number-at}
+use Rattle.format.specs.Bytes.{Bytes}
+use Rattle.ecdsa_to_raw.specs.Short.{number-few, number-other, number-cut, number-digits}
 use Rattle.ecdsa_to_raw.proofs.raw_form.number_in.Statement.{statement}
 use Rattle.ecdsa_to_raw.proofs.raw_form.number_in.Tie as tie
 
--- the way back from the element that was found to the known bytes, and to the entry
-abbrev known : tie.After-found → tie.After-shared-slice-known
-known c = c .before .before .before
-
-abbrev start : tie.After-found → tie.Start
-start c = known c .before
-
--- the element that was found
-integer-at : (c : tie.After-found) → elementIn 0x02 (now (start c .args .t)) ≡ Body (c .found .given .0 .0) (c .found .given .0 .1 .0)
-integer-at c = sym (c .before .before .element-of .ensures) ∙ c .found .given .1
-
-element-of-requires : tie.Need-element-of-requires
-element-of-requires c κs = search needs
-
-enum-known-found : tie.Need-enum-known-found
-enum-known-found c = search needs
-
-enum-told : tie.Need-enum-told
-enum-told c = search needs
+bytes : (c : tie.After-shared-slice-known) → Bytes (now (c .before .args .t))
+bytes c = λ i. c .shared-slice-known .given i .fits
 
 returns : tie.Need-returns
-returns c = number-none _ _ (sym (c .before .before .element-of .ensures) ∙ c .enum-told .given .1)
+returns c = number-few _ _ (c .before .before .pre .1) (bytes (c .before)) (c .if1 .taken)
 
-digits-in-requires : tie.Need-digits-in-requires
-digits-in-requires c κs =
-    let on = c .before in
-    let found = element-whole 0x02 (now (start on .args .t)) (λ i. known on .shared-slice-known .given i .fits) _ _ (integer-at on) in
-    (found .order, found .inside)
+shared-slice-read-if2 : tie.Need-shared-slice-read-if2
+shared-slice-read-if2 c = search needs
 
 returns-2 : tie.Need-returns-2
 returns-2 c =
-    let on = c .before .before in
-    let a = start on .args in
-    let from = on .found .given .0 .0 in
-    let to = on .found .given .0 .1 .0 in
-    _∙_ {b = digitsIn (a .n) from to (part from to (now (a .t)))} (c .digits-in .ensures)
-    (number-at (a .n) (now (a .t)) from to (integer-at on))
+    let known = c .before .before .before in
+    number-other _ _ (known .before .pre .1) (bytes known) (c .if2 .taken)
+
+shared-slice-read-wide : tie.Need-shared-slice-read-wide
+shared-slice-read-wide c = search needs
+
+wide-requires : tie.Need-wide-requires
+wide-requires c κs = search needs
+
+sub-if3 : tie.Need-sub-if3
+sub-if3 c = search needs
+
+returns-3 : tie.Need-returns-3
+returns-3 c =
+    let tag = c .before .before .before in
+    let known = tag .before .before .before in
+    number-cut _ _ (known .before .pre .1) (bytes known) (omega (arith, c .if3 .taken, c .before .wide .ensures))
+
+digits-of-requires : tie.Need-digits-of-requires
+digits-of-requires c κs = search needs
+
+returns-4 : tie.Need-returns-4
+returns-4 c =
+    let size = c .before .before in
+    let tag = size .before .before in
+    let known = tag .before .before .before in
+    c .digits-of .ensures
+    ∙ number-digits _ _ (known .before .pre .1) (bytes known) _ (size .wide .ensures) (omega (arith, c .before .if3 .left)) (tag .if2 .left)
 
 pub number-in-spec : {M : Type 1} → statement M
 number-in-spec =
     tie.close
-    (tie.spec element-of-requires enum-known-found enum-told returns digits-in-requires returns-2)
+    (tie.spec
+    returns
+    shared-slice-read-if2
+    returns-2
+    shared-slice-read-wide
+    wide-requires
+    sub-if3
+    returns-3
+    digits-of-requires
+    returns-4)

@@ -4,10 +4,11 @@ use native.Mathlib.Omega.{arith}
 use mathlib.Core.Path.{_≡_, _∙_, ap, sym}
 use Prim.Native.Nat.{ℕ, _+_, _-_, _≤_}
 use denote.Ref.{now}
-use lib.ListN.{length, set, replicate, length-replicate}
+use mathlib.Core.List.{_++_}
+use lib.ListN.{length, take, drop, set, replicate, length-replicate}
 use Rattle.format.specs.Buffer.{over}
 use Rattle.format.specs.Buffer.Laws.{over-none, length-over}
-use Rattle.octets.specs.Copy.Laws.{copied-all}
+use Rattle.blocks.specs.Blocks.{part}
 use Rattle.ecdsa.specs.Strict.{padded}
 use Rattle.ecdsa.specs.Strict.Laws.{zero-more, length-padded, padded-put}
 use Rattle.ecdsa_to_raw.proofs.raw_form.put_padded.Statement.{statement}
@@ -20,7 +21,7 @@ abbrev μ-loop : tie.MeasureT-loop
 μ-loop digits n out₀ at zeros i₀ out i = n - length digits - i
 
 -- the way back: from the digits copied to the loop, and to the entry
-abbrev on-loop : tie.After-copy Inv-loop μ-loop → tie.At-loop Inv-loop μ-loop
+abbrev on-loop : tie.After-copy-lent Inv-loop μ-loop → tie.At-loop Inv-loop μ-loop
 on-loop c = c .before .before .before
 
 abbrev start : tie.At-loop Inv-loop μ-loop → tie.Start Inv-loop μ-loop
@@ -59,23 +60,38 @@ loop-again c =
       ap (λ o. set o (a .at + on .loop .i) 0) (on .loop .inv .1) ∙ zero-more (now (a .out)) (a .at) (on .loop .i) (omega arith),
     )
 
-add-copy : tie.Need-add-copy Inv-loop μ-loop
-add-copy c = omega arith
+add-copy-lent : tie.Need-add-copy-lent Inv-loop μ-loop
+add-copy-lent c = omega arith
 
-copy-requires : tie.Need-copy-requires Inv-loop μ-loop
-copy-requires c κs = tt
+sub-copy-lent : tie.Need-sub-copy-lent Inv-loop μ-loop
+sub-copy-lent c = omega (arith, kept (c .before))
+
+part-copy-lent-start : tie.Need-part-copy-lent-start Inv-loop μ-loop
+part-copy-lent-start c = omega (arith, kept (c .before))
+
+part-copy-lent-end : tie.Need-part-copy-lent-end Inv-loop μ-loop
+part-copy-lent-end c = omega arith
+
+copy-lent-requires : tie.Need-copy-lent-requires Inv-loop μ-loop
+copy-lent-requires c κs = tt
 
 -- the digits stand after the zeros
 put :
-    (c : tie.After-copy Inv-loop μ-loop) →
-    let a = start (on-loop c) .args in
-    c .copy .last .1 .0 ≡ over (now (a .out)) (a .at) (padded (a .n) (now (a .digits)))
+    (c : tie.After-copy-lent Inv-loop μ-loop) →
+    let on = on-loop c in
+    let a = start on .args in
+    let from = a .at + (a .n - length (now (a .digits))) in
+    let out = on .loop .out in
+    take from out ++ (c .copy-lent .last .1 .0 ++ drop (length out - from) (drop from out))
+    ≡ over (now (a .out)) (a .at) (padded (a .n) (now (a .digits)))
 put c =
     let on = on-loop c in
     let a = start on .args in
-    c .copy .ensures .1
-    ∙ sym (copied-all (now (a .digits)) (on .loop .out) (a .at + (a .n - length (now (a .digits)))) (omega (arith, kept on)))
-    ∙ padded-put (now (a .out)) (now (a .digits)) (a .n) (a .at) (on .loop .i) (on .loop .out) (omega arith) (omega arith) (omega arith)
+    let from = a .at + (a .n - length (now (a .digits))) in
+    let out = on .loop .out in
+    ap (λ t. take from out ++ (t ++ drop (length out - from) (drop from out))) (c .copy-lent .ensures)
+    ∙ part (now (a .digits)) out from (omega (arith, kept on))
+    ∙ padded-put (now (a .out)) (now (a .digits)) (a .n) (a .at) (on .loop .i) out (omega arith) (omega arith) (omega arith)
     (on .loop .inv .1)
 
 same-length : tie.Need-same-length Inv-loop μ-loop
@@ -101,7 +117,10 @@ put-padded-spec =
     add-i
     loop-less
     loop-again
-    add-copy
-    copy-requires
+    add-copy-lent
+    sub-copy-lent
+    part-copy-lent-start
+    part-copy-lent-end
+    copy-lent-requires
     same-length
     returns)

@@ -63,7 +63,7 @@ part-put-second-end-2 : tie.Need-part-put-second-end-2
 part-put-second-end-2 c = search needs
 
 put-second-requires : tie.Need-put-second-requires
-put-second-requires c κs = let on = r-digits c in (start on .pre, number-fits _ _ _ _ (inside on))
+put-second-requires c κs = let on = r-digits c in (start on .pre .0, start on .pre .1, number-fits _ _ _ _ (inside on))
 
 same-length : tie.Need-same-length
 same-length c = search needs

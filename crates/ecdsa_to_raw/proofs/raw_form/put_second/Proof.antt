@@ -64,7 +64,7 @@ put-both-requires : tie.Need-put-both-requires
 put-both-requires c κs =
     let on = s-digits c in
     let asked = start on .pre in
-    (asked .0, asked .1, number-fits _ _ _ _ (inside on))
+    (asked .1, asked .2, number-fits _ _ _ _ (inside on))
 
 same-length : tie.Need-same-length
 same-length c = search needs

@@ -3,14 +3,16 @@
 -- Assumes nothing.
 use mathlib.Core.Path.{_≡_, refl, ap, sym, subst, _∙_}
 use mathlib.Core.Bool.{true, false}
-use Prim.Native.Nat.{ℕ, zero, suc, _+_, _≤_, _<_}
+use Prim.Native.Nat.{ℕ, zero, suc, _+_, _*_, _/_, _%_, _^_, _≤_, _<_}
 use native.Mathlib.Omega.{arith}
-use borrow.Author.Tests.{eq-eqb, ne-eqb}
+use borrow.Author.Tests.{eq-eqb, ne-eqb, eqb-true, eqb-false}
 use native.Mathlib.Numerals.{add-one}
 use mathlib.Core.List.{List, [], _∷_, _++_}
+use lib.Bits.{bitAnd, bitOr, and-mask, mask-lt, or-step, or-shr, or-comm}
 use lib.Dec.{eqb}
+use lib.Pow.{shl-exact, shl-shr}
 use lib.ListN.{length, length-append, length-set, take, getD, set}
-use lib.Seq.{getD-take, take-suc-set}
+use lib.Seq.{getD-take, take-suc-set, getD-set-same, getD-set-other}
 use Rattle.format.specs.Choice.Laws.{by-test}
 use Rattle.format.specs.Choice.{either}
 use Rattle.format.specs.Bytes.{Bytes}
@@ -232,6 +234,95 @@ module _ (v : Version) (s : List ℕ) (from : ℕ) (tags : List ℕ) (count at :
   pub kept-most : count ≤ 255
   kept-most = omega (arith, kept .many, kept .turn .room)
 
+-- a byte that was read is one
+pub byte-small : (s : List ℕ) (at x after : ℕ) → is x after ≡ byte at s (plainIn at) → Bytes s → x < 256
+byte-small s at x after e bytes = omega (arith, bytes at, read-byte at s x after e .is-byte)
+
+-- a bit of a number is set, and stays set in an "or" with another
+abbrev pub Set : ℕ → ℕ → Type 0
+Set n k = n / 2 ^ k % 2 ≡ 1
+
+odd-or : (m n : ℕ) → m % 2 ≡ 1 → bitOr m n % 2 ≡ 1
+odd-or m n e = omega (arith, or-step m n)
+
+set-or : (m n k : ℕ) → Set m k → Set (bitOr m n) k
+set-or m n k e = ap (λ z. z % 2) (or-shr m n k) ∙ odd-or (m / 2 ^ k) (n / 2 ^ k) e
+
+-- 1 shifted to a bit sets it
+set-one : (m k : ℕ) → k < 64 → Set (bitOr m (1 * 2 ^ k % 2 ^ 64)) k
+set-one m k h =
+    let one : 1 * 2 ^ k % 2 ^ 64 / 2 ^ k ≡ 1 = ap (λ z. z / 2 ^ k) (shl-exact 1 k 64 (omega arith) (omega arith)) ∙ shl-shr 1 k in
+    subst (λ z. Set z k) (or-comm (1 * 2 ^ k % 2 ^ 64) m) (set-or (1 * 2 ^ k % 2 ^ 64) m k (ap (λ z. z % 2) one))
+
+-- the bit of each tag before is set, so a tag whose bit is not is none of those
+abbrev Bit : List ℕ → ℕ → Type 0
+Bit marks x = Set (getD marks (x / 64) 0) (x % 64)
+
+pub record Marked (marks tags : List ℕ) (count : ℕ) : Type 0 where
+  pub places : length marks ≡ 4
+  pub each : (i : ℕ) → i < count → Bit marks (getD tags i 0)
+
+pub marked-start : (marks tags : List ℕ) → length marks ≡ 4 → Marked marks tags 0
+marked-start marks tags places = record { places = places; each = λ i h. absurd (omega arith) }
+
+pub marked-none :
+    {marks tags : List ℕ} {count : ℕ} →
+    Marked marks tags count →
+    (x : ℕ) →
+    (bitAnd (getD marks (x / 64) 0 / 2 ^ bitAnd x 63) 1 ≡ 1 → ⊥) →
+    (i : ℕ) →
+    i < count →
+    getD tags i 0 ≡ x →
+    ⊥
+marked-none {marks} marked x bare i h e =
+    bare
+    (and-mask (getD marks (x / 64) 0 / 2 ^ bitAnd x 63) 1
+    ∙ ap (λ k. getD marks (x / 64) 0 / 2 ^ k % 2) (and-mask x 6)
+    ∙ subst (λ y. Bit marks y) e (marked .each i h))
+
+-- the marks once a tag's bit is set
+abbrev pub mark : List ℕ → ℕ → List ℕ
+mark marks x = set marks (x / 64) (bitOr (getD marks (x / 64) 0) (1 * 2 ^ bitAnd x 63 % 2 ^ 64))
+
+pub marked-more :
+    (marks tags : List ℕ) (count x : ℕ) →
+    Marked marks tags count →
+    x < 256 →
+    count < length tags →
+    Marked (mark marks x) (set tags count x) (count + 1)
+marked-more marks tags count x marked small room = record { places = simp length-set (marked .places); each = each }
+  where
+    word : ℕ
+    word = bitOr (getD marks (x / 64) 0) (1 * 2 ^ bitAnd x 63 % 2 ^ 64)
+
+    at-word : getD (mark marks x) (x / 64) 0 ≡ word
+    at-word = getD-set-same marks (x / 64) word 0 (omega (arith, marked .places))
+
+    here : Bit (mark marks x) x
+    here =
+        subst (λ n. Set n (x % 64)) (sym at-word)
+        (subst (λ k. Set word k) (and-mask x 6) (set-one (getD marks (x / 64) 0) (bitAnd x 63) (mask-lt x 6)))
+
+    kept : (y : ℕ) → Bit marks y → Bit (mark marks x) y
+    kept y e =
+        by-test (eqb (y / 64) (x / 64))
+        (λ t.
+        let same = eqb-true (y / 64) (x / 64) t in
+        subst (λ n. Set n (y % 64)) (sym (ap (λ w. getD (mark marks x) w 0) same ∙ at-word))
+        (set-or (getD marks (x / 64) 0) _ (y % 64) (subst (λ w. Set (getD marks w 0) (y % 64)) same e)))
+        (λ t. subst (λ n. Set n (y % 64)) (sym (getD-set-other marks (x / 64) (y / 64) word 0 (eqb-false (y / 64) (x / 64) t))) e)
+
+    each : (i : ℕ) → i < count + 1 → Bit (mark marks x) (getD (set tags count x) i 0)
+    each i h =
+        by-test (eqb i count)
+        (λ t.
+        subst (λ y. Bit (mark marks x) y)
+        (sym (ap (λ z. getD (set tags count x) z 0) (eqb-true i count t) ∙ getD-set-same tags count x 0 room)) here)
+        (λ t.
+        let before = eqb-false i count t in
+        subst (λ y. Bit (mark marks x) y) (sym (getD-set-other tags count i x 0 before))
+        (kept (getD tags i 0) (marked .each i (omega (arith, before)))))
+
 -- a tag that is not FF and none of those before
 pub record New (v : Version) (s : List ℕ) (from : ℕ) (tags : List ℕ) (count at x after : ℕ) : Type 0 where
   pub kept : Kept v s from tags count at
@@ -253,7 +344,7 @@ module _ (v : Version) (s : List ℕ) (from : ℕ) (tags : List ℕ) (count at x
       (walk-unsized v s from (new .kept .rows) at (new .kept .turn) x after (new .read) (new .other) none-of rule place l))
 
   pub new-small : Bytes s → x < 256
-  new-small bytes = omega (arith, bytes at, read-byte at s x after (new .read) .is-byte)
+  new-small = byte-small s at x after (new .read)
 
   pub new-room : Bytes s → count < 255
   new-room bytes =

@@ -2,47 +2,36 @@
 -- Assumes nothing.
 use borrow.Author.Needs.{needs}
 use native.Mathlib.Omega.{arith}
-use mathlib.Core.Path.{_≡_, ap, sym, _∙_}
+use mathlib.Core.Path.{_≡_, ap, _∙_}
 use Prim.Native.Nat.{ℕ, _<_}
-use mathlib.Core.List.{List, map}
+use mathlib.Core.List.{List}
 use denote.Ref.{now}
 use lib.ListN.{length, set, length-set}
 use Rattle.format.specs.Buffer.{over}
 use Rattle.format.specs.Buffer.Laws.{length-over}
-use Rattle.versions.specs.Versions.{versionByte}
-use Rattle.grammar.specs.Publish.{carried}
-use Rattle.write_given.specs.Given.{threeOf}
 use Rattle.write_judge.specs.Needs.{front}
-use Rattle.writer.specs.Together.{names-room, put-front}
-use Rattle.write_judge.specs.Size.{headed-named}
+use Rattle.write_judge.specs.Size.{headed-country, headed-named}
+use Rattle.writer.specs.Together.{front-room, names-room, put-front}
 use Rattle.writer.proofs.put.put_front.Statement.{statement}
 use Rattle.writer.proofs.put.put_front.Tie as tie
 
--- the places before: where the country was put and where its characters were taken, back to the entry
-abbrev country-put : tie.After-put-names-arg → tie.After-put-text
+-- the places before: where the country was put and where the version's byte was told, back to the entry
+abbrev country-put : tie.After-put-names-arg → tie.After-put-country
 country-put c = c .before .before .before
 
-abbrev taken : tie.After-put-text → tie.After-country
-taken c = c .before .before .before
+abbrev told : tie.After-put-country-arg → tie.After-byte
+told c = c .before .before
 
-abbrev start : tie.After-country → tie.Start
-start c = c .before .before .before .before .before
+abbrev start : tie.After-byte → tie.Start
+start c = c .before .before .before
 
 -- where the function starts, from past the names
 abbrev entered : tie.After-put-names → tie.Start
-entered c = start (taken (country-put (c .before)))
+entered c = start (told (country-put (c .before) .before))
 
 -- the bytes of the front
 abbrev bytes : tie.Start → List ℕ
 bytes s = front (s .args .version) (s .args .header) (now (s .args .text))
-
--- the country's characters as they are carried
-is-carried : (c : tie.After-country) → map carried (threeOf (start c .args .header .country)) ≡ c .country .result
-is-carried c = sym (c .country .ensures)
-
--- the version's byte, as it was stored
-stored : (c : tie.After-country) → c .before .before .byte .result ≡ versionByte (start c .args .version)
-stored c = c .before .before .byte .ensures
 
 -- what was put down
 put :
@@ -50,13 +39,13 @@ put :
     let s = entered c in
     (c .put-names .result ≡ length (bytes s)) × (c .put-names .last .1 .1 .0 ≡ over (now (s .args .out)) 0 (bytes s))
 put c =
-    let p = country-put (c .before) .put-text in
-    let on = taken (country-put (c .before)) in
-    let s = start on in
+    let p = country-put (c .before) in
+    let b = told (p .before) in
+    let s = start b in
     let q = c .put-names in
-    put-front (s .args .version) (s .args .header) (now (s .args .text)) (now (s .args .out)) (s .pre .0) (s .pre .1) _ (stored on)
-    (on .country .result) (p .last .1 .0) (p .result) (is-carried on) (p .ensures .0) (p .ensures .1) (q .last .1 .1 .0) (q .result)
-    (q .ensures .0) (q .ensures .1)
+    put-front (s .args .version) (s .args .header) (now (s .args .text)) (now (s .args .out)) (s .pre .1) _ (b .byte .ensures)
+    (p .put-country .last .1 .0) (p .put-country .result) (p .put-country .ensures .0) (p .put-country .ensures .1) (q .last .1 .1 .0)
+    (q .result) (q .ensures .0) (q .ensures .1)
 
 slice-write-out : tie.Need-slice-write-out
 slice-write-out c = search needs
@@ -69,23 +58,24 @@ slice-write-out-2 c =
     let s = c .before .before .before in
     let p : 1 < length (set (now (s .args .out)) 0 0xDC) = simp length-set (omega (arith, s .pre .1)) in p
 
-country-requires : tie.Need-country-requires
-country-requires c κs = search needs
-
-slice-aggregate-put-text : tie.Need-slice-aggregate-put-text
-slice-aggregate-put-text c = search needs
-
-put-text-requires : tie.Need-put-text-requires
-put-text-requires c κs = search needs
+put-country-requires : tie.Need-put-country-requires
+put-country-requires c κs =
+    let b = told c in
+    let s = start b in
+    let a = s .args in (
+      headed-country (a .version) (a .header) (now (a .text)) (s .pre .0),
+      front-room (a .version) (a .header) (now (a .text)) (now (a .out)) (s .pre .1) _ (b .byte .ensures),
+    )
 
 put-names-requires : tie.Need-put-names-requires
 put-names-requires c κs =
-    let p = country-put c .put-text in
-    let on = taken (country-put c) in
-    let s = start on in (
-      headed-named (s .args .version) (s .args .header) (now (s .args .text)) (s .pre .0),
-      names-room (s .args .version) (s .args .header) (now (s .args .text)) (now (s .args .out)) (s .pre .0) (s .pre .1) _ (stored on)
-          (on .country .result) (p .last .1 .0) (p .result) (is-carried on) (p .ensures .0) (p .ensures .1),
+    let p = country-put c in
+    let b = told (p .before) in
+    let s = start b in
+    let a = s .args in (
+      headed-named (a .version) (a .header) (now (a .text)) (s .pre .0),
+      names-room (a .version) (a .header) (now (a .text)) (now (a .out)) (s .pre .1) _ (b .byte .ensures) (p .put-country .last .1 .0)
+          (p .put-country .result) (p .put-country .ensures .0) (p .put-country .ensures .1),
     )
 
 same-length : tie.Need-same-length
@@ -104,9 +94,7 @@ put-front-spec =
     slice-write-out
     byte-requires
     slice-write-out-2
-    country-requires
-    slice-aggregate-put-text
-    put-text-requires
+    put-country-requires
     put-names-requires
     same-length
     returns)
