@@ -13,8 +13,7 @@
 # make peers  end to end with openssl, zint and dmtxread (on an x86-64 machine)
 # make fuzz   fuzz the library for FUZZ_SECONDS (needs clang, on an x86-64 machine)
 # make fmt    lay out every .rt and .antt file
-# make bench  instructions and nanoseconds of each call beside plain C and Rust (BLOCKS=1: the C with memcpy, memchr; on
-#             an x86-64 machine)
+# make bench  instructions and nanoseconds of each call beside C written for speed and plain Rust (on an x86-64 machine)
 # make vectors  reckon the files of cases anew from document 01 (needs python3)
 # make install    put what was made under PREFIX (below DESTDIR): programs, library, header, pkg-config file, man pages,
 #                 docs with their pictures, examples

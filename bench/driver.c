@@ -1,6 +1,7 @@
-/* The driver: `bench same` compares the three makers on inputs of every call; `bench CASE MAKER TIMES ROUNDS` makes so many calls of one case by one maker in
-   each of so many rounds, and prints the nanoseconds of a call in the best of them. */
-#include "inputs.h"
+/* The driver: `bench same` compares the three makers on inputs of every call. `bench CASE` prints the nanoseconds of a call by each maker, the
+   median of rounds in which each of them runs once, in turn. `bench CASE MAKER TIMES` makes so many calls by one maker, to be counted. Call k
+   takes input k % 16. */
+#include "real.h"
 #include <stdio.h>
 #include <stdlib.h>
 #include <string.h>
@@ -14,81 +15,100 @@
 
 const maker makers[MAKERS] = {MAKER(c), MAKER(rust), MAKER(fr)};
 
-static given g;
-static uint8_t seal[4096], text[6144], bytes[6144], ders[SIGNATURES][144], integers[INTEGERS][10];
-static size_t table[FR_TABLE_MOST], size, sizes[SIGNATURES], widths[INTEGERS], wanted;
-static signatures raws;
+/* who makes the inputs: not the one whose calls are counted */
+static const maker *other = makers;
 
-/* calls a call so many times on input k, and gives how many were answered with another number than is wanted, which is
-   0 where no other is said */
+static given g[INPUTS];
+static uint8_t seal[INPUTS][4096], text[INPUTS][6144], bytes[INPUTS][4096], raws[INPUTS][64], ders[INPUTS][144], integers[INPUTS][10], out[6144];
+static size_t table[FR_TABLE_MOST], size[INPUTS], characters[INPUTS], widths[INPUTS], number[INPUTS], wanted;
+static fr_date date[INPUTS];
+
+/* calls a call so many times on input i, and gives how many were answered with another number than is wanted, which is 0 where no other is said */
 #define LOOP(CALL)                                                                                                                                   \
     size_t bad = 0;                                                                                                                                  \
-    for (size_t k = 0; k < times; k++) bad += (CALL).number != wanted;                                                                               \
+    for (size_t k = 0; k < times; k++) {                                                                                                             \
+        size_t i = k % INPUTS;                                                                                                                       \
+        bad += (CALL).number != wanted;                                                                                                              \
+    }                                                                                                                                                \
     return bad
+#define EACH for (size_t i = 0; i < INPUTS; i++)
 
-static void lend(given one) {
-    g = one;
-    size = write_given(makers, &g, seal).count;
+static void lend(size_t i, given one) {
+    g[i] = one;
+    size[i] = write_given(other, g + i, seal[i]).count;
 }
 
-static void ready_a(void) { lend(given_a()); }
-static void ready_typical(void) { lend(given_typical(3)); }
-static void ready_four(void) { lend(given_typical(4)); }
-static void ready_full(void) { lend(given_full()); }
+static size_t any_version(void) { return 3 + draw(2); }
+
+static void ready_small(void) { EACH lend(i, real_small(any_version())); }
+static void ready_typical(void) { EACH lend(i, real_typical(any_version())); }
+static void ready_three(void) { EACH lend(i, real_typical(3)); }
+static void ready_four(void) { EACH lend(i, real_typical(4)); }
+static void ready_full(void) { EACH lend(i, real_full()); }
 
 /* one byte short: 2 at the signature */
 static void ready_cut(void) {
     ready_typical();
-    size--;
+    EACH size[i]--;
     wanted = 2;
 }
 
 /* the signer begins with digits, 012: 5 at its first byte */
 static void ready_signer(void) {
-    ready_four();
-    memcpy(seal + 4, "\x1B\x3C", 2);
+    ready_typical();
+    EACH memcpy(seal[i] + 4, "\x1B\x3C", 2);
     wanted = 5;
 }
 
-/* the last of 255 tags is the first one: 9 there */
+/* the last of 255 tags is another one: 9 there */
 static void ready_used(void) {
     ready_full();
-    seal[186 + 254 * 14] = seal[186];
+    EACH {
+        other->read(seal[i], size[i], table, FR_TABLE_MOST, out, FR_TEXT_MOST);
+        seal[i][table[FR_ROW * 254 + FR_ROW_TAG_PLACE]] = (uint8_t)table[FR_ROW * draw(254) + FR_ROW_TAG];
+    }
     wanted = 9;
 }
 
-static void ready_text(void) {
-    fill_text(text, 6144);
-    makers->c40_write(text, 6144, bytes, 4096);
+static void ready_text(size_t least, size_t most) {
+    EACH {
+        characters[i] = least + draw(most - least + 1);
+        real_text(text[i], characters[i]);
+        widths[i] = other->c40_write(text[i], characters[i], bytes[i], 4096).count;
+    }
 }
+
+static void ready_short(void) { ready_text(6, 60); }
+static void ready_long(void) { ready_text(6144, 6144); }
+
+static void ready_dates(void) { EACH date[i] = real_date(), number[i] = date[i].month * 1000000 + date[i].day * 10000 + date[i].year; }
 
 static void ready_signatures(void) {
-    raws = make_signatures(32);
-    for (int k = 0; k < SIGNATURES; k++) sizes[k] = makers->signature_to_der(32, raws.raw[k], 64, ders[k], 144).count;
+    EACH {
+        real_signature(i, raws[i]);
+        widths[i] = other->signature_to_der(32, raws[i], 64, ders[i], 144).count;
+    }
 }
 
-static void ready_integers(void) {
-    for (size_t k = 0; k < INTEGERS; k++) widths[k] = makers->integer_write(integer_at(k), integers[k], 10).count;
-}
-
+static void ready_integers(void) { EACH widths[i] = other->integer_write(integer_at(i), integers[i], 10).count; }
 static void ready_nothing(void) {}
 
-static size_t run_read(const maker *m, size_t times) { LOOP(m->read(seal, size, table, FR_TABLE_MOST, text, FR_TEXT_MOST)); }
-static size_t run_judge(const maker *m, size_t times) { LOOP(m->judge(seal, size)); }
-static size_t run_why(const maker *m, size_t times) { LOOP(m->why(seal, size)); }
-static size_t run_write(const maker *m, size_t times) { LOOP(write_given(m, &g, bytes)); }
-static size_t run_c40_read(const maker *m, size_t times) { LOOP(m->c40_read(bytes, 4096, text, 6144)); }
-static size_t run_c40_write(const maker *m, size_t times) { LOOP(m->c40_write(text, 6144, bytes, 4096)); }
-static size_t run_from_number(const maker *m, size_t times) { LOOP(m->date_from_number(3011957 + k % 16 * 10000)); }
-static size_t run_to_number(const maker *m, size_t times) { LOOP(m->date_to_number((fr_date){1 + k % 8, 25, 1957})); }
-static size_t run_integer_read(const maker *m, size_t times) { LOOP(m->integer_read(integers[k % INTEGERS], widths[k % INTEGERS])); }
-static size_t run_integer_write(const maker *m, size_t times) { LOOP(m->integer_write(integer_at(k % INTEGERS), bytes, 10)); }
-static size_t run_to_der(const maker *m, size_t times) { LOOP(m->signature_to_der(32, raws.raw[k % SIGNATURES], 64, bytes, 73)); }
-static size_t run_to_raw(const maker *m, size_t times) { LOOP(m->signature_to_raw(32, ders[k % SIGNATURES], sizes[k % SIGNATURES], bytes, 64)); }
+static size_t run_read(const maker *m, size_t times) { LOOP(m->read(seal[i], size[i], table, FR_TABLE_MOST, out, FR_TEXT_MOST)); }
+static size_t run_judge(const maker *m, size_t times) { LOOP(m->judge(seal[i], size[i])); }
+static size_t run_why(const maker *m, size_t times) { LOOP(m->why(seal[i], size[i])); }
+static size_t run_write(const maker *m, size_t times) { LOOP(write_given(m, g + i, out)); }
+static size_t run_c40_read(const maker *m, size_t times) { LOOP(m->c40_read(bytes[i], widths[i], out, 6144)); }
+static size_t run_c40_write(const maker *m, size_t times) { LOOP(m->c40_write(text[i], characters[i], out, 4096)); }
+static size_t run_from_number(const maker *m, size_t times) { LOOP(m->date_from_number(number[i])); }
+static size_t run_to_number(const maker *m, size_t times) { LOOP(m->date_to_number(date[i])); }
+static size_t run_integer_read(const maker *m, size_t times) { LOOP(m->integer_read(integers[i], widths[i])); }
+static size_t run_integer_write(const maker *m, size_t times) { LOOP(m->integer_write(integer_at(i), out, 10)); }
+static size_t run_to_der(const maker *m, size_t times) { LOOP(m->signature_to_der(32, raws[i], 64, out, 73)); }
+static size_t run_to_raw(const maker *m, size_t times) { LOOP(m->signature_to_raw(32, ders[i], widths[i], out, 64)); }
 
 static size_t run_hash(const maker *m, size_t times) {
     static const size_t n[4] = {28, 32, 48, 64};
-    LOOP(m->hash(n[k % 4]));
+    LOOP(m->hash(n[i % 4]));
 }
 
 static const struct {
@@ -96,32 +116,17 @@ static const struct {
     void (*ready)(void);
     size_t (*run)(const maker *, size_t);
 } cases[] = {
-    {"read-150", ready_typical, run_read},
-    {"read-4096", ready_full, run_read},
-    {"judge-82", ready_a, run_judge},
-    {"judge-150", ready_typical, run_judge},
-    {"judge-4096", ready_full, run_judge},
-    {"judge-cut", ready_cut, run_judge},
-    {"judge-signer", ready_signer, run_judge},
-    {"judge-used", ready_used, run_judge},
-    {"why-82", ready_a, run_why},
-    {"why-150", ready_typical, run_why},
-    {"why-4096", ready_full, run_why},
-    {"why-cut", ready_cut, run_why},
-    {"why-signer", ready_signer, run_why},
-    {"why-used", ready_used, run_why},
-    {"write-150-4", ready_four, run_write},
-    {"write-150-3", ready_typical, run_write},
-    {"write-4096", ready_full, run_write},
-    {"c40-read", ready_text, run_c40_read},
-    {"c40-write", ready_text, run_c40_write},
-    {"date-from-number", ready_nothing, run_from_number},
-    {"date-to-number", ready_nothing, run_to_number},
-    {"integer-read", ready_integers, run_integer_read},
-    {"integer-write", ready_integers, run_integer_write},
-    {"to-der", ready_signatures, run_to_der},
-    {"to-raw", ready_signatures, run_to_raw},
-    {"hash", ready_nothing, run_hash},
+    {"read-82", ready_small, run_read},         {"read-150", ready_typical, run_read},      {"read-4096", ready_full, run_read},
+    {"judge-82", ready_small, run_judge},       {"judge-150", ready_typical, run_judge},    {"judge-4096", ready_full, run_judge},
+    {"judge-cut", ready_cut, run_judge},        {"judge-signer", ready_signer, run_judge},  {"judge-used", ready_used, run_judge},
+    {"why-82", ready_small, run_why},           {"why-150", ready_typical, run_why},        {"why-4096", ready_full, run_why},
+    {"why-cut", ready_cut, run_why},            {"why-signer", ready_signer, run_why},      {"why-used", ready_used, run_why},
+    {"write-82", ready_small, run_write},       {"write-150-4", ready_four, run_write},     {"write-150-3", ready_three, run_write},
+    {"write-4096", ready_full, run_write},      {"c40-read-short", ready_short, run_c40_read}, {"c40-read", ready_long, run_c40_read},
+    {"c40-write-short", ready_short, run_c40_write}, {"c40-write", ready_long, run_c40_write},
+    {"date-from-number", ready_dates, run_from_number}, {"date-to-number", ready_dates, run_to_number},
+    {"integer-read", ready_integers, run_integer_read}, {"integer-write", ready_integers, run_integer_write},
+    {"to-der", ready_signatures, run_to_der},   {"to-raw", ready_signatures, run_to_raw},   {"hash", ready_nothing, run_hash},
 };
 
 /* nanoseconds of processor time, of which other work on the machine takes none */
@@ -131,21 +136,52 @@ static double now(void) {
     return (double)t.tv_sec * 1e9 + (double)t.tv_nsec;
 }
 
-/* the nanoseconds of a call in the best of so many rounds; stops where a call is answered otherwise than is wanted */
-static double measure(size_t c, const maker *m, size_t times, size_t rounds) {
-    double best = 0;
-    cases[c].ready();
-    for (size_t round = 0; round < rounds; round++) {
-        double from = now();
-        size_t bad = cases[c].run(m, times);
-        double spent = (now() - from) / (double)times;
-        if (bad) {
-            fprintf(stderr, "bench: %s by %s: %zu of %zu are not %zu\n", cases[c].name, m->name, bad, times, wanted);
-            exit(1);
-        }
-        if (round == 0 || spent < best) best = spent;
+/* the nanoseconds of so many calls; stops where one is answered otherwise than is wanted */
+static double spend(size_t c, const maker *m, size_t times) {
+    double from = now();
+    size_t bad = cases[c].run(m, times);
+    double spent = now() - from;
+    if (bad) {
+        fprintf(stderr, "bench: %s by %s: %zu of %zu are not %zu\n", cases[c].name, m->name, bad, times, wanted);
+        exit(1);
     }
-    return best;
+    return spent;
+}
+
+static int below(const void *a, const void *b) {
+    double x = *(const double *)a, y = *(const double *)b;
+    return (x > y) - (x < y);
+}
+
+/* the median of each maker's nanoseconds a call over rounds of about a millisecond a maker, the order turning from round to round */
+static void measure(size_t c) {
+    enum { ROUNDS = 41 };
+    static double spent[MAKERS][ROUNDS];
+    size_t times = INPUTS;
+    while (spend(c, makers + MAKERS - 1, times) < 1e6) times *= 2;
+    for (size_t round = 0; round < ROUNDS; round++)
+        for (size_t k = 0; k < MAKERS; k++) {
+            size_t m = (k + round) % MAKERS;
+            spent[m][round] = spend(c, makers + m, times) / (double)times;
+        }
+    for (size_t m = 0; m < MAKERS; m++) {
+        qsort(spent[m], ROUNDS, sizeof **spent, below);
+        printf("%.2f%c", spent[m][ROUNDS / 2], m + 1 < MAKERS ? ' ' : '\n');
+    }
+}
+
+static size_t find_case(const char *name) {
+    for (size_t c = 0; c < sizeof cases / sizeof *cases; c++)
+        if (!strcmp(name, cases[c].name)) return c;
+    fprintf(stderr, "bench: no such case: %s\n", name);
+    exit(2);
+}
+
+static size_t find_maker(const char *name) {
+    for (size_t m = 0; m < MAKERS; m++)
+        if (!strcmp(name, makers[m].name)) return m;
+    fprintf(stderr, "bench: no such maker: %s\n", name);
+    exit(2);
 }
 
 int main(int argc, char **argv) {
@@ -153,13 +189,11 @@ int main(int argc, char **argv) {
         printf("the same answers and bytes from all three on %zu inputs\n", compare_all());
         return 0;
     }
-    if (argc != 5) return 2;
-    for (size_t c = 0; c < sizeof cases / sizeof *cases; c++)
-        for (size_t m = 0; m < MAKERS; m++)
-            if (!strcmp(argv[1], cases[c].name) && !strcmp(argv[2], makers[m].name)) {
-                printf("%.2f\n", measure(c, makers + m, strtoul(argv[3], NULL, 10), strtoul(argv[4], NULL, 10)));
-                return 0;
-            }
-    fprintf(stderr, "bench: no such case or maker\n");
-    return 2;
+    if (argc != 2 && argc != 4) return 2;
+    size_t c = find_case(argv[1]), m = argc == 4 ? find_maker(argv[2]) : 0;
+    if (m == 0) other = makers + 1;
+    cases[c].ready();
+    if (argc == 4) spend(c, makers + m, strtoul(argv[3], NULL, 10));
+    else measure(c);
+    return 0;
 }

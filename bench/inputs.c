@@ -23,16 +23,6 @@ static given start(size_t version, size_t reference, size_t raw) {
     return g;
 }
 
-given given_a(void) {
-    given g = start(3, 5, 56);
-    memcpy(g.header.country, "UTO", 3);
-    g.header.signed_on = g.header.issued_on;
-    memcpy(g.text + 4, "00001", 5);
-    add(&g, 10, 4);
-    memcpy(g.values, "\xDE\x51\x58\x26", 4);
-    return g;
-}
-
 given given_typical(size_t version) {
     given g = start(version, 5, 64);
     add(&g, 1, 20);

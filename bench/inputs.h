@@ -11,9 +11,6 @@ typedef struct {
     size_t characters, rows[FR_TABLE_MOST + FR_ROW], numbers, size, raw, room;
 } given;
 
-/* Seal A of document 01 */
-given given_a(void);
-
 /* a seal of 150 bytes: a reference of 5 characters, three features and a signature of 64 bytes */
 given given_typical(size_t version);
 

@@ -24,8 +24,8 @@ typedef struct {
 #define MAKERS 3
 extern const maker makers[MAKERS];
 
-/* Sends inputs of every call, good and refused, to the three makers and compares answers and lent memory (same.c); gives how many inputs, or stops at the
-   first difference. */
+/* Sends inputs of every call, good and refused, to the three makers and compares answers and lent memory (same.c); gives how many inputs, or
+   stops at the first difference. */
 size_t compare_all(void);
 
 #endif

@@ -21,8 +21,8 @@ static void judge_same(const char *call) {
     inputs++;
     for (int i = 1; i < MAKERS; i++)
         if (memcmp(got, got + i, sizeof *got)) {
-            fprintf(stderr, "bench: %s and %s differ, input %zu: %s\n  numbers %zu and %zu, places %zu and %zu\n", makers[0].name, makers[i].name, inputs,
-                    call, got[0].fields[0], got[i].fields[0], got[0].fields[1], got[i].fields[1]);
+            fprintf(stderr, "bench: %s and %s differ, input %zu: %s\n  numbers %zu and %zu, places %zu and %zu\n", makers[0].name,
+                    makers[i].name, inputs, call, got[0].fields[0], got[i].fields[0], got[0].fields[1], got[i].fields[1]);
             exit(1);
         }
 }
@@ -98,7 +98,8 @@ static void same_seal(const uint8_t *seal, size_t n) {
     met[got[0].fields[2] * RULES + got[0].fields[3]] = 1;
 }
 
-/* a good seal with a table exact, a row longer, a row shorter and all between, with one number less a feature, and with text room exact and one short */
+/* a good seal with a table exact, a row longer, a row shorter and all between, with one number less a feature, and with text room exact and one
+   short */
 static void same_rooms(const uint8_t *seal, size_t n, const given *g) {
     size_t exact = g->numbers, fewer = exact / FR_ROW * (FR_ROW - 1);
     for (size_t numbers = exact - FR_ROW; numbers <= exact + FR_ROW; numbers++) {
@@ -168,6 +169,45 @@ static void same_names(void) {
     same_pairs(&full, 0);
 }
 
+/* the tag of row `last` replaced by each tag before it: 9 there; and by FF */
+static void same_repeats(uint8_t *seal, size_t n, const size_t *table, size_t last) {
+    size_t places[255], at;
+    for (size_t i = 0; i < 255; i++) places[i] = table[FR_ROW * i + FR_ROW_TAG_PLACE];
+    at = places[last];
+    uint8_t kept = seal[at];
+    for (size_t i = 0; i < last; i++) {
+        seal[at] = seal[places[i]];
+        same_seal(seal, n);
+        expect(9);
+    }
+    seal[at] = 0xFF;
+    same_seal(seal, n);
+    seal[at] = kept;
+}
+
+/* tags in mixed orders, by steps that meet every tag, in both versions; the last one, or one on the way, repeats one at every distance before it */
+static void same_orders(void) {
+    static const size_t steps[] = {1, 2, 7, 64, 127, 191, 254};
+    static uint8_t seal[4200], text[FR_TEXT_MOST];
+    static size_t table[FR_TABLE_MOST];
+    for (size_t version = 3; version <= 4; version++)
+        for (size_t k = 0; k < sizeof steps / sizeof *steps; k++) {
+            given g = given_typical(version);
+            g.numbers = g.size = 0;
+            for (size_t i = 0; i < 255; i++, g.numbers += FR_ROW) {
+                size_t row[FR_ROW] = {(i * steps[k] + 5) % 255, 0, 0, i % 9};
+                memcpy(g.rows + g.numbers, row, sizeof row);
+            }
+            g.size = 9;
+            size_t n = write_given(makers, &g, seal).count;
+            same_seal(seal, n);
+            expect(0);
+            makers->read(seal, n, table, FR_TABLE_MOST, text, FR_TEXT_MOST);
+            same_repeats(seal, n, table, 254);
+            same_repeats(seal, n, table, 100 + k);
+        }
+}
+
 static void same_write(given g) { SAME(see_filled(s, write_given(m, &g, s->bytes))); }
 
 /* one row over the first `size` values, whatever stands in them */
@@ -176,6 +216,21 @@ static void one_row(given *g, size_t size) {
     g->rows[FR_ROW_VALUE_PLACE] = 0;
     g->rows[FR_ROW_VALUE_LENGTH] = size;
     g->numbers = FR_ROW;
+}
+
+/* one value of every length to 300, written and read in both versions; in version 3 only to 255 */
+static void same_lengths(void) {
+    static uint8_t seal[FR_SEAL_MOST];
+    for (size_t version = 3; version <= 4; version++)
+        for (size_t size = 0; size <= 300; size++) {
+            given g = given_typical(version);
+            one_row(&g, size);
+            same_write(g);
+            expect(version == 3 && size > 255 ? 25 : 0);
+            size_t n = write_given(makers, &g, seal).count;
+            same_seal(seal, n);
+            if (n) same_seal(seal, n - 1);
+        }
 }
 
 /* written, with room from none to enough, and refused by each number from 20 to 28 */
@@ -241,6 +296,41 @@ static void same_text(void) {
         bytes[4] = (uint8_t)(pair >> 8), bytes[5] = (uint8_t)pair;
         SAME(see_filled(s, m->c40_read(bytes, 6, s->bytes, 6144)));
         SAME(see_filled(s, m->c40_read(bytes, 8, s->bytes, 6144)));
+    }
+}
+
+/* text of every length to 80, each character replaced at each place by strangers and by a space; then with too little room */
+static void same_strangers(void) {
+    static const uint8_t strangers[] = {0, ' ', '/', ':', '<', '@', '[', 'a', 0x7F, 0x80, 0xC1, 0xFF};
+    uint8_t text[80];
+    fill_text(text, sizeof text);
+    for (size_t n = 0; n <= sizeof text; n++) {
+        for (size_t room = 0; room <= (n + 2) / 3 * 2; room++) SAME(see_filled(s, m->c40_write(text, n, s->bytes, room)));
+        for (size_t i = 0; i < n * sizeof strangers; i++) {
+            uint8_t kept = text[i / sizeof strangers];
+            text[i / sizeof strangers] = strangers[i % sizeof strangers];
+            SAME(see_filled(s, m->c40_write(text, n, s->bytes, 4096)));
+            text[i / sizeof strangers] = kept;
+        }
+    }
+}
+
+/* 2 to 80 bytes of C40 with too little room, and with each of the pairs above at each place and as the last too */
+static void same_faults(void) {
+    uint8_t text[120], bytes[80], kept[80];
+    fill_text(text, sizeof text);
+    makers->c40_write(text, sizeof text, kept, sizeof kept);
+    for (size_t n = 2; n <= sizeof bytes; n += 2) {
+        memcpy(bytes, kept, n);
+        for (size_t room = 0; room <= n / 2 * 3; room++) SAME(see_filled(s, m->c40_read(bytes, n, s->bytes, room)));
+        for (size_t i = 0; i < n; i += 2) {
+            for (size_t a = 0; a < PAIRS * PAIRS; a++) {
+                memcpy(bytes + n - 2, a % PAIRS ? pairs[a % PAIRS] : kept + n - 2, 2);
+                memcpy(bytes + i, pairs[a / PAIRS], 2);
+                if (a % PAIRS == 0 || n % 16 == 0) SAME(see_filled(s, m->c40_read(bytes, n, s->bytes, 6144)));
+            }
+            memcpy(bytes, kept, n);
+        }
     }
 }
 
@@ -313,6 +403,23 @@ static void same_signature(size_t n, const uint8_t *raw) {
         }
 }
 
+/* r with every number of leading zeros, s with some: to DER and back, and with the outer length in one byte more and in two */
+static void same_zeros(size_t n, uint8_t *raw) {
+    for (size_t k = 0; k <= n; k++) {
+        uint8_t der[148] = {0}, more[148] = {0x30, 0x81, 0}, most[148] = {0x30, 0x82, 0, 0};
+        memset(raw, 0, k);
+        memset(raw + n, 0, k % 7);
+        SAME(see_filled(s, m->signature_to_der(n, raw, 2 * n, s->bytes, 144)));
+        size_t size = makers->signature_to_der(n, raw, 2 * n, der, 144).count, head = der[1] < 0x80 ? 2 : 3;
+        more[2] = most[3] = der[head - 1];
+        memcpy(more + 3, der + head, size - head);
+        memcpy(most + 4, der + head, size - head);
+        SAME(see_filled(s, m->signature_to_raw(n, der, size, s->bytes, 132)));
+        SAME(see_filled(s, m->signature_to_raw(n, more, size - head + 3, s->bytes, 132)));
+        SAME(see_filled(s, m->signature_to_raw(n, most, size - head + 4, s->bytes, 132)));
+    }
+}
+
 static void same_signatures(void) {
     static const size_t n[] = {28, 32, 48, 64, 66};
     static const uint8_t zero[132];
@@ -320,6 +427,8 @@ static void same_signatures(void) {
         signatures all = make_signatures(n[i]);
         for (size_t k = 0; k < SIGNATURES; k++) same_signature(n[i], all.raw[k]);
         same_signature(n[i], zero);
+        same_zeros(n[i], all.raw[1]);
+        same_zeros(n[i], all.raw[2]);
     }
     for (size_t k = 0; k < 100; k++) {
         fr_hashed a;
@@ -340,7 +449,9 @@ size_t compare_all(void) {
     same_seals(&four, 150);
     same_seals(&full, 260);
     same_names();
+    same_orders();
     all_met();
+    same_lengths();
     same_writes(&three);
     same_writes(&four);
     same_write(full);
@@ -351,6 +462,8 @@ size_t compare_all(void) {
     same_tag_places(four);
     same_tag_places(full);
     same_text();
+    same_strangers();
+    same_faults();
     same_dates();
     same_integers();
     same_signatures();

@@ -1,7 +1,7 @@
-/* Plain C for the dates, fr_date_from_number and fr_date_to_number, and for single INTEGERs, fr_integer_read and fr_integer_write. */
-#include "blocks.h"
+/* C written for speed, for fr_date_from_number, fr_date_to_number, fr_integer_read and fr_integer_write. */
 #include "days.h"
 #include "der.h"
+#include <string.h>
 
 fr_dated c_date_from_number(size_t number) {
     fr_date d = {number / 1000000, number / 10000 % 100, number % 10000};
@@ -14,16 +14,12 @@ fr_numbered c_date_to_number(fr_date d) {
     return (fr_numbered){0, 0, d.month * 1000000 + d.day * 10000 + d.year};
 }
 
-/* two's complement: the sign fills the bytes that are not there */
+/* 02, a length of one byte and 1 to 8 bytes of content are the only good form */
 fr_integer c_integer_read(const uint8_t *s, size_t n) {
-    size_t start, end;
-    if (!element(0x02, s, n, &start, &end) || end != n) return (fr_integer){65, 0, 0};
-    const uint8_t *content = s + start;
-    size_t m = end - start;
-    if (!is_shortest(content, m) || m > 8) return (fr_integer){65, 0, 0};
-    uint64_t w = content[0] < 0x80 ? 0 : UINT64_MAX;
-    for (size_t i = 0; i < m; i++) w = w << 8 | content[i];
-    return (fr_integer){0, 0, (int64_t)w};
+    if (n < 3 || n > 10 || s[0] != 0x02 || s[1] != n - 2 || (n > 3 && is_redundant(s[2], s[3]))) return (fr_integer){65, 0, 0};
+    int64_t value = (int8_t)s[2];
+    for (size_t i = 3; i < n; i++) value = (int64_t)((uint64_t)value << 8 | s[i]);
+    return (fr_integer){0, 0, value};
 }
 
 fr_filled c_integer_write(int64_t value, uint8_t *out, size_t room) {
@@ -36,6 +32,6 @@ fr_filled c_integer_write(int64_t value, uint8_t *out, size_t room) {
     if (room < size + 2) return (fr_filled){63, 0, 0};
     out[0] = 0x02;
     out[1] = (uint8_t)size;
-    copy(bytes + start, size, out + 2);
+    memcpy(out + 2, bytes + start, size);
     return (fr_filled){0, 0, size + 2};
 }

@@ -1,9 +1,8 @@
-/* Plain C for fr_read and fr_judge: the same answers in the same order, by the same items. A cursor by value; text decoded through the chart into a small
-   buffer and tested character by character; each tag looked for among those so far; and once all is judged a second walk that writes the rows. */
-#include "blocks.h"
-#include "c40.h"
+/* C written for speed, for fr_read and fr_judge: item by item in one way for good and refused seals; a bit a tag tells whether it was used; text
+   through the table of pairs; once all is judged a second walk, which tests nothing, writes the rows, and the text goes by memcpy. */
 #include "days.h"
 #include "letters.h"
+#include "tables.h"
 
 typedef struct { size_t place; } cursor;
 /* an item that is read, one that is cut short (2), and one with its own number, whose value is how far into it the fault is */
@@ -100,34 +99,37 @@ static item names_at(cursor at, const uint8_t *s, size_t n, size_t version, uint
 
 /* how many there are, and the place of FF */
 static item features_at(cursor at, const uint8_t *s, size_t n, size_t version, refusal *r) {
-    uint8_t tags[255] = {0};
+    uint64_t used[4] = {0};
     size_t count = 0;
     for (;;) {
         item tag = byte_at(at, s, n);
         if (tag.kind != READ) return *r = why(tag, 2, at.place), tag;
         if (tag.value == 0xFF) return is(count, at.place);
-        if (has(tags, count, (uint8_t)tag.value)) return *r = (refusal){9, at.place}, wrong_item;
+        uint64_t bit = (uint64_t)1 << (tag.value & 63), *word = used + (tag.value >> 6);
+        if (*word & bit) return *r = (refusal){9, at.place}, wrong_item;
+        *word |= bit;
         item length = feature_length(tag.next, s, n, version);
         if (length.kind != READ) return *r = why(length, 8, tag.next.place), length;
         item value = skip(length.next, n, length.value);
         if (value.kind != READ) return *r = why(value, 2, length.next.place), value;
-        tags[count++] = (uint8_t)tag.value;
+        count++;
         at = value.next;
     }
 }
 
-static void put_rows(cursor at, const uint8_t *s, size_t n, size_t version, size_t count, size_t *table) {
-    for (size_t i = 0; i < count; i++) {
-        item tag = byte_at(at, s, n);
-        if (tag.kind != READ) return;
-        item length = feature_length(tag.next, s, n, version);
-        if (length.kind != READ) return;
-        size_t *row = table + FR_ROW * i;
-        row[FR_ROW_TAG] = tag.value;
-        row[FR_ROW_TAG_PLACE] = at.place;
-        row[FR_ROW_VALUE_PLACE] = length.next.place;
-        row[FR_ROW_VALUE_LENGTH] = length.value;
-        at.place = length.next.place + length.value;
+/* the rows of features that were judged, with no test left to make */
+static void put_rows(size_t at, const uint8_t *s, size_t version, size_t count, size_t *row) {
+    for (; count-- > 0; row += FR_ROW) {
+        size_t size = s[at + 1], value = at + 2;
+        if (version == 4 && size >= 0x80) {
+            size_t k = size - 0x80;
+            for (size = 0; k-- > 0;) size = size * 256 + s[value++];
+        }
+        row[FR_ROW_TAG] = s[at];
+        row[FR_ROW_TAG_PLACE] = at;
+        row[FR_ROW_VALUE_PLACE] = value;
+        row[FR_ROW_VALUE_LENGTH] = size;
+        at = value + size;
     }
 }
 
@@ -181,16 +183,16 @@ static fr_reading judge(const uint8_t *s, size_t n, uint8_t *names) {
 }
 
 fr_reading c_read(const uint8_t *s, size_t n, size_t *table, size_t numbers, uint8_t *text, size_t room) {
-    uint8_t names[259] = {0};
+    uint8_t names[259];
     fr_reading a = judge(s, n, names);
     if (a.number) return a;
     if (numbers < FR_ROW * a.count || room < 4 + a.header.length) return refuse((refusal){12, 0});
-    put_rows((cursor){a.ends.header}, s, n, a.header.version, a.count, table);
-    copy(names, 4 + a.header.length, text);
+    put_rows(a.ends.header, s, a.header.version, a.count, table);
+    memcpy(text, names, 4 + a.header.length);
     return a;
 }
 
 fr_reading c_judge(const uint8_t *s, size_t n) {
-    uint8_t names[259] = {0};
+    uint8_t names[259];
     return judge(s, n, names);
 }

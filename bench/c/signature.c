@@ -1,6 +1,6 @@
-/* Plain C for fr_signature_to_der, fr_signature_to_raw and fr_hash: all is judged before the first byte is written. */
-#include "blocks.h"
+/* C written for speed, for fr_signature_to_der, fr_signature_to_raw and fr_hash: all is judged before the first byte is written; copies by memcpy. */
 #include "der.h"
+#include <string.h>
 
 static fr_filled filled(size_t count) { return (fr_filled){0, 0, count}; }
 static fr_filled refused(size_t number) { return (fr_filled){number, 0, 0}; }
@@ -18,7 +18,7 @@ static size_t put_integer(const uint8_t *r, size_t n, size_t start, uint8_t *out
     out[at++] = 2;
     out[at++] = (uint8_t)size;
     if (r[start] >= 0x80) out[at++] = 0;
-    copy(r + start, n - start, out + at);
+    memcpy(out + at, r + start, n - start);
     return at + n - start;
 }
 
@@ -52,8 +52,8 @@ static int number(size_t n, const uint8_t *t, size_t size, size_t *start, size_t
 }
 
 static void put_padded(const uint8_t *d, size_t m, size_t n, uint8_t *out) {
-    clear(out, n - m);
-    copy(d, m, out + n - m);
+    if (m < n) memset(out, 0, n - m);
+    memcpy(out + n - m, d, m);
 }
 
 fr_filled c_signature_to_raw(size_t n, const uint8_t *der, size_t size, uint8_t *out, size_t room) {

@@ -1,9 +1,8 @@
-/* Plain C for fr_why: the judge's walk (reader.c), which ends at the first rule that is broken, with the item, the rule
-   and the bytes judged. */
-#include "blocks.h"
-#include "c40.h"
+/* C written for speed, for fr_why: the judge's walk (reader.c), which ends at the first rule that is broken, with the item, the rule and the bytes
+   judged. */
 #include "days.h"
 #include "letters.h"
+#include "tables.h"
 
 /* the seal, the place of the item, and why the walk has ended, if it has */
 typedef struct {
@@ -113,13 +112,14 @@ static int value_at(walk *w, size_t version) {
 }
 
 static int features_at(walk *w, size_t version) {
-    uint8_t tags[255] = {0};
-    for (size_t count = 0;; count++) {
+    uint64_t used[4] = {0};
+    for (;;) {
         if (!there(w, FR_ITEM_TAG, 1)) return 0;
         uint8_t tag = w->s[w->at];
         if (tag == 0xFF) return step(w, 1);
-        if (!keeps(w, !has(tags, count, tag), FR_ITEM_TAG, FR_RULE_NOT_USED_BEFORE, 1)) return 0;
-        tags[count] = tag;
+        uint64_t bit = (uint64_t)1 << (tag & 63), *word = used + (tag >> 6);
+        if (!keeps(w, !(*word & bit), FR_ITEM_TAG, FR_RULE_NOT_USED_BEFORE, 1)) return 0;
+        *word |= bit;
         step(w, 1);
         if (!value_at(w, version)) return 0;
     }
@@ -137,7 +137,7 @@ static int signature_at(walk *w) {
 }
 
 static int header_at(walk *w, size_t *version) {
-    uint8_t text[255] = {0};
+    uint8_t text[255];
     if (!version_at(w, version) || !country_at(w)) return 0;
     if (!(*version == 3 ? names_of_three(w, text) : names_of_four(w, text))) return 0;
     return date_at(w, FR_ITEM_ISSUED) && date_at(w, FR_ITEM_SIGNED) && last_at(w, FR_ITEM_DEFINITION)

@@ -1,8 +1,8 @@
-/* Plain C for fr_write: the same answers in the same order, all of them before the first byte is written. The tags so far are marked in a small table; the
-   size is summed up before the room is judged; then the parts are put down one after another, each by a function that gives back the place reached. */
-#include "blocks.h"
+/* C written for speed, for fr_write: the same answers in the same order, all of them before the first byte is written. A bit a
+   tag tells whether it was used; text goes down through the tables, values and signature by memcpy. */
 #include "days.h"
 #include "letters.h"
+#include "tables.h"
 
 static int is_country(const uint8_t *c) {
     if (!is_letter(c[0])) return 0;
@@ -21,22 +21,25 @@ static int are_names(const fr_header *h, const uint8_t *text, size_t n) {
 
 static int is_last(size_t x) { return x >= 1 && x <= 254; }
 
+/* 24: a bit a tag tells whether it was used */
 static int are_rows(const size_t *rows, size_t n, size_t size) {
-    uint8_t used[255] = {0};
+    uint64_t used[4] = {0};
     if (n % FR_ROW) return 0;
-    for (size_t i = 0; i < n; i += FR_ROW) {
-        size_t tag = rows[i + FR_ROW_TAG], place = rows[i + FR_ROW_VALUE_PLACE];
-        if (tag > 254 || used[tag]) return 0;
-        used[tag] = 1;
-        if (place > size || rows[i + FR_ROW_VALUE_LENGTH] > size - place) return 0;
+    for (const size_t *row = rows; row < rows + n; row += FR_ROW) {
+        size_t tag = row[FR_ROW_TAG], place = row[FR_ROW_VALUE_PLACE];
+        if (tag > 254 || place > size || row[FR_ROW_VALUE_LENGTH] > size - place) return 0;
+        uint64_t bit = (uint64_t)1 << (tag & 63), *word = used + (tag >> 6);
+        if (*word & bit) return 0;
+        *word |= bit;
     }
     return 1;
 }
 
+/* 25 */
 static int are_values(size_t version, const size_t *rows, size_t n) {
     if (version != 3) return 1;
-    for (size_t i = 0; i < n; i += FR_ROW)
-        if (rows[i + FR_ROW_VALUE_LENGTH] > 255) return 0;
+    for (size_t i = FR_ROW_VALUE_LENGTH; i < n; i += FR_ROW)
+        if (rows[i] > 255) return 0;
     return 1;
 }
 
@@ -44,34 +47,26 @@ static int is_signature(size_t n) { return n == 56 || n == 64 || n == 96 || n ==
 
 static size_t width_of(size_t version, size_t size) { return version == 3 || size < 0x80 ? 1 : size < 0x100 ? 2 : 3; }
 
-/* a sum that stops past 4,096 */
+/* 27: a sum that stops past 4,096 */
 static size_t seal_size(const fr_header *h, size_t characters, const size_t *rows, size_t n, size_t raw) {
-    size_t names = h->version == 3 ? 6 : (characters + 4) / 3 * 2;
-    size_t total = 12 + names + 1 + width_of(4, raw) + raw;
-    for (size_t i = 0; i < n; i += FR_ROW) {
-        size_t size = rows[i + FR_ROW_VALUE_LENGTH];
-        if (size > 4096) return 4097;
-        total += 1 + width_of(h->version, size) + size;
-        if (total > 4096) return 4097;
+    size_t total = 12 + (h->version == 3 ? 6 : (characters + 4) / 3 * 2) + 1 + width_of(4, raw) + raw;
+    for (size_t i = FR_ROW_VALUE_LENGTH; i < n; i += FR_ROW) {
+        if (rows[i] > FR_SEAL_MOST) return FR_SEAL_MOST + 1;
+        total += 1 + width_of(h->version, rows[i]) + rows[i];
     }
     return total;
 }
 
+/* the value of a character that was judged; for so few no table is looked up */
 static unsigned value_of(uint8_t c) { return c == ' ' ? 3 : c < 'A' ? c - '0' + 4u : c - 'A' + 14u; }
-
-static size_t put_number(uint8_t *out, size_t at, unsigned v) {
-    out[at] = (uint8_t)(v / 256);
-    out[at + 1] = (uint8_t)(v % 256);
-    return at + 2;
-}
 
 /* text in C40, its characters judged before */
 static size_t put_text(uint8_t *out, size_t at, const uint8_t *t, size_t n) {
     size_t i = 0;
-    for (; i + 2 < n; i += 3) at = put_number(out, at, 1600 * value_of(t[i]) + 40 * value_of(t[i + 1]) + value_of(t[i + 2]) + 1);
-    if (i + 2 == n) return put_number(out, at, 1600 * value_of(t[i]) + 40 * value_of(t[i + 1]) + 1);
-    if (i < n) return put_number(out, at, 0xFE00 + t[i] + 1);
-    return at;
+    for (; i + 2 < n; i += 3, at += 2) put_pair(out + at, 1600 * value_of(t[i]) + 40 * value_of(t[i + 1]) + value_of(t[i + 2]) + 1);
+    if (i == n) return at;
+    put_pair(out + at, i + 2 == n ? 1600 * value_of(t[i]) + 40 * value_of(t[i + 1]) + 1 : 0xFE00u + t[i] + 1);
+    return at + 2;
 }
 
 static uint8_t hex_digit(size_t n) { return (uint8_t)(n < 10 ? '0' + n : 'A' + n - 10); }
@@ -103,13 +98,14 @@ static size_t put_length(uint8_t *out, size_t at, size_t version, size_t size) {
         return at + 2;
     }
     out[at] = 0x82;
-    return put_number(out, at + 1, (unsigned)size);
+    put_pair(out + at + 1, (uint32_t)size);
+    return at + 3;
 }
 
 static size_t put_feature(uint8_t *restrict out, size_t at, size_t version, size_t tag, const uint8_t *restrict value, size_t size) {
     out[at] = (uint8_t)tag;
     at = put_length(out, at + 1, version, size);
-    copy(value, size, out + at);
+    if (size) memcpy(out + at, value, size);
     return at + size;
 }
 
@@ -130,20 +126,18 @@ static void put_seal(const fr_header *h, const uint8_t *text, size_t characters,
     put_feature(out, at, 4, 0xFF, signature, raw);
 }
 
-static fr_filled refused(size_t number) { return (fr_filled){number, 0, 0}; }
-
 fr_filled c_write(fr_header h, const uint8_t *text, size_t characters, const size_t *rows, size_t numbers, const uint8_t *values, size_t size,
                   const uint8_t *signature, size_t raw, uint8_t *out, size_t room) {
-    if (h.version != 3 && h.version != 4) return refused(20);
-    if (!are_names(&h, text, characters)) return refused(21);
-    if (!is_day(h.issued_on) || !is_day(h.signed_on)) return refused(22);
-    if (!is_last(h.definition) || !is_last(h.category)) return refused(23);
-    if (!are_rows(rows, numbers, size)) return refused(24);
-    if (!are_values(h.version, rows, numbers)) return refused(25);
-    if (!is_signature(raw)) return refused(26);
+    if (h.version != 3 && h.version != 4) return refused(20, 0);
+    if (!are_names(&h, text, characters)) return refused(21, 0);
+    if (!is_day(h.issued_on) || !is_day(h.signed_on)) return refused(22, 0);
+    if (!is_last(h.definition) || !is_last(h.category)) return refused(23, 0);
+    if (!are_rows(rows, numbers, size)) return refused(24, 0);
+    if (!are_values(h.version, rows, numbers)) return refused(25, 0);
+    if (!is_signature(raw)) return refused(26, 0);
     size_t total = seal_size(&h, characters, rows, numbers, raw);
-    if (total > 4096) return refused(27);
-    if (room < total) return refused(28);
+    if (total > FR_SEAL_MOST) return refused(27, 0);
+    if (room < total) return refused(28, 0);
     put_seal(&h, text, characters, rows, numbers, values, signature, raw, out);
-    return (fr_filled){0, 0, total};
+    return filled(total);
 }
