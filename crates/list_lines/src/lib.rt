@@ -10,7 +10,6 @@ use dates::Date;
 use lines::put;
 use lines::put_number;
 use lines::put_text;
-pub use named::part;
 pub use named::put_counted;
 use named::put_day;
 pub use named::put_named;

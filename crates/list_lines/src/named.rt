@@ -1,10 +1,10 @@
 // A line of a name, and after it a text, a number or a date.
-ghost use mathlib.Core.Path.{_≡_};
 ghost use lib.ListN.{take, drop};
 ghost use Rattle.lines.specs.Line.{Put, decimalOf};
 ghost use Rattle.list_lines.specs.ListLine.{lineOf, day};
 use crate::date::put_date;
 use dates::Date;
+use lent::part;
 use lines::put;
 use lines::put_number;
 use lines::put_text;
@@ -24,21 +24,6 @@ pub fn put_named(
     let mut o = put_text(out, at, name);
     o = put_text(out, o, part(text, from, size));
     put(out, o, b'\n')
-}
-
-// `size` bytes of `text` from a place on, as far as they are there.
-pub fn part(text: &[u8], from: usize, size: usize) -> &[u8]
-    ensures { λ r. ⌜ now r ≡ take size (drop from (now (text .entry))) ⌝ }
-{
-    let n = text.len();
-    if n < from {
-        return &text[n..];
-    }
-    if n - from < size {
-        return &text[from..];
-    }
-    let end = from + size;
-    &text[from..end]
 }
 
 // Puts down a line of a name and a number.

@@ -44,7 +44,7 @@ returns-2 c =
     let part = put .before in
     let test = part .before .before .before in
     let other : eqb (number (test .before)) 0 ≡ false = ne-eqb _ _ (test .if1 .left) in
-    rw other (rw (part .part .ensures) at (put .put-reason .ensures))
+    rw other (rw (part .part .ensures .bytes) at (put .put-reason .ensures))
 
 pub put-why-spec : {M : Type 1} → statement M
 put-why-spec =

@@ -26,7 +26,7 @@ returns c =
     let bytes = end .before .before .before .before in
     let name = bytes .before .before .before .before .before in
     put-more _ _ _ _ _ _ _ _ (name .put-text .ensures) (name .put-text .kept .0)
-    (put-more _ _ _ _ _ _ _ _ (rw (bytes .before .part .ensures) at (bytes .put-text2 .ensures)) (bytes .put-text2 .kept .0)
+    (put-more _ _ _ _ _ _ _ _ (rw (bytes .before .part .ensures .bytes) at (bytes .put-text2 .ensures)) (bytes .put-text2 .kept .0)
     (end .put .ensures))
 
 pub put-named-spec : {M : Type 1} → statement M
