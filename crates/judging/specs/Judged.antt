@@ -3,10 +3,13 @@
 pub mod Names
 use mathlib.Core.Path.{_≡_, refl, ap, sym, _∙_}
 use Prim.Native.Nat.{ℕ, _+_, _≤_, _<_}
+use native.Mathlib.Omega.{arith}
+use native.Mathlib.Decide.{decLe}
 use borrow.Author.Tests.{lt-ltb, le-ltb}
 use mathlib.Core.List.{List, []}
 use lib.Dec.{ltb}
-use lib.ListN.{length}
+use lib.ListN.{length, take, length-take}
+use lib.Seq.{take-all}
 use Rattle.format.specs.Choice.{pick}
 use Rattle.versions.specs.declared.Version.{Version}
 use Rattle.versions.specs.Versions.{versionNumber}
@@ -15,7 +18,7 @@ use Rattle.causes.specs.declared.Item.the-variants as item
 use Rattle.causes.specs.declared.Rule.the-variants as rule
 use Rattle.causes.specs.declared.Why.{Why}
 use Rattle.verdict.specs.Items.{is, not, why, pass, Names as NamesOf}
-use Rattle.verdict.specs.Judge.{Row, Report, header, features, signature, reading, judging}
+use Rattle.verdict.specs.Judge.{Row, Report, header, features, signature, reading, judging, verdict, judge}
 use Rattle.read_items.specs.Meaning.{through}
 use Rattle.read_names.specs.Meaning.{textOver}
 use Rattle.read_header.specs.Steps.{Fields, Dated, fields, dated, namesIn}
@@ -68,6 +71,15 @@ over-short old s new h e = e ∙ sym (ap (λ b. pick b old (textOver old (throug
 pub judge-long : (s : List ℕ) → 4096 < length s → judging s ≡ not (why item.Seal rule.NotTooLong) 4096
 unfolding judging
 judge-long s h = ap (λ b. pick b (not (why item.Seal rule.NotTooLong) 4096) (reading s)) (lt-ltb 4096 (length s) h)
+
+-- so a byte string is judged by its first 4,097 bytes, or more, as by all of them
+taken-judged : (n : ℕ) → 4096 < n → (s : List ℕ) → Dec (length s ≤ n) → judge (take n s) ≡ judge s
+unfolding judge
+taken-judged n h s (yes short) = ap judge (take-all n s short)
+taken-judged n h s (no long) = ap verdict (judge-long (take n s) (omega (arith, length-take n s)) ∙ sym (judge-long s (omega arith)))
+
+pub judge-taken : (n : ℕ) → 4096 < n → (s : List ℕ) → judge (take n s) ≡ judge s
+judge-taken n h s = taken-judged n h s (decLe (length s) n)
 
 pub judge-reading : (s : List ℕ) → length s ≤ 4096 → judging s ≡ reading s
 unfolding judging

@@ -3,11 +3,10 @@
 use mathlib.Core.Path.{_≡_, refl, ap, ap₂, sym, subst, _∙_}
 use Prim.Native.Nat.{ℕ, _*_, _≤_, _<_}
 use native.Mathlib.Omega.{arith}
-use native.Mathlib.Decide.{decLe}
 use borrow.Author.Tests.{ne-eqb}
 use mathlib.Core.List.{List, _++_, append-assoc}
-use lib.ListN.{length, take, drop, length-take}
-use lib.Seq.{take-at, drop-at, take-all}
+use lib.ListN.{length, take, drop}
+use lib.Seq.{take-at, drop-at}
 use Rattle.format.specs.Choice.{pick}
 use Rattle.format.specs.Bytes.{Bytes}
 use Rattle.format.specs.Answers.{done, filled}
@@ -17,9 +16,9 @@ use Rattle.rows.specs.declared.Row.{Row}
 use Rattle.rows.specs.Rows.{width, table}
 use Rattle.rows.specs.Rows.Laws.{rows-taken}
 use Rattle.list_lines.specs.ListLine.{nameLines, dateLines, refusal}
-use Rattle.verdict.specs.Judge.{Verdict, accepted, refused, verdict, judge}
+use Rattle.verdict.specs.Judge.{Verdict, accepted, refused, judge}
 use Rattle.verdict.specs.Judge.Listed.{FromList, from-list}
-use Rattle.judging.specs.Judged.{judge-long}
+use Rattle.judging.specs.Judged.{judge-taken}
 use Rattle.reading.specs.Calls.{answerOf, given, reading, rowsIn, textIn, then}
 use Rattle.reading.specs.Calls.Reads.{accepted-report, both-fit}
 use Rattle.reading.specs.declared.Reading.{Reading}
@@ -81,15 +80,8 @@ four-signed s bytes (accepted r) e =
     subst Signed (sym (a .judged) ∙ e) (a .signer)
 four-signed s bytes (refused number place) e = tt
 
--- a longer input is refused by its first 4,097 bytes, or more, as by all of them
-by-length : (n : ℕ) → 4096 < n → (s : List ℕ) → Dec (length s ≤ n) → judge (take n s) ≡ judge s
-unfolding judge
-by-length n h s (yes short) = ap judge (take-all n s short)
-by-length n h s (no long) =
-    ap verdict (judge-long (take n s) (omega (arith, length-take n s)) ∙ sym (judge-long s (omega arith)))
-
 pub enough : {n : ℕ} → 4096 < n → Enough n
-enough {n} h = record { same = λ s. ap listed (by-length n h s (decLe (length s) n)) }
+enough {n} h = record { same = λ s. ap listed (judge-taken n h s) }
 
 -- a refusal's place, told by the answer
 abbrev pub Small : Reading → Type 0

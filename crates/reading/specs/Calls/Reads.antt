@@ -108,12 +108,13 @@ length-rows-of v at (f ∷ fs) =
     let ih = length-rows-of v (at + 1 + length (lengthOf v (length (f .value))) + length (f .value)) fs in
     ap suc ih
 
-walk :
+-- the features of a seal that was accepted, as they were judged
+pub judged-features :
     (s : List ℕ) (r : Report) →
     judge s ≡ accepted r →
     features 256 (r .header .version) [] (r .header-end) s ≡ is (r .rows) (r .message-end)
 unfolding judge judging readingOf
-walk s r e =
+judged-features s r e =
     by-test (ltb 4096 (length s))
     (λ t. absurd (unaccepted 1 4096 r (sym (ap (λ b. verdict (pick b (not (why item.Seal rule.NotTooLong) 4096) (readingOf s))) t) ∙ e)))
     (λ t.
@@ -153,7 +154,7 @@ accepted-report s bytes q v r a same-version e =
           subst (λ z. length (z .rows) ≤ 255) (sym same)
           (subst (λ n. n ≤ 255) (sym (length-rows-of (c .header .version) (length (headerZone (c .header))) (c .features)))
           (features-most c l));
-      walked = walk s r e;
+      walked = judged-features s r e;
     }
 
 by-way :

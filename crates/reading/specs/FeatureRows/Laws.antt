@@ -19,7 +19,7 @@ use Rattle.verdict.specs.Judge.{Row, used, tagIn, tag, row, features}
 use Rattle.reading.specs.FeatureRows.{rowsAt, rowsRead, AreRead}
 
 -- a tag that was read is the byte there
-tag-plain : (rows : List Row) (at : ℕ) (s : List ℕ) (x after : ℕ) → tag rows at s ≡ is x after → byte at s (plainIn at) ≡ is x after
+pub tag-plain : (rows : List Row) (at : ℕ) (s : List ℕ) (x after : ℕ) → tag rows at s ≡ is x after → byte at s (plainIn at) ≡ is x after
 unfolding tag
 tag-plain rows at s x after e =
     let w = whole-read 1 at s (λ b. tagIn rows at (getD b 0 0)) x after e in
