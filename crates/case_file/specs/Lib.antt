@@ -1,5 +1,6 @@
--- What the contracts of `case_file` cite: building a line, what a line says of a buffer, and what an answer tells.
+-- What the contracts of `case_file` cite: building a line, what a line gives, what it says of a buffer, and what an answer tells.
 -- Assumes nothing.
 pub mod Line
 pub mod Fill
+pub mod Given
 pub mod Tells

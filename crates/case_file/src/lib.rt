@@ -1,5 +1,6 @@
 // What the crates share that run a line of a file of cases: a case is a line of text, and so is its answer.
 mod fill;
+mod given;
 mod line;
 
 pub use case_scan::Decimal;
@@ -13,6 +14,8 @@ pub use fill::put_call;
 pub use fill::put_filled;
 pub use fill::reach;
 pub use fill::whole_rows;
+pub use given::after;
+pub use given::any_number;
 pub use line::checksum;
 pub use line::put_answer;
 pub use line::put_bytes;

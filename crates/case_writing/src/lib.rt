@@ -3,46 +3,14 @@
 ghost use Prim.Native.Nat.{_≤_};
 ghost use lib.ListN.{length};
 ghost use Rattle.case_file.specs.Line.{Within, Counts};
-use case_file::Decimal;
+use case_file::after;
+use case_file::any_number;
 use case_file::at;
 use case_file::put_call;
 use case_file::put_text;
 use dates::Date;
 use face::FrFilled;
 use fields::Header;
-
-// The greatest number that a header or a row can have.
-const GREATEST: usize = 18446744073709551615;
-
-// The place after the first such letter, or the end: where a part of a case stands.
-fn after(line: &[u8], letter: u8) -> usize
-    ensures { λ r. ⌜ r ≤ length (now (line .entry)) ⌝ }
-{
-    let mut i: usize = 0;
-    while i < line.len() {
-        if line[i] == letter {
-            return i + 1;
-        }
-        i += 1;
-    }
-    i
-}
-
-// The decimal number at a place; after `~` it is counted down from the greatest, which has more digits than are read.
-fn number(line: &[u8], from: usize) -> Decimal
-    ensures { λ r. ⌜ (from ≤ r .next) × Within (now (line .entry)) from (r .next) ⌝ }
-{
-    if from < line.len() {
-        if line[from] == b'~' {
-            let less = case_file::number(line, from + 1);
-            return Decimal {
-                value: GREATEST - less.value,
-                next: less.next,
-            };
-        }
-    }
-    case_file::number(line, from)
-}
 
 // The numbers that stand at a place, each after a space, put at the start of the table as far as it has room, and how many were put there.
 fn numbers(line: &[u8], from: usize, table: &mut [usize]) -> usize
@@ -51,7 +19,7 @@ fn numbers(line: &[u8], from: usize, table: &mut [usize]) -> usize
     let mut i = from;
     let mut count: usize = 0;
     while i < line.len() {
-        let word = number(line, i + 1);
+        let word = any_number(line, i + 1);
         // no digit: the part ends here
         if word.next == i + 1 {
             return count;

@@ -18,11 +18,11 @@ abbrev μ-loop : tie.MeasureT-loop
 loop-holds : tie.Need-loop-holds Inv-loop μ-loop
 loop-holds c = (refl, omega arith)
 
-add-number : tie.Need-add-number Inv-loop μ-loop
-add-number c = omega arith
+add-any-number : tie.Need-add-any-number Inv-loop μ-loop
+add-any-number c = omega arith
 
-number-requires : tie.Need-number-requires Inv-loop μ-loop
-number-requires c κs = search needs
+any-number-requires : tie.Need-any-number-requires Inv-loop μ-loop
+any-number-requires c κs = search needs
 
 add-if1 : tie.Need-add-if1 Inv-loop μ-loop
 add-if1 c = omega arith
@@ -49,7 +49,7 @@ add-count : tie.Need-add-count Inv-loop μ-loop
 add-count c = omega arith
 
 loop-less : tie.Need-loop-less Inv-loop μ-loop
-loop-less c = omega (arith, c .before .before .before .number .ensures .0)
+loop-less c = omega (arith, c .before .before .before .any-number .ensures .0 .0)
 
 loop-again : tie.Need-loop-again Inv-loop μ-loop
 loop-again c = (
@@ -70,8 +70,8 @@ numbers-spec =
     Inv-loop
     μ-loop
     loop-holds
-    add-number
-    number-requires
+    add-any-number
+    any-number-requires
     add-if1
     same-length
     returns
