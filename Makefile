@@ -2,6 +2,7 @@
 # make list   prove and build the listing program alone: target/bin/list
 # make seal-a the same, and list Seal A
 # make why    prove and build the program that says why a seal is refused, alone: target/bin/say_why
+# make features  prove and build the program that walks over the features of a seal, alone: target/bin/features
 # make lib    prove and build the library for C and Rust alone: target/lib/libfenderrope.a
 #             (does nothing where nothing changed)
 # make checker  the same, and build the program over it: target/bin/fenderrope-check
@@ -24,13 +25,14 @@
 # All that is built is for x86-64. What stands after tests/x86 is run on another machine too, by a toolchain that is
 # laid there once, or is named as not run.
 
-VERSION := 0.6.0
+VERSION := 0.7.0
 PREFIX ?= /usr/local
 FUZZ_SECONDS ?= 60
 
 RT := $(shell command -v rt 2>/dev/null)
 LIST := target/bin/list
 WHY := target/bin/say_why
+FEATURES := target/bin/features
 LIB := target/lib/libfenderrope.a
 MADE := target/lib/made
 CHECKER := target/bin/fenderrope-check
@@ -50,8 +52,8 @@ logged = mkdir -p target/log && echo "$(2): what it prints is in target/log/make
 unchanged = test -f $(LIB) && rt version | cmp -s - $(MADE) && \
 	test -z "$$(find crates/*/src crates/*/specs crates/*/proofs crates.txt -newer $(MADE) | head -n 1)"
 
-.PHONY: all base list seal-a why lib checker test face rust difference peers fuzz fmt bench vectors install uninstall
-.PHONY: clean kit native $(CHECKER)
+.PHONY: all base list seal-a why features lib checker test face rust difference peers fuzz fmt bench vectors
+.PHONY: install uninstall clean kit native $(CHECKER)
 .NOTPARALLEL:
 
 all: kit
@@ -60,7 +62,7 @@ all: kit
 
 # What the gate's tests stand on, proved at once.
 base: kit
-	@$(call logged,base,rt check list say_why capi)
+	@$(call logged,base,rt check list say_why features capi)
 
 list: kit
 	@$(call logged,list,rt check list)
@@ -70,6 +72,9 @@ seal-a: list
 
 why: kit
 	@$(call logged,why,rt check say_why)
+
+features: kit
+	@$(call logged,features,rt check features)
 
 # The stamp is as old as the beginning of the work, so that a source that changes meanwhile is younger.
 lib: kit
@@ -117,18 +122,20 @@ vectors:
 install:
 	@test -f $(LIST) || { echo "missing: $(LIST); run make list" >&2; exit 1; }
 	@test -f $(WHY) || { echo "missing: $(WHY); run make why" >&2; exit 1; }
+	@test -f $(FEATURES) || { echo "missing: $(FEATURES); run make features" >&2; exit 1; }
 	@test -f $(LIB) || { echo "missing: $(LIB); run make lib" >&2; exit 1; }
 	@test -f $(CHECKER) || { echo "missing: $(CHECKER); run make checker" >&2; exit 1; }
 	install -d "$(TO)/bin" "$(TO)/include" "$(TO)/lib/pkgconfig" "$(MAN)/man1" "$(MAN)/man3"
 	install -d "$(DOC)/docs" "$(DOC)/examples"
 	install -m 755 $(LIST) "$(TO)/bin/fenderrope-list"
 	install -m 755 $(WHY) "$(TO)/bin/fenderrope-why"
+	install -m 755 $(FEATURES) "$(TO)/bin/fenderrope-features"
 	install -m 755 $(CHECKER) "$(TO)/bin/fenderrope-check"
 	install -m 644 include/fenderrope.h "$(TO)/include/fenderrope.h"
 	install -m 644 $(LIB) "$(TO)/lib/libfenderrope.a"
 	sed -e 's|@PREFIX@|$(PREFIX)|' -e 's|@VERSION@|$(VERSION)|' fenderrope.pc.in >"$(TO)/lib/pkgconfig/fenderrope.pc"
 	chmod 644 "$(TO)/lib/pkgconfig/fenderrope.pc"
-	install -m 644 man/fenderrope-list.1 man/fenderrope-why.1 man/fenderrope-check.1 "$(MAN)/man1"
+	install -m 644 man/*.1 "$(MAN)/man1"
 	install -m 644 man/fenderrope.3 "$(MAN)/man3"
 	for call in $(CALLS); do echo '.so man3/fenderrope.3' >"$(MAN)/man3/$$call.3" || exit; done
 	chmod 644 $(CALLS:%="$(MAN)/man3/%.3")
@@ -137,9 +144,11 @@ install:
 	install -m 644 examples/*.c examples/seal-* "$(DOC)/examples"
 
 uninstall:
-	rm -f "$(TO)/bin/fenderrope-list" "$(TO)/bin/fenderrope-why" "$(TO)/bin/fenderrope-check"
+	rm -f "$(TO)/bin/fenderrope-list" "$(TO)/bin/fenderrope-why" "$(TO)/bin/fenderrope-features"
+	rm -f "$(TO)/bin/fenderrope-check"
 	rm -f "$(TO)/include/fenderrope.h" "$(TO)/lib/libfenderrope.a" "$(TO)/lib/pkgconfig/fenderrope.pc"
-	rm -f "$(MAN)/man1/fenderrope-list.1" "$(MAN)/man1/fenderrope-why.1" "$(MAN)/man1/fenderrope-check.1"
+	rm -f "$(MAN)/man1/fenderrope-list.1" "$(MAN)/man1/fenderrope-why.1" "$(MAN)/man1/fenderrope-features.1"
+	rm -f "$(MAN)/man1/fenderrope-check.1"
 	rm -f "$(MAN)/man3/fenderrope.3"
 	rm -f $(CALLS:%="$(MAN)/man3/%.3")
 	rm -rf "$(DOC)"

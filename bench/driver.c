@@ -7,10 +7,11 @@
 #include <string.h>
 #include <time.h>
 
-#define MAKER(m)                                                                                                                                     \
-    {                                                                                                                                                \
-        #m, m##_read, m##_judge, m##_why, m##_write, m##_c40_read, m##_c40_write, m##_date_from_number, m##_date_to_number, m##_integer_read,        \
-            m##_integer_write, m##_signature_to_der, m##_signature_to_raw, m##_hash                                                                  \
+#define MAKER(m)                                                                                                       \
+    {                                                                                                                  \
+        #m, m##_read, m##_judge, m##_why, m##_walk_open, m##_walk_next, m##_shown, m##_write, m##_c40_read,            \
+            m##_c40_write, m##_date_from_number, m##_date_to_number, m##_integer_read, m##_integer_write,              \
+            m##_signature_to_der, m##_signature_to_raw, m##_hash                                                       \
     }
 
 const maker makers[MAKERS] = {MAKER(c), MAKER(rust), MAKER(fr)};
@@ -21,6 +22,7 @@ static const maker *other = makers;
 static given g[INPUTS];
 static uint8_t seal[INPUTS][4096], text[INPUTS][6144], bytes[INPUTS][4096], raws[INPUTS][64], ders[INPUTS][144], integers[INPUTS][10], out[6144];
 static size_t table[FR_TABLE_MOST], size[INPUTS], characters[INPUTS], widths[INPUTS], number[INPUTS], wanted;
+static size_t start[INPUTS], tag[INPUTS];
 static fr_date date[INPUTS];
 
 /* calls a call so many times on input i, and gives how many were answered with another number than is wanted, which is 0 where no other is said */
@@ -70,6 +72,35 @@ static void ready_used(void) {
     wanted = 9;
 }
 
+/* where the walk over each seal starts; a whole walk ends with 51 */
+static void open_all(size_t number) {
+    EACH start[i] = other->walk_open(seal[i], size[i]).at;
+    wanted = number;
+}
+
+static void ready_step(void) { ready_typical(), open_all(0); }
+static void ready_walk(void) { ready_typical(), open_all(51); }
+static void ready_long_walk(void) { ready_full(), open_all(51); }
+
+/* small seals with a feature each; the extension of each is the next one, which has another tag */
+static size_t after(size_t i) { return (i + 1) % INPUTS; }
+static size_t tag_of(size_t i) { return g[i].rows[FR_ROW_TAG]; }
+
+static void ready_two(void) {
+    ready_small();
+    EACH while (tag_of(i) == tag_of(after(i))) lend(i, real_small(any_version()));
+}
+
+static void ready_in_extension(void) {
+    ready_two();
+    EACH tag[i] = tag_of(after(i));
+}
+
+static void ready_in_main(void) {
+    ready_two();
+    EACH tag[i] = tag_of(i);
+}
+
 static void ready_text(size_t least, size_t most) {
     EACH {
         characters[i] = least + draw(most - least + 1);
@@ -96,6 +127,8 @@ static void ready_nothing(void) {}
 static size_t run_read(const maker *m, size_t times) { LOOP(m->read(seal[i], size[i], table, FR_TABLE_MOST, out, FR_TEXT_MOST)); }
 static size_t run_judge(const maker *m, size_t times) { LOOP(m->judge(seal[i], size[i])); }
 static size_t run_why(const maker *m, size_t times) { LOOP(m->why(seal[i], size[i])); }
+static size_t run_open(const maker *m, size_t times) { LOOP(m->walk_open(seal[i], size[i])); }
+static size_t run_step(const maker *m, size_t times) { LOOP(m->walk_next(seal[i], size[i], start[i])); }
 static size_t run_write(const maker *m, size_t times) { LOOP(write_given(m, g + i, out)); }
 static size_t run_c40_read(const maker *m, size_t times) { LOOP(m->c40_read(bytes[i], widths[i], out, 6144)); }
 static size_t run_c40_write(const maker *m, size_t times) { LOOP(m->c40_write(text[i], characters[i], out, 4096)); }
@@ -105,6 +138,21 @@ static size_t run_integer_read(const maker *m, size_t times) { LOOP(m->integer_r
 static size_t run_integer_write(const maker *m, size_t times) { LOOP(m->integer_write(integer_at(i), out, 10)); }
 static size_t run_to_der(const maker *m, size_t times) { LOOP(m->signature_to_der(32, raws[i], 64, out, 73)); }
 static size_t run_to_raw(const maker *m, size_t times) { LOOP(m->signature_to_raw(32, ders[i], widths[i], out, 64)); }
+
+/* all steps of a walk, with the one that ends it */
+static fr_step walk(const maker *m, size_t i) {
+    fr_step step = m->walk_next(seal[i], size[i], start[i]);
+    while (step.number == 0) step = m->walk_next(seal[i], size[i], step.at);
+    return step;
+}
+
+static size_t run_walk(const maker *m, size_t times) { LOOP(walk(m, i)); }
+
+static fr_where show(const maker *m, size_t i) {
+    return m->shown(seal[i], size[i], seal[after(i)], size[after(i)], tag[i]);
+}
+
+static size_t run_shown(const maker *m, size_t times) { LOOP(show(m, i)); }
 
 static size_t run_hash(const maker *m, size_t times) {
     static const size_t n[4] = {28, 32, 48, 64};
@@ -121,6 +169,10 @@ static const struct {
     {"judge-cut", ready_cut, run_judge},        {"judge-signer", ready_signer, run_judge},  {"judge-used", ready_used, run_judge},
     {"why-82", ready_small, run_why},           {"why-150", ready_typical, run_why},        {"why-4096", ready_full, run_why},
     {"why-cut", ready_cut, run_why},            {"why-signer", ready_signer, run_why},      {"why-used", ready_used, run_why},
+    {"open-150", ready_typical, run_open},      {"open-4096", ready_full, run_open},
+    {"step", ready_step, run_step},             {"walk-150", ready_walk, run_walk},
+    {"walk-4096", ready_long_walk, run_walk},   {"shown-extension", ready_in_extension, run_shown},
+    {"shown-main", ready_in_main, run_shown},
     {"write-82", ready_small, run_write},       {"write-150-4", ready_four, run_write},     {"write-150-3", ready_three, run_write},
     {"write-4096", ready_full, run_write},      {"c40-read-short", ready_short, run_c40_read}, {"c40-read", ready_long, run_c40_read},
     {"c40-write-short", ready_short, run_c40_write}, {"c40-write", ready_long, run_c40_write},

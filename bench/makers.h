@@ -9,6 +9,9 @@ typedef struct {
     __typeof__(fr_read) *read;
     __typeof__(fr_judge) *judge;
     __typeof__(fr_why) *why;
+    __typeof__(fr_walk_open) *walk_open;
+    __typeof__(fr_walk_next) *walk_next;
+    __typeof__(fr_shown) *shown;
     __typeof__(fr_write) *write;
     __typeof__(fr_c40_read) *c40_read;
     __typeof__(fr_c40_write) *c40_write;

@@ -1,23 +1,16 @@
 /* The three makers on the same inputs, good and refused: answers, filled buffers and the memory past what is written must be the same, bit for bit. */
-#include "inputs.h"
+#include "same.h"
 #include <stdio.h>
 #include <stdlib.h>
-#include <string.h>
 
-/* what a call gave: the fields of its answer, and the buffers that it was lent */
-typedef struct {
-    size_t fields[20], table[FR_TABLE_MOST + 2 * FR_ROW];
-    uint8_t bytes[6200];
-} seen;
-
-static seen got[MAKERS];
+seen got[MAKERS];
 static size_t inputs;
 
 /* by item and rule, whether some seal breaks that rule of that item; the first is for accepted seals */
 enum { RULES = 19 };
 static uint8_t met[18 * RULES];
 
-static void judge_same(const char *call) {
+void judge_same(const char *call) {
     inputs++;
     for (int i = 1; i < MAKERS; i++)
         if (memcmp(got, got + i, sizeof *got)) {
@@ -27,24 +20,11 @@ static void judge_same(const char *call) {
         }
 }
 
-/* stops unless the input of a call gave this number, as it was meant to */
-static void expect(size_t number) {
+void expect(size_t number) {
     if (got[0].fields[0] != number) fprintf(stderr, "bench: input for %zu gives %zu\n", number, got[0].fields[0]), exit(1);
 }
 
-/* makes a call by each maker m, which leaves what it gave in s */
-#define SAME(CALL)                                                                                                                                   \
-    do {                                                                                                                                             \
-        for (int i = 0; i < MAKERS; i++) {                                                                                                           \
-            const maker *m = makers + i;                                                                                                             \
-            seen *s = got + i;                                                                                                                       \
-            memset(s, 0x5A, sizeof *s);                                                                                                              \
-            CALL;                                                                                                                                    \
-        }                                                                                                                                            \
-        judge_same(#CALL);                                                                                                                           \
-    } while (0)
-
-static void see(seen *s, size_t number, size_t place, size_t value) {
+void see(seen *s, size_t number, size_t place, size_t value) {
     s->fields[0] = number;
     s->fields[1] = place;
     s->fields[2] = value;
@@ -90,8 +70,9 @@ static void same_read(const uint8_t *seal, size_t n, size_t numbers, size_t room
     SAME(see_reading(s, m->read(seal, n, s->table, numbers, s->bytes, room)));
 }
 
-/* with room for every seal */
+/* with room for every seal; the answer that is looked at behind it is the last one */
 static void same_seal(const uint8_t *seal, size_t n) {
+    same_walk(seal, n);
     same_read(seal, n, FR_TABLE_MOST, FR_TEXT_MOST);
     SAME(see_reading(s, m->judge(seal, n)));
     SAME(see_reason(s, m->why(seal, n)));
@@ -113,7 +94,7 @@ static void same_rooms(const uint8_t *seal, size_t n, const given *g) {
 }
 
 /* the values that a byte is changed to */
-static const uint8_t others[] = {0, 1, 3, 0x30, 0x7F, 0x80, 0x81, 0x82, 0xFA, 0xFE, 0xFF};
+const uint8_t others[OTHERS] = {0, 1, 3, 0x30, 0x7F, 0x80, 0x81, 0x82, 0xFA, 0xFE, 0xFF};
 
 /* whole, cut short anywhere, with one more, with too little room, and with a byte changed before place `front` or in the last 140 */
 static void same_seals(const given *g, size_t front) {
@@ -124,7 +105,7 @@ static void same_seals(const given *g, size_t front) {
     for (size_t i = 0; i < n; i++) {
         uint8_t kept = seal[i];
         if (i >= front && i + 140 < n) continue;
-        for (size_t k = 0; k < sizeof others; k++) {
+        for (size_t k = 0; k < OTHERS; k++) {
             seal[i] = others[k];
             same_seal(seal, n);
         }
@@ -375,7 +356,7 @@ static void same_integers(void) {
             size_t n = makers->integer_write(value, bytes, 10).count;
             for (size_t k = 0; k <= n + 1; k++) same_integer(bytes, k);
             for (size_t i = 0; i < n; i++)
-                for (size_t k = 0; k < sizeof others; k++) {
+                for (size_t k = 0; k < OTHERS; k++) {
                     uint8_t kept = bytes[i];
                     bytes[i] = others[k];
                     same_integer(bytes, n);
@@ -395,7 +376,7 @@ static void same_signature(size_t n, const uint8_t *raw) {
     SAME(see_filled(s, m->signature_to_raw(28, der, size, s->bytes, 132)));
     SAME(see_filled(s, m->signature_to_raw(29, der, size, s->bytes, 132)));
     for (size_t i = 0; i < size; i++)
-        for (size_t k = 0; k < sizeof others; k++) {
+        for (size_t k = 0; k < OTHERS; k++) {
             uint8_t kept = der[i];
             der[i] = others[k];
             SAME(see_filled(s, m->signature_to_raw(n, der, size, s->bytes, 132)));
@@ -452,6 +433,10 @@ size_t compare_all(void) {
     same_orders();
     all_met();
     same_lengths();
+    same_steps(&three);
+    same_steps(&four);
+    same_forms();
+    same_shown(&three, &four, &full);
     same_writes(&three);
     same_writes(&four);
     same_write(full);

@@ -8,6 +8,9 @@
 TWINS(read);
 TWINS(judge);
 TWINS(why);
+TWINS(walk_open);
+TWINS(walk_next);
+TWINS(shown);
 TWINS(write);
 TWINS(c40_read);
 TWINS(c40_write);

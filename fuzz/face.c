@@ -2,7 +2,8 @@
  * Fuzzing of the C face. The same bytes serve as a seal, as C40, as DER and as the arguments of a writing. Held to: no crash, no lent byte changed on a
  * refusal and none outside what is written, what is read writes back the same, and what is written reads back the same. The rows of a seal frame its
  * features, one after another, and the places of the tags change nothing of a writing. Why a seal is refused agrees
- * with the verdict and with the bytes judged (why.h).
+ * with the verdict and with the bytes judged (why.h); the walk agrees with the rows, and a look-up with those of two
+ * seals (walk.h).
  *
  * The library is compiled code that the fuzzer cannot look into. So each buffer is lent against a page that must not be touched, before it or behind it,
  * and the fuzzer is told the number and place of each answer as its counters.
@@ -28,10 +29,10 @@ static void broken(const char *what, const char *file, int line) {
  * the place.
  */
 enum call { READ, WRITE, C40_READ, C40_WRITE, FROM_NUMBER, TO_NUMBER, INTEGER_READ, INTEGER_WRITE, TO_DER, TO_RAW, HASH,
-            SAY, NAME, RULE, CALLS };
+            WALK, STEP, SHOWN, SAY, NAME, RULE, CALLS };
 static const char *const names[CALLS] = {"read", "write", "c40_read", "c40_write", "date_from_number", "date_to_number", "integer_read",
-                                         "integer_write", "signature_to_der", "signature_to_raw", "hash", "words",
-                                         "item_name", "rule_words"};
+                                         "integer_write", "signature_to_der", "signature_to_raw", "hash", "walk",
+                                         "walk_next", "shown", "words", "item_name", "rule_words"};
 enum { NUMBERS = 66 };
 static unsigned long answers[NUMBERS + CALLS];
 __attribute__((used, section("__libfuzzer_extra_counters"))) static volatile uint8_t counters[(NUMBERS + CALLS) * 256];
@@ -55,7 +56,7 @@ static void tell(void) {
 
 /* Lent memory: pages between two that must not be touched, and a copy to compare with. */
 enum { PAGE = 4096, SIZE = 2 * PAGE };
-enum { SEAL, TABLE, TEXT, OUT, ROWS, VALUES, SIGNATURE, BACK, ROOMS };
+enum { SEAL, SECOND, TABLE, TEXT, OUT, ROWS, VALUES, SIGNATURE, BACK, ROOMS };
 static struct room {
     uint8_t *low, *at;
     uint8_t before[SIZE];
@@ -133,6 +134,8 @@ static size_t any(void) {
     return (size_t)(drawn << 6) >> (drawn >> 58);
 }
 
+#include "walk.h"
+
 /* Lends the rows with other places of their tags. */
 static const size_t *with_other_places(const size_t *rows, size_t numbers) {
     static size_t other[FR_TABLE_MOST];
@@ -201,6 +204,8 @@ static fr_reading read_whole(const void *bytes, size_t size) {
     fr_reading r = read_into(seal, size, FR_TABLE_MOST, FR_TEXT_MOST);
     MUST(same_reading(r, fr_judge(seal, size)));
     explained(r, seal, size);
+    walked(r, seal, size, (const size_t *)(const void *)rooms[TABLE].at);
+    strayed(seal, size);
     MUST(kept(SEAL, 0));
     if (r.number != 0) return r;
     MUST(r.place == 0 && r.ends.header <= r.ends.message && r.ends.message < r.signature.place && r.ends.seal == size);
@@ -337,7 +342,10 @@ static fr_filled write_given(const size_t *given, size_t room) {
     return f;
 }
 
-/* Writes twice, the second time with other places of the tags: the same answer and bytes. */
+/*
+ * Writes twice, the second time with other places of the tags: the same answer and bytes. What is written is looked up
+ * in beside the input and beside itself with a fault.
+ */
 static void write_seal(const uint8_t *data, size_t size) {
     static uint8_t first[SIZE];
     next = data, rest = size;
@@ -349,9 +357,11 @@ static void write_seal(const uint8_t *data, size_t size) {
     memcpy(first, rooms[OUT].low, SIZE);
     fr_filled again = write_given(with_other_places(rows, rows_length), room);
     MUST(again.number == f.number && again.count == f.count && memcmp(first, rooms[OUT].low, SIZE) == 0);
+    hung_up(data, size, f.number == 0 ? rooms[OUT].at : data, f.number == 0 ? f.count : size);
     if (f.number != 0) return;
     read_back(f.count);
     size_t length = damage(rooms[OUT].at, f.count);
+    hung_up(rooms[OUT].at, f.count, damaged, length);
     read_seal(damaged, length);
 }
 

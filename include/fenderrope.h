@@ -3,8 +3,8 @@
  *
  * Every call takes every input and answers by value. `number` is 0 when the call is done; any other number is a
  * refusal from the list below, and `place` says where: it is 0 where the call names no other. On a refusal no lent
- * memory changes and every field but number and place is 0; fr_why alone fills its other fields where a seal is
- * refused. On 0 a call that fills a buffer writes from its start, gives the count written, and leaves the memory past
+ * memory changes and every field but number and place is 0, save that fr_why says why a seal is refused, and fr_shown
+ * which. On 0 a call that fills a buffer writes from its start, gives the count written, and leaves the memory past
  * it as it was. docs/NUMBERS.md has the numbers with their order and places.
  *
  * A buffer is a pointer and a length. The pointer is not null unless the length is 0, points to as many elements as
@@ -35,7 +35,7 @@ extern "C" {
 #endif
 
 /* The version of this header and its library. */
-#define FR_VERSION "0.6.0"
+#define FR_VERSION "0.7.0"
 
 /* Sizes that hold for every legal seal (document 01, "Sizes"). */
 #define FR_SEAL_MOST 4096      /* bytes of a seal */
@@ -66,7 +66,8 @@ extern "C" {
 enum fr_number {
     FR_DONE = 0, /* done */
 
-    /* fr_read, fr_judge and fr_why, item by item from the left; fr_date_from_number gives 6 */
+    /* fr_read, fr_judge, fr_why, fr_walk_open and fr_shown, item by item from the left; fr_read alone gives 12, and
+       fr_date_from_number gives 6 */
     FR_TOO_LONG = 1,          /* seal longer than 4,096 */
     FR_CUT = 2,               /* the input ends before an item is whole */
     FR_FIRST_BYTE = 3,        /* first byte is not DC */
@@ -102,6 +103,10 @@ enum fr_number {
     FR_C40_TOO_LONG = 45,     /* text or bytes over the size */
     FR_C40_SHIFT = 46,        /* C40 shift value where none may stand */
     FR_C40_FE = 47,           /* C40 FE misplaced or followed by a code outside the chart */
+
+    /* fr_shown gives 50, after both seals' own numbers; fr_walk_next alone gives 51 */
+    FR_NO_FEATURE = 50,       /* feature in neither seal */
+    FR_WALK_END = 51,         /* no further feature */
 
     /* signatures, INTEGERs and the hash; fr_words gives 63 */
     FR_NO_SIZE = 60,          /* n is not one of the five */
@@ -161,6 +166,13 @@ enum fr_rule {
     FR_RULE_SHORTEST = 18        /* the length is in its shortest form */
 };
 
+/* Which of two seals fr_shown speaks of. */
+enum fr_which {
+    FR_NEITHER = 0,
+    FR_MAIN = 1,
+    FR_EXTENSION = 2
+};
+
 /* A day of the Gregorian calendar: month 1 to 12, day 1 to the month's last, year 1 to 9999. */
 typedef struct fr_date {
     size_t month;
@@ -213,6 +225,31 @@ typedef struct fr_reason {
     size_t rule;    /* the first rule that it breaks, of enum fr_rule */
     fr_part judged; /* the bytes judged, a part of the seal */
 } fr_reason;
+
+/* What fr_walk_open answers. */
+typedef struct fr_start {
+    size_t number;
+    size_t place;
+    size_t at; /* where the first step is made */
+} fr_start;
+
+/* What fr_walk_next answers: a feature, and where the next step is made. */
+typedef struct fr_step {
+    size_t number;
+    size_t place;
+    size_t tag;
+    size_t tag_place; /* the feature begins there */
+    fr_part value;    /* a part of the seal */
+    size_t at;        /* where the next step is made: the feature ends there */
+} fr_step;
+
+/* What fr_shown answers. */
+typedef struct fr_where {
+    size_t number;
+    size_t place;  /* in the seal that is refused */
+    size_t which;  /* the seal that has the value, or is refused, of enum fr_which */
+    fr_part value; /* a part of the seal that has it */
+} fr_where;
 
 /* What a call that fills a buffer answers. */
 typedef struct fr_filled {
@@ -276,6 +313,28 @@ fr_reading fr_judge(const uint8_t *seal, size_t seal_length);
  * signature, the first byte that is too many.
  */
 fr_reason fr_why(const uint8_t *seal, size_t seal_length);
+
+/*
+ * Walks over the features of a seal, without a table. fr_walk_open judges the seal, number and place are fr_judge's, and
+ * on 0 the first step is made at `at`. fr_walk_next makes a step: 0, the feature at that place and the place after it,
+ * where the next step is made; or 51 where there is no further feature. From the opening of an accepted seal it gives
+ * exactly the rows of fr_read, in order, then 51, and 51 again and again: `at` is 0 then, where no feature begins. A
+ * refused seal opens no walk: its `at` is 0.
+ *
+ * A step can be made at any place of any bytes, and never looks outside them. It does not judge the seal: it gives what
+ * stands there as a feature of the version in the second byte, and 51 where that is none. So a walk goes by the places
+ * that the two calls give.
+ */
+fr_start fr_walk_open(const uint8_t *seal, size_t seal_length);
+fr_step fr_walk_next(const uint8_t *seal, size_t seal_length, size_t at);
+
+/*
+ * Where the value of a tag stands: in the extension if it has that feature, otherwise in the main seal; 0, or 50 where
+ * neither has it. A seal that is refused refuses the call with fr_judge's number and place, the main one first, and
+ * `which` names it. The value is empty on every number but 0; an empty value that is found is 0 too.
+ */
+fr_where fr_shown(const uint8_t *main_seal, size_t main_seal_length, const uint8_t *extension, size_t extension_length,
+                  size_t tag);
 
 /*
  * The name of an item and the words of a rule in ASCII, without an end mark: 0, or 42 where there is not room for all

@@ -12,15 +12,18 @@ import sys
 
 import c40_cases
 import der_cases
+import feature_cases
 import listing_cases
 import pair_cases
 import seal_cases
+import shown_cases
+import walk_cases
 import why_cases
 import write_cases
 
 BUFFER = 65536   # the program's for a file of cases and for their answers, neither of which may fill it
 LETTERS = {"c40": "c", "numbers": "n", "signatures": "s", "seals": "r", "writing": "w", "listing": "l",
-           "why": "y"}
+           "why": "y", "walk": "f", "features": "t"}
 BACK = "b"   # chapters of seals that are read and written back
 NAMES = {
     "c40": c40_cases.chapters(),
@@ -30,6 +33,8 @@ NAMES = {
     "writing": write_cases.chapters(),
     "listing": listing_cases.chapters(),
     "why": why_cases.chapters(),
+    "walk": itertools.chain(walk_cases.chapters(), shown_cases.chapters()),
+    "features": feature_cases.chapters(),
 }
 
 
@@ -48,6 +53,7 @@ def main(directory):
             data = pathlib.Path(directory, "data")
             path = data / name / chapter
             letter = BACK if chapter.startswith("back") else LETTERS[name]
+            assert f"{letter} {path.relative_to(data)}" not in files
             files.append(f"{letter} {path.relative_to(data)}")
             path.parent.mkdir(parents=True, exist_ok=True)
             path.write_bytes(text(cases))

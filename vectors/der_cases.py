@@ -117,14 +117,19 @@ def runs(data):
     return "".join(f" {p[1].hex()}*{len(p[0])}" if p[1] else " " + p[0].hex() for p in parts).upper()
 
 
+def with_bytes(line, data):
+    """A line with bytes after it, if there are any; of more than 24 the first eight, the last eight and a sum."""
+    digits = data.hex().upper()
+    if len(data) > 24:
+        total = sum(index * byte for index, byte in enumerate(data, start=1)) % 65521
+        return f"{line} {digits[:16]}..{digits[-16:]} sum {total}"
+    return f"{line} {digits}" if data else line
+
+
 def filled(answer):
     """The answer line of a call that fills a buffer: the number of a refusal, or the bytes written."""
     number, written = (answer, b"") if isinstance(answer, int) else (0, answer)
-    line, digits = f"{number} wrote {len(written)} kept", written.hex().upper()
-    if len(written) > 24:
-        total = sum(index * byte for index, byte in enumerate(written, start=1)) % 65521
-        return f"{line} {digits[:16]}..{digits[-16:]} sum {total}"
-    return f"{line} {digits}" if written else line
+    return with_bytes(f"{number} wrote {len(written)} kept", written)
 
 
 def each(head, answer, *inputs):

@@ -1,7 +1,7 @@
 //! DER lengths, elements and the shortest form of an INTEGER.
 
 /// The DER length at the head of `s`, and the bytes after it.
-fn split_length(s: &[u8]) -> Option<(usize, &[u8])> {
+pub fn split_length(s: &[u8]) -> Option<(usize, &[u8])> {
     let (&first, rest) = s.split_first()?;
     match first {
         0..=0x7F => Some((first.into(), rest)),

@@ -58,6 +58,34 @@ pub struct Reason {
 
 #[repr(C)]
 #[derive(Default)]
+pub struct Start {
+    pub number: usize,
+    pub place: usize,
+    pub at: usize,
+}
+
+#[repr(C)]
+#[derive(Default)]
+pub struct Step {
+    pub number: usize,
+    pub place: usize,
+    pub tag: usize,
+    pub tag_place: usize,
+    pub value: Part,
+    pub at: usize,
+}
+
+#[repr(C)]
+#[derive(Default)]
+pub struct Where {
+    pub number: usize,
+    pub place: usize,
+    pub which: usize,
+    pub value: Part,
+}
+
+#[repr(C)]
+#[derive(Default)]
 pub struct Filled {
     pub number: usize,
     pub place: usize,

@@ -8,10 +8,11 @@ mod numbers;
 mod reader;
 mod signature;
 mod text;
+mod walk;
 mod why;
 mod writer;
 
-use face::{Date, Dated, Filled, Hashed, Header, Integer, Numbered, Reading, Reason};
+use face::{Date, Dated, Filled, Hashed, Header, Integer, Numbered, Reading, Reason, Start, Step, Where};
 
 #[no_mangle]
 pub unsafe extern "C" fn rust_read(
@@ -33,6 +34,27 @@ pub unsafe extern "C" fn rust_judge(seal: *const u8, n: usize) -> Reading {
 #[no_mangle]
 pub unsafe extern "C" fn rust_why(seal: *const u8, n: usize) -> Reason {
     why::why(from_raw_parts(seal, n))
+}
+
+#[no_mangle]
+pub unsafe extern "C" fn rust_walk_open(seal: *const u8, n: usize) -> Start {
+    walk::open(from_raw_parts(seal, n))
+}
+
+#[no_mangle]
+pub unsafe extern "C" fn rust_walk_next(seal: *const u8, n: usize, at: usize) -> Step {
+    walk::next(from_raw_parts(seal, n), at)
+}
+
+#[no_mangle]
+pub unsafe extern "C" fn rust_shown(
+    main: *const u8,
+    n: usize,
+    extension: *const u8,
+    extension_n: usize,
+    tag: usize,
+) -> Where {
+    walk::shown(from_raw_parts(main, n), from_raw_parts(extension, extension_n), tag)
 }
 
 #[no_mangle]

@@ -7,6 +7,7 @@
 
 #include "codecs.h"
 #include "reading.h"
+#include "walking.h"
 #include "why.h"
 #include "why_words.h"
 #include "words.h"
@@ -27,6 +28,13 @@ int main(void) {
     test_why_four();
     test_why_most();
     test_why_met();
+    test_walk_rows();
+    test_walk_steps();
+    test_walk_lengths();
+    test_walk_refused();
+    test_shown();
+    test_shown_parts();
+    test_shown_refused();
     test_writer_header();
     test_writer_rows();
     test_tables();

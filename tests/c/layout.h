@@ -1,6 +1,6 @@
 /*
- * Sizes, alignments and offsets of the structs, for x86-64, the types of the calls and the constants of numbers, items
- * and rules: checked when compiled, against plain numbers, of which the Rust tests hold those of the structs too.
+ * Sizes, alignments and offsets of the structs, for x86-64, the types of the calls and the constants of numbers, items,
+ * rules and seals: checked when compiled, against plain numbers, of which the Rust tests hold those of the structs too.
  */
 #ifndef LAYOUT_H
 #define LAYOUT_H
@@ -51,6 +51,25 @@ FIELD(fr_reason, item, 16, 8);
 FIELD(fr_reason, rule, 24, 8);
 FIELD(fr_reason, judged, 32, 16);
 
+LAYOUT(fr_start, 24);
+FIELD(fr_start, number, 0, 8);
+FIELD(fr_start, place, 8, 8);
+FIELD(fr_start, at, 16, 8);
+
+LAYOUT(fr_step, 56);
+FIELD(fr_step, number, 0, 8);
+FIELD(fr_step, place, 8, 8);
+FIELD(fr_step, tag, 16, 8);
+FIELD(fr_step, tag_place, 24, 8);
+FIELD(fr_step, value, 32, 16);
+FIELD(fr_step, at, 48, 8);
+
+LAYOUT(fr_where, 40);
+FIELD(fr_where, number, 0, 8);
+FIELD(fr_where, place, 8, 8);
+FIELD(fr_where, which, 16, 8);
+FIELD(fr_where, value, 24, 16);
+
 LAYOUT(fr_filled, 24);
 FIELD(fr_filled, number, 0, 8);
 FIELD(fr_filled, place, 8, 8);
@@ -81,6 +100,9 @@ typedef const uint8_t *bytes_in;
 fr_reading (*call_read)(bytes_in, size_t, size_t *, size_t, uint8_t *, size_t) = fr_read;
 fr_reading (*call_judge)(bytes_in, size_t) = fr_judge;
 fr_reason (*call_why)(bytes_in, size_t) = fr_why;
+fr_start (*call_walk_open)(bytes_in, size_t) = fr_walk_open;
+fr_step (*call_walk_next)(bytes_in, size_t, size_t) = fr_walk_next;
+fr_where (*call_shown)(bytes_in, size_t, bytes_in, size_t, size_t) = fr_shown;
 fr_filled (*call_item_name)(size_t, uint8_t *, size_t) = fr_item_name;
 fr_filled (*call_rule_words)(size_t, uint8_t *, size_t) = fr_rule_words;
 fr_filled (*call_write)(fr_header, bytes_in, size_t, const size_t *, size_t, bytes_in, size_t, bytes_in, size_t, uint8_t *, size_t) = fr_write;
@@ -136,6 +158,8 @@ NUMBER(FR_C40_BYTES_ROOM, 44);
 NUMBER(FR_C40_TOO_LONG, 45);
 NUMBER(FR_C40_SHIFT, 46);
 NUMBER(FR_C40_FE, 47);
+NUMBER(FR_NO_FEATURE, 50);
+NUMBER(FR_WALK_END, 51);
 NUMBER(FR_NO_SIZE, 60);
 NUMBER(FR_RAW_LENGTH, 61);
 NUMBER(FR_NOT_DER, 62);
@@ -180,6 +204,11 @@ NUMBER(FR_RULE_HEXADECIMAL, 15);
 NUMBER(FR_RULE_NOT_ZERO, 16);
 NUMBER(FR_RULE_REST_THERE, 17);
 NUMBER(FR_RULE_SHORTEST, 18);
+
+/* The seal that a look-up speaks of. */
+NUMBER(FR_NEITHER, 0);
+NUMBER(FR_MAIN, 1);
+NUMBER(FR_EXTENSION, 2);
 
 NUMBER(FR_ITEM_NAME_MOST, 20);
 NUMBER(FR_RULE_WORDS_MOST, 61);

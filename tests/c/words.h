@@ -39,7 +39,7 @@ static void test_words(void) {
     for (number = 0; number < sizeof far / sizeof *far; number++) CHECK(says(far[number]));
     for (number = 0; number < WORDS; number++)
         if (strlen(words_table[number].words) > longest) longest = strlen(words_table[number].words);
-    CHECK(WORDS == 35 && longest == FR_WORDS_MOST);
+    CHECK(WORDS == 37 && longest == FR_WORDS_MOST);
     CHECK(strcmp(words_of(FR_TAG_USED), "tag already used") == 0);
     fresh();
     CHECK(done(fr_words(13, NULL, 0), NULL, 0) && refused(fr_words(FR_DONE, NULL, 0), 63, 0));

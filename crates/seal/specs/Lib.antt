@@ -4,3 +4,4 @@ pub mod Entries
 pub mod PlaceOfFive
 pub mod Conditions
 pub mod Frames
+pub mod Walks

@@ -50,6 +50,13 @@ codecs =
     ∷ row 47 "C40 FE misplaced or followed by a code outside the chart"
     ∷ []
 
+-- the look-up of a tag, and the walk (document 02, Ticket 2)
+abbrev pub walking : List Row
+walking =
+    row 50 "feature in neither seal"
+    ∷ row 51 "no further feature"
+    ∷ []
+
 -- signatures, INTEGERs and the choice of hash
 abbrev pub signatures : List Row
 signatures =
@@ -66,7 +73,7 @@ retired = 64 ∷ []
 
 -- the rows from a group on, and all of them
 abbrev pub fromCodecs : List Row
-fromCodecs = codecs ++ signatures
+fromCodecs = codecs ++ walking ++ signatures
 
 abbrev pub fromWriter : List Row
 fromWriter = writer ++ fromCodecs

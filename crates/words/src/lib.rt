@@ -10,7 +10,7 @@ use pages::Placed;
 pub const LONGEST: usize = 92;
 
 // The table of the words, a line a number: two digits, a space, the words. `pageOf` of `pages` makes it of the table of specs/Words.antt.
-const PAGE: [u8; 1367] = *b"\
+const PAGE: [u8; 1416] = *b"\
 00 done\n\
 01 seal longer than 4,096\n\
 02 the input ends before an item is whole\n\
@@ -41,6 +41,8 @@ const PAGE: [u8; 1367] = *b"\
 45 text or bytes over the size\n\
 46 C40 shift value where none may stand\n\
 47 C40 FE misplaced or followed by a code outside the chart\n\
+50 feature in neither seal\n\
+51 no further feature\n\
 60 n is not one of the five\n\
 61 raw length is not 2n\n\
 62 not strict DER, with bytes left over, negative, or too big for n\n\

@@ -4,7 +4,7 @@
 //! overlaps nothing else that is lent (the borrow checker sees to both), every pointer and length below comes from one
 //! slice, and the library is proved to keep inside the lengths, to keep no pointer, and to answer every input.
 
-use crate::layout::{Date, Dated, Filled, Hashed, Header, Integer, Numbered, Reading, Reason};
+use crate::layout::{Date, Dated, Filled, Hashed, Header, Integer, Numbered, Reading, Reason, Start, Step, Where};
 
 extern "C" {
     fn fr_read(
@@ -19,6 +19,15 @@ extern "C" {
     fn fr_why(seal: *const u8, seal_length: usize) -> Reason;
     fn fr_item_name(item: usize, out: *mut u8, out_length: usize) -> Filled;
     fn fr_rule_words(rule: usize, out: *mut u8, out_length: usize) -> Filled;
+    fn fr_walk_open(seal: *const u8, seal_length: usize) -> Start;
+    fn fr_walk_next(seal: *const u8, seal_length: usize, at: usize) -> Step;
+    fn fr_shown(
+        main_seal: *const u8,
+        main_seal_length: usize,
+        extension: *const u8,
+        extension_length: usize,
+        tag: usize,
+    ) -> Where;
     fn fr_write(
         header: Header,
         text: *const u8,
@@ -67,6 +76,22 @@ pub fn item_name(item: usize, out: &mut [u8]) -> Filled {
 /// The words of a rule; see [`crate::rule_words`].
 pub fn rule_words(rule: usize, out: &mut [u8]) -> Filled {
     unsafe { fr_rule_words(rule, out.as_mut_ptr(), out.len()) }
+}
+
+/// Opens a walk over the features of a seal: the verdict, and where the first step is made; see [`crate::walk`].
+pub fn walk_open(seal: &[u8]) -> Start {
+    unsafe { fr_walk_open(seal.as_ptr(), seal.len()) }
+}
+
+/// A step at any place of any bytes: 0 and the feature that stands there, whatever the seal is, or 51; see
+/// [`crate::Walk`].
+pub fn walk_next(seal: &[u8], at: usize) -> Step {
+    unsafe { fr_walk_next(seal.as_ptr(), seal.len(), at) }
+}
+
+/// The value for a tag out of two seals; see [`crate::shown`].
+pub fn shown(main: &[u8], extension: &[u8], tag: usize) -> Where {
+    unsafe { fr_shown(main.as_ptr(), main.len(), extension.as_ptr(), extension.len(), tag) }
 }
 
 /// Writes a seal; see [`crate::write`].

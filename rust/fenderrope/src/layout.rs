@@ -95,6 +95,54 @@ pub struct Reason {
     pub judged: Part,
 }
 
+/// What a walk answers that is opened.
+#[derive(Debug, Clone, Copy, PartialEq, Eq, Hash, Default)]
+#[must_use]
+#[repr(C)]
+pub struct Start {
+    /// 0 where the seal is accepted, else the refusal.
+    pub number: usize,
+    /// Where, on a refusal.
+    pub place: usize,
+    /// Where the first step is made.
+    pub at: usize,
+}
+
+/// What a step of a walk answers. On 51 every other field is 0.
+#[derive(Debug, Clone, Copy, PartialEq, Eq, Hash, Default)]
+#[must_use]
+#[repr(C)]
+pub struct Step {
+    /// 0 where a feature stands, 51 where none does.
+    pub number: usize,
+    /// 0.
+    pub place: usize,
+    /// The tag.
+    pub tag: usize,
+    /// Where the tag stands: the place of the step.
+    pub tag_place: usize,
+    /// The value.
+    pub value: Part,
+    /// Where the next step is made; 0 on 51, and there the answer is 51 again.
+    pub at: usize,
+}
+
+/// What a tag number answers that is looked up in a main and an extension seal.
+#[derive(Debug, Clone, Copy, PartialEq, Eq, Hash, Default)]
+#[must_use]
+#[repr(C)]
+pub struct Where {
+    /// 0 when done, else the refusal.
+    pub number: usize,
+    /// Where, on a refusal of a seal.
+    pub place: usize,
+    /// The code of the seal that the value is a part of, or that is refused, as [`crate::Which::of_code`] takes it; 0
+    /// on 50.
+    pub which: usize,
+    /// The value.
+    pub value: Part,
+}
+
 /// What a call answers that fills a buffer.
 #[derive(Debug, Clone, Copy, PartialEq, Eq, Hash, Default)]
 #[must_use]
@@ -180,6 +228,9 @@ laid_out!(Part: size 16, align 8, place at 0, length at 8);
 laid_out!(Reading: size 152, align 8, number at 0, place at 8, header at 16, ends at 104, signature at 128,
     count at 144);
 laid_out!(Reason: size 48, align 8, number at 0, place at 8, item at 16, rule at 24, judged at 32);
+laid_out!(Start: size 24, align 8, number at 0, place at 8, at at 16);
+laid_out!(Step: size 56, align 8, number at 0, place at 8, tag at 16, tag_place at 24, value at 32, at at 48);
+laid_out!(Where: size 40, align 8, number at 0, place at 8, which at 16, value at 24);
 laid_out!(Filled: size 24, align 8, number at 0, place at 8, count at 16);
 laid_out!(Dated: size 40, align 8, number at 0, place at 8, date at 16);
 laid_out!(Numbered: size 24, align 8, number at 0, place at 8, value at 16);

@@ -5,10 +5,13 @@
 //! not done gives a [`Refusal`] with the number and the place, and no lent byte has changed. Signatures are carried and
 //! converted, not verified.
 //!
+//! [`judge`] gives a verdict on a seal, [`read`] all that is in it, [`walk`] its features one after another without a
+//! table, [`shown`] a value where an extension tag hangs behind the first, and [`why`] the reason of a refusal.
+//!
 //! Seal A of the tender, read, listed as the listing program lists it, and written back:
 //!
 //! ```
-//! use fenderrope::{judge, read, why, Refusal, SEAL_MOST, TABLE_MOST, TEXT_MOST};
+//! use fenderrope::{judge, read, shown, walk, why, Refusal, SEAL_MOST, TABLE_MOST, TEXT_MOST};
 //! use std::fmt::Write;
 //!
 //! let mut seal = b"\xDC\x02\xD9\xC5\xD9\xB7\x5E\x65\x19\xA6\x31\x9E\xF5\x31\x9E\xF5\x01\x02".to_vec();
@@ -49,6 +52,11 @@
 //! // What a camera overlay frames: the whole feature, tag, length and value.
 //! let frames: Vec<_> = reading.features().map(|feature| (feature.tag_place, feature.whole.len())).collect();
 //! assert_eq!(frames, [(18, 6)]);
+//!
+//! // At the hook the features are asked for one after another, without a table.
+//! assert!(walk(&seal)?.eq(reading.features()));
+//! // And here the same tag hangs behind itself.
+//! assert_eq!(shown(&seal, &seal, 10)?.value, [0xDE, 0x51, 0x58, 0x26]);
 //!
 //! let mut again = [0; SEAL_MOST];
 //! let length = reading.write(reading.signature(), &mut again)?;
@@ -91,9 +99,11 @@ mod reading;
 mod reason;
 mod refusal;
 mod seals;
+mod shown;
 mod signatures;
 mod sizes;
 mod verdict;
+mod walk;
 mod words;
 
 pub use codecs::{c40_read, c40_write, integer_read, integer_write};
@@ -103,7 +113,9 @@ pub use reading::{Feature, Reading};
 pub use reason::Reason;
 pub use refusal::Refusal;
 pub use seals::{judge, read, why, write};
+pub use shown::{shown, NotShown, Shown, Which};
 pub use signatures::{hash, signature_to_der, signature_to_raw, Hash};
 pub use sizes::*;
 pub use verdict::Verdict;
+pub use walk::{walk, Walk};
 pub use words::{item_name, rule_words, words, Words};

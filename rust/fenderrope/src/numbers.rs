@@ -42,6 +42,9 @@ pub const C40_TOO_LONG: usize = 45;
 pub const C40_SHIFT: usize = 46;
 pub const C40_FE: usize = 47;
 
+pub const NO_FEATURE: usize = 50;
+pub const WALK_END: usize = 51;
+
 pub const NO_SIZE: usize = 60;
 pub const RAW_LENGTH: usize = 61;
 pub const NOT_DER: usize = 62;

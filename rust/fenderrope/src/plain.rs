@@ -1,8 +1,8 @@
 //! The calls as the library answers them: a number, a place and the rest, in one struct by value.
 //!
 //! `number` is 0 when the call is done. On any other number every field but number and place is 0 and no lent memory
-//! has changed; [`why`] alone fills its other fields where a seal is refused. The functions of the crate's root say the
-//! same as `Result`s; these are for programs that pass the numbers on.
+//! has changed; where a seal is refused [`why`] fills its other fields, and [`shown`] says which seal it is. The
+//! functions of the crate's root say the same as `Result`s; these are for programs that pass the numbers on.
 //!
 //! ```
 //! let answer = fenderrope::plain::judge(&[]);
@@ -11,6 +11,6 @@
 
 pub use crate::face::{
     c40_read, c40_write, date_from_number, date_to_number, hash, integer_read, integer_write, item_name, judge, read,
-    rule_words, signature_to_der, signature_to_raw, why, words, write,
+    rule_words, shown, signature_to_der, signature_to_raw, walk_next, walk_open, why, words, write,
 };
-pub use crate::layout::{Dated, Filled, Hashed, Integer, Numbered, Reading, Reason};
+pub use crate::layout::{Dated, Filled, Hashed, Integer, Numbered, Reading, Reason, Start, Step, Where};

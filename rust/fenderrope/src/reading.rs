@@ -2,7 +2,7 @@
 
 use core::str;
 
-use crate::layout::{self, Header};
+use crate::layout::{self, Header, Part};
 use crate::refusal::Refusal;
 use crate::seals::write;
 use crate::sizes::{ROW, ROW_TAG, ROW_TAG_PLACE, ROW_VALUE_LENGTH, ROW_VALUE_PLACE};
@@ -46,12 +46,19 @@ pub struct Feature<'a> {
 }
 
 impl<'a> Feature<'a> {
-    /// The feature that a row tells of. A row that is not inside the seal would stop this.
-    fn of(seal: &'a [u8], row: &[usize]) -> Feature<'a> {
-        let (tag_place, place) = (row[ROW_TAG_PLACE], row[ROW_VALUE_PLACE]);
-        let value = &seal[place..][..row[ROW_VALUE_LENGTH]];
+    /// The feature with this tag, its place, and the value's part of the seal. What is not inside the seal would stop
+    /// this.
+    pub(crate) fn of(seal: &'a [u8], tag: usize, tag_place: usize, value: Part) -> Feature<'a> {
+        let Part { place, length } = value;
+        let value = &seal[place..][..length];
         let whole = &seal[tag_place..place + value.len()];
-        Feature { tag: row[ROW_TAG], tag_place, place, whole, value }
+        Feature { tag, tag_place, place, whole, value }
+    }
+
+    /// The feature that a row tells of.
+    fn of_row(seal: &'a [u8], row: &[usize]) -> Feature<'a> {
+        let value = Part { place: row[ROW_VALUE_PLACE], length: row[ROW_VALUE_LENGTH] };
+        Feature::of(seal, row[ROW_TAG], row[ROW_TAG_PLACE], value)
     }
 }
 
@@ -91,7 +98,7 @@ impl<'a> Reading<'a> {
     #[must_use]
     pub fn features(&self) -> impl ExactSizeIterator<Item = Feature<'a>> + DoubleEndedIterator + Clone + 'a {
         let seal = self.seal;
-        self.rows.chunks_exact(ROW).map(move |row| Feature::of(seal, row))
+        self.rows.chunks_exact(ROW).map(move |row| Feature::of_row(seal, row))
     }
 
     /// The feature with this tag, if the seal has it.

@@ -19,9 +19,10 @@ use crate::words::Words;
 #[derive(Clone, Copy, PartialEq, Eq, Hash)]
 #[must_use]
 pub struct Refusal {
-    /// 1 to 12 from a reading, 20 to 28 from a writing, 40 to 47 from C40, 60 to 63 and 65 from signatures, INTEGERs
-    /// and words; 6 and 22 from a date alone, 42 from the name of an item and the words of a rule. [`crate::numbers`]
-    /// has their names.
+    /// 1 to 12 from a reading, 1 to 11 from the opening of a walk, 20 to 28 from a writing, 40 to 47 from C40, 50 from
+    /// [`crate::shown`], 60 to 63 and 65 from signatures, INTEGERs and words; 6 and 22 from a date alone, 42 from the
+    /// name of an item and the words of a rule. [`crate::numbers`] has their names. 51 is the end of a walk, and no
+    /// refusal here.
     pub number: usize,
     /// Where: for a reading the first byte of the item that was not read, for 5 of its first wrongly coded pair if it
     /// has one. 0 where no other is given.

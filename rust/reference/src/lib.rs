@@ -3,11 +3,12 @@
 //! It was written from the document, docs/NUMBERS.md and the decisions, without sight of the proved code or its specs,
 //! and in another structure: the reader is a set of small parsers over the bytes that are left, the writer builds the
 //! seal and only then looks for room, and "the shortest form" is "what the writer would have written". Why a seal is
-//! refused is told by a table of items and rules that does not ask the reader. Where two of these programs differ, one
-//! of them misreads.
+//! refused is told by a table of items and rules that does not ask the reader. A step of a walk finds what the writer
+//! would have written at its place, and the whole walk takes no steps. Where two of these programs differ, one of them
+//! misreads.
 //!
 //! Every call takes every input. "On any other number all lent memory stays and every field but number and place is 0";
-//! a [`Reason`] alone has its other fields where a seal is refused.
+//! where a seal is refused, a [`Reason`] has its other fields too, and a [`Shown`] says which of two seals it is.
 #![forbid(unsafe_code)]
 
 mod c40;
@@ -20,6 +21,7 @@ mod reading;
 mod reasons;
 mod rows;
 mod signatures;
+mod walking;
 mod words;
 mod writing;
 
@@ -30,6 +32,7 @@ pub use reading::{judge, read};
 pub use reasons::{item_name, put_item_name, put_rule_words, rule_words, why, Reason};
 pub use rows::Row;
 pub use signatures::{hash, signature_to_der, signature_to_raw};
+pub use walking::{shown, walk, walk_next, walk_open, Opened, Shown, Step, EXTENSION, MAIN};
 pub use words::{put_words, words};
 pub use writing::write;
 

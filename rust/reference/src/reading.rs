@@ -211,6 +211,11 @@ pub fn judge(seal: &[u8]) -> Reading {
     parse(seal).map_or_else(refused, |accepted| accepted.reading())
 }
 
+/// The rows of an accepted seal, in its order.
+pub(crate) fn rows(seal: &[u8]) -> Result<Vec<Row>, Refusal> {
+    Ok(parse(seal)?.rows)
+}
+
 /// Reads a seal: writes a row for each feature "and the signer and reference text". "Answer 12 is given below 4 numbers
 /// a feature."
 pub fn read(seal: &[u8], table: &mut [usize], text: &mut [u8]) -> Reading {

@@ -44,8 +44,11 @@ fn a_refusal_is_a_number_and_a_place() {
         assert!(outcome.untouched(), "{call:?}");
         let bare = match outcome.answer {
             Answer::Reading(_) => Answer::Reading(Reading { number, place, ..Reading::default() }),
-            // A reason has all its fields, and is not drawn.
-            Answer::Reason(_) => outcome.answer,
+            // Reasons and openings are not drawn.
+            Answer::Reason(_) | Answer::Opened(_) => outcome.answer,
+            Answer::Step(_) => Answer::Step(Step { number, place, ..Step::default() }),
+            // A seal that is refused is named.
+            Answer::Shown(Shown { which, .. }) => Answer::Shown(Shown { number, place, which, ..Shown::default() }),
             Answer::Filled(_) => Answer::Filled(Filled { number, place, ..Filled::default() }),
             Answer::Dated(_) => Answer::Dated(Dated { number, place, ..Dated::default() }),
             Answer::Numbered(_) => Answer::Numbered(Numbered { number, place, ..Numbered::default() }),

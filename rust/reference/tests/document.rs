@@ -200,7 +200,7 @@ fn days_of_a_seal() {
 
 #[test]
 fn words_of_the_numbers() {
-    let list: Vec<usize> = (0..=12).chain(20..=28).chain(40..=47).chain(60..=63).chain([65]).collect();
+    let list: Vec<usize> = (0..=12).chain(20..=28).chain(40..=47).chain(50..=51).chain(60..=63).chain([65]).collect();
     let with_words: Vec<usize> = (0..1000).filter(|&number| !words(number).is_empty()).collect();
     assert_eq!(with_words, list);
     assert_eq!(words(usize::MAX), "");

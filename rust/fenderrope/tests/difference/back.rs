@@ -1,11 +1,12 @@
 //! There and back through the library: an accepted seal is written anew, a written seal is read.
 
-use fenderrope::{judge, read, why, Feature, Reading, Refusal};
+use fenderrope::{judge, read, walk, why, Feature, Reading, Refusal};
 use reference::inputs::{lent, Answer, Call, Outcome};
 use reference::{Header, Row};
 
 use crate::lent::{bytes, numbers};
 use crate::types::header_in;
+use crate::wrapper::row;
 
 /// What is wrong with the way back, if anything. Only seals that were accepted or written have one.
 pub fn back(call: &Call, outcome: &Outcome) -> Result<(), String> {
@@ -41,6 +42,7 @@ fn read_again(seal: &[u8], good: impl Fn(Reading) -> Result<(), String>) -> Resu
     expect(reading.features().len() == verdict.count, "another count of features")?;
     expect(reading.features().all(|feature| reading.feature(feature.tag) == Some(feature)), "a feature is not found")?;
     framed(reading)?;
+    walked(reading)?;
     good(reading)?;
     expect(table.guards_stay() && text.guards_stay(), "memory was touched that was not lent")
 }
@@ -57,6 +59,17 @@ fn framed(reading: Reading) -> Result<(), String> {
         expect(*whole == seal[tag_place..end] && place > tag_place + 1, "a feature that is not whole")?;
     }
     expect(end == ends.message, "features that are not the message")
+}
+
+/// A walk gives the features of the reading in order, as parts of the seal and no copies, and the rows of the
+/// reference; then nothing, again and again.
+fn walked(reading: Reading) -> Result<(), String> {
+    let seal = reading.seal();
+    let mut walk = walk(seal).map_err(|refusal| refusal.to_string())?;
+    expect(walk.clone().eq(reading.features()), "a walk of other features than the reading's")?;
+    expect(walk.clone().map(|feature| row(seal, feature)).eq(reference::walk(seal)), "a walk of other rows")?;
+    expect(walk.by_ref().count() == reading.features().len(), "a walk that was not cloned")?;
+    expect((0..3).all(|_| walk.next().is_none()), "a walk that goes on past its end")
 }
 
 /// What the reader accepts writes back, given room, as the same bytes; and a room that is one short is refused.

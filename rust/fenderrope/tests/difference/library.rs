@@ -1,13 +1,16 @@
 //! The proved library as a program to compare: its plain answers, with everything lent between guards.
 
 use std::cell::Cell;
+use std::ptr;
 
 use fenderrope::plain;
 use reference::inputs::{run, Base, Call, Outcome};
-use reference::{Date, Dated, Filled, Hashed, Header, Integer, Numbered, Reading, Reason};
+use reference::{Date, Dated, Filled, Hashed, Header, Integer, Numbered, Opened, Reading, Reason, Shown, Step};
 
 use crate::lent::{bytes, numbers, Lent};
-use crate::types::{date_in, date_out, filled_out, header_in, reading_out, reason_out};
+use crate::types::{
+    date_in, date_out, filled_out, header_in, opened_out, reading_out, reason_out, shown_out, step_out,
+};
 
 /// The library, and whether it has touched memory that it may not.
 #[derive(Default)]
@@ -73,6 +76,29 @@ impl Base for Library {
         let answer = plain::why(seal.content());
         self.read_only(&[&seal]);
         reason_out(answer)
+    }
+
+    fn walk_open(&self, seal: &[u8]) -> Opened {
+        let seal = bytes(seal);
+        let answer = plain::walk_open(seal.content());
+        self.read_only(&[&seal]);
+        opened_out(answer)
+    }
+
+    fn walk_next(&self, seal: &[u8], at: usize) -> Step {
+        let seal = bytes(seal);
+        let answer = plain::walk_next(seal.content(), at);
+        self.read_only(&[&seal]);
+        step_out(answer)
+    }
+
+    fn shown(&self, main: &[u8], extension: &[u8], tag: usize) -> Shown {
+        let (first, second) = (bytes(main), bytes(extension));
+        // What is one slice lent twice is so here too.
+        let behind = if ptr::eq(main, extension) { &first } else { &second };
+        let answer = plain::shown(first.content(), behind.content(), tag);
+        self.read_only(&[&first, &second]);
+        shown_out(answer)
     }
 
     fn write(&self, h: &Header, text: &[u8], rows: &[usize], values: &[u8], sig: &[u8], out: &mut [u8]) -> Filled {

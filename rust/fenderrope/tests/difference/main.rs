@@ -13,10 +13,12 @@ mod reasons;
 mod rows;
 mod show;
 mod types;
+mod walks;
 mod words;
 mod wrapper;
 mod wrong;
 mod wrong_reasons;
+mod wrong_walks;
 
 use std::collections::{BTreeMap, BTreeSet};
 use std::env;
@@ -37,15 +39,16 @@ fn setting(name: &str, otherwise: u64) -> u64 {
     }
 }
 
-/// Puts drawn calls to the programs and to the reference, and asks of the seal of each reading why it is refused; how
-/// often each answer was given, how often the calendar, a pair or a row decided, the reasons, or the first difference.
+/// Puts drawn calls to the programs and to the reference; asks of the seal of each reading why it is refused and opens
+/// a walk over it, and of some makes a step at every place. How often each answer was given, how often the calendar, a
+/// pair or a row decided, what walks and look-ups came to, the reasons, or the first difference.
 fn compare(seed: u64, count: u64, programs: &[Program]) -> Result<Counts, String> {
     let (mut inputs, mut counts) = (Inputs::new(seed), Counts::default());
     for at in 0..count {
         let call = inputs.next();
-        let why = call.why();
-        let calls = [Some(call), why];
-        let agreed = calls.iter().flatten().try_for_each(|call| put(call, programs, &mut counts));
+        let steps = if at % 64 == 0 { walks::every_place(&call) } else { vec![] };
+        let calls = call.beside().chain(steps).collect::<Vec<_>>();
+        let agreed = [call].iter().chain(&calls).try_for_each(|call| put(call, programs, &mut counts));
         agreed.map_err(|difference| format!("difference at input {at} of seed {seed}\n{difference}"))?;
     }
     Ok(counts)
@@ -86,6 +89,7 @@ fn the_library_answers_as_the_reference_does() {
     }
     assert_eq!(seen(counts.pairs), all(&pairs::ALL), "not every kind of faulty pair");
     assert_eq!(seen(counts.rows), all(&rows::ALL), "not every kind of row or room");
+    assert_eq!(seen(counts.walks), all(&walks::ALL), "not every kind of step or look-up");
     counts.reasons.must_be_all();
 }
 

@@ -4,7 +4,7 @@ use std::collections::BTreeMap;
 
 use reference::inputs::{Call, Outcome};
 
-use crate::{days, pairs, reasons, rows};
+use crate::{days, pairs, reasons, rows, walks};
 
 /// How often, by call.
 type ByCall = BTreeMap<&'static str, u64>;
@@ -13,13 +13,14 @@ type ByCall = BTreeMap<&'static str, u64>;
 pub type Kind = (&'static str, &'static str);
 
 /// How often each call gave each number, how often the calendar decided, how often a pair or a character did, how often
-/// the tag's place in a row mattered, and why seals were refused.
+/// the tag's place in a row mattered, what walks and look-ups came to, and why seals were refused.
 #[derive(Debug, Default)]
 pub struct Counts {
     pub answers: BTreeMap<usize, ByCall>,
     pub dates: BTreeMap<&'static str, ByCall>,
     pub pairs: BTreeMap<Kind, u64>,
     pub rows: BTreeMap<Kind, u64>,
+    pub walks: BTreeMap<Kind, u64>,
     pub reasons: reasons::Counts,
 }
 
@@ -32,6 +33,7 @@ impl Counts {
         }
         pairs::decided(call, outcome).into_iter().for_each(|kind| *self.pairs.entry(kind).or_default() += 1);
         rows::decided(call, outcome).into_iter().for_each(|(kind, times)| *self.rows.entry(kind).or_default() += times);
+        walks::decided(call, outcome).into_iter().for_each(|kind| *self.walks.entry(kind).or_default() += 1);
         self.reasons.add(call, outcome);
     }
 }
@@ -46,7 +48,11 @@ pub fn given(call: &Call) -> String {
         Call::Read { seal, table_room, text_room } => {
             format!("table room {table_room}, text room {text_room}\n  seal {}", hex(seal))
         }
-        Call::Judge { seal } | Call::Why { seal } => format!("\n  seal {}", hex(seal)),
+        Call::Judge { seal } | Call::Why { seal } | Call::WalkOpen { seal } => format!("\n  seal {}", hex(seal)),
+        Call::WalkNext { seal, at } => format!("at {at}\n  seal {}", hex(seal)),
+        Call::Shown { main, extension, tag } => {
+            format!("tag {tag}\n  main {}\n  extension {}", hex(main), hex(extension))
+        }
         Call::Write { header, text, rows, values, signature, room } => format!(
             "room {room}\n  {header:?}\n  text {}\n  rows {rows:X?}\n  values {}\n  signature {}",
             hex(text),
@@ -73,8 +79,8 @@ pub fn outcome(outcome: &Outcome) -> String {
 }
 
 /// One line for each number: how often it was given, and by which calls. Then the same for what the calendar decided,
-/// for each refusal of a pair or a character where it stood and what was wrong, what was counted of rows, and the
-/// reasons by item and by rule.
+/// for each refusal of a pair or a character where it stood and what was wrong, what was counted of rows, of walks and
+/// of look-ups, and the reasons by item and by rule.
 pub fn counts(counts: &Counts) -> String {
     let times = |by_call: &ByCall| {
         let calls: Vec<_> = by_call.iter().map(|(name, count)| format!("{name} {count}")).collect();
@@ -84,7 +90,8 @@ pub fn counts(counts: &Counts) -> String {
     let dates = counts.dates.iter().map(|(decided, by_call)| format!("date {decided}\n       {}", times(by_call)));
     let pairs = pairs::ALL.iter().map(|(answer, kinds)| format!("pair {}", by_kind(answer, kinds, &counts.pairs)));
     let rows = rows::ALL.iter().map(|(answer, kinds)| format!("row {}", by_kind(answer, kinds, &counts.rows)));
-    answers.chain(dates).chain(pairs).chain(rows).chain([counts.reasons.show()]).collect()
+    let walks = walks::ALL.iter().map(|(answer, kinds)| by_kind(answer, kinds, &counts.walks));
+    answers.chain(dates).chain(pairs).chain(rows).chain(walks).chain([counts.reasons.show()]).collect()
 }
 
 /// An answer, and a line of how often each kind of it was counted.

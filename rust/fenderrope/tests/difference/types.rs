@@ -63,6 +63,24 @@ pub fn reason_out(answer: ours::plain::Reason) -> reference::Reason {
     }
 }
 
+pub fn opened_out(answer: ours::plain::Start) -> reference::Opened {
+    reference::Opened { number: answer.number, place: answer.place, at: answer.at }
+}
+
+pub fn step_out(answer: ours::plain::Step) -> reference::Step {
+    let row = reference::Row {
+        tag: answer.tag,
+        tag_place: answer.tag_place,
+        value_place: answer.value.place,
+        value_length: answer.value.length,
+    };
+    reference::Step { number: answer.number, place: answer.place, row, at: answer.at }
+}
+
+pub fn shown_out(answer: ours::plain::Where) -> reference::Shown {
+    reference::Shown { number: answer.number, place: answer.place, which: answer.which, value: part_out(answer.value) }
+}
+
 pub fn filled_out(answer: ours::plain::Filled) -> reference::Filled {
     reference::Filled { number: answer.number, place: answer.place, count: answer.count }
 }

@@ -1,11 +1,13 @@
 //! The crate's `Result`s as a program to compare: what a refusal does not carry is 0, as in the plain answers.
 
-use fenderrope::{Refusal, Verdict};
+use fenderrope::{judge, plain, walk, NotShown, Refusal, Verdict, Which};
 use reference::inputs::{run, Base, Call, Outcome};
-use reference::{Date, Dated, Filled, Hashed, Header, Integer, Numbered, Part, Reading, Reason};
+use reference::{
+    Date, Dated, Filled, Hashed, Header, Integer, Numbered, Opened, Part, Reading, Reason, Row, Shown, Step,
+};
 
 use crate::lines;
-use crate::types::{date_in, date_out, ends_out, header_in, header_out, part_out};
+use crate::types::{date_in, date_out, ends_out, header_in, header_out, part_out, step_out};
 
 struct Wrapper;
 
@@ -35,11 +37,27 @@ pub fn filled(answer: Result<usize, Refusal>) -> Filled {
     }
 }
 
+/// Where in the seal these bytes lie; a copy of them would lie elsewhere.
+pub fn part_of(seal: &[u8], part: &[u8]) -> Part {
+    Part { place: (part.as_ptr() as usize).wrapping_sub(seal.as_ptr() as usize), length: part.len() }
+}
+
 /// The reason with its parts as codes, and where in the seal the bytes judged lie.
 fn reason(seal: &[u8], why: fenderrope::Reason) -> Reason {
-    let place = why.judged.as_ptr() as usize - seal.as_ptr() as usize;
-    let judged = Part { place, length: why.judged.len() };
+    let judged = part_of(seal, why.judged);
     Reason { number: why.number, place: why.place, item: why.item.code(), rule: why.rule.code(), judged }
+}
+
+/// The row of a feature, as its slices lie in the seal.
+pub fn row(seal: &[u8], feature: fenderrope::Feature) -> Row {
+    let (whole, value) = (part_of(seal, feature.whole), part_of(seal, feature.value));
+    Row { tag: feature.tag, tag_place: whole.place, value_place: value.place, value_length: value.length }
+}
+
+/// A refusal of a look-up, and of which seal.
+fn not_shown(refused: NotShown) -> Shown {
+    let Refusal { number, place } = refused.refusal();
+    Shown { number, place, which: refused.which().map_or(0, Which::code), ..Shown::default() }
 }
 
 impl Base for Wrapper {
@@ -53,6 +71,35 @@ impl Base for Wrapper {
 
     fn why(&self, seal: &[u8]) -> Reason {
         fenderrope::why(seal).map_or(Reason::default(), |why| reason(seal, why))
+    }
+
+    /// A walk does not tell its place: it is the first feature's, and without features the header's end.
+    fn walk_open(&self, seal: &[u8]) -> Opened {
+        match walk(seal) {
+            Ok(mut walk) => {
+                let first = walk.next().map(|feature| row(seal, feature).tag_place);
+                let at = first.or(judge(seal).ok().map(|verdict| verdict.ends.header));
+                Opened { at: at.unwrap_or_default(), ..Opened::default() }
+            }
+            Err(Refusal { number, place }) => Opened { number, place, ..Opened::default() },
+        }
+    }
+
+    /// The feature of a walk that comes to this place; elsewhere the crate has the plain step alone.
+    fn walk_next(&self, seal: &[u8], at: usize) -> Step {
+        let walked = walk(seal).ok().and_then(|mut walk| walk.find(|feature| feature.tag_place == at));
+        walked.map_or_else(
+            || step_out(plain::walk_next(seal, at)),
+            |feature| Step { row: row(seal, feature), at: at + feature.whole.len(), ..Step::default() },
+        )
+    }
+
+    fn shown(&self, main: &[u8], extension: &[u8], tag: usize) -> Shown {
+        fenderrope::shown(main, extension, tag).map_or_else(not_shown, |shown| {
+            let value = part_of(if shown.which == Which::Main { main } else { extension }, shown.value);
+            assert_eq!(value.place, shown.place, "the value is not the part of the lent bytes that is named");
+            Shown { which: shown.which.code(), value, ..Shown::default() }
+        })
     }
 
     fn write(&self, h: &Header, text: &[u8], rows: &[usize], values: &[u8], sig: &[u8], out: &mut [u8]) -> Filled {

@@ -178,6 +178,29 @@ fn reasons_in_header_and_crate() {
 }
 
 #[test]
+fn walks_in_header_and_crate() {
+    header_noticed("fr_start fr_walk_open(", "fr_step fr_walk_open(", "fr_walk_open: ");
+    header_noticed(
+        "fr_walk_next(const uint8_t *seal, size_t seal_length, size_t at)",
+        "fr_walk_next(const uint8_t *seal, size_t at, size_t seal_length)",
+        "fr_walk_next: ",
+    );
+    header_noticed("fr_where fr_shown(const uint8_t *main_seal", "fr_where fr_shown(uint8_t *main_seal", "fr_shown: ");
+    header_noticed("size_t which;", "uint8_t which;", "where: ");
+    source_noticed("pub which: usize,", "pub which: u8,", "where: ");
+    source_noticed("fn fr_walk_open(seal: &[u8])", "fn fr_walk_open(seal: &mut [u8])", "fr_walk_open: ");
+    source_noticed(
+        "fn fr_walk_next(seal: &[u8], at: usize)",
+        "fn fr_walk_next(at: usize, seal: &[u8])",
+        "fr_walk_next: ",
+    );
+    source_noticed("fn fr_shown(main_seal: &[u8], extension: &[u8]", "fn fr_shown(main_seal: &[u8]", "fr_shown: ");
+    rust_noticed("fn fr_walk_open(seal: *const u8", "fn fr_walk_open(seal: *mut u8", "fr_walk_open: ");
+    rust_noticed("seal_length: usize, at: usize) -> Step", "seal_length: usize, at: u32) -> Step", "fr_walk_next: ");
+    rust_noticed("pub which: usize,", "pub which: u8,", "where: ");
+}
+
+#[test]
 fn declarations_of_this_crate() {
     rust_noticed("fn fr_hash(n: usize)", "fn fr_hash(n: u32)", "fr_hash: ");
     rust_noticed(

@@ -31,9 +31,8 @@ fn header_text() -> String {
 
 /// All Rattle sources of the face, one after another: the structs, then the calls.
 fn rattle_text() -> String {
-    let folders =
-        ["crates/face/src", "crates/face_seals/src", "crates/face_why/src", "crates/capi/src"].map(in_repository);
-    folders.iter().map(|folder| sources_of(folder)).collect()
+    let crates = ["face", "face_seals", "face_why", "face_walk", "capi"];
+    crates.iter().map(|name| sources_of(&in_repository(&format!("crates/{name}/src")))).collect()
 }
 
 /// The Rattle sources of a folder, one after another.
@@ -60,7 +59,7 @@ fn differences(left: Result<Face, String>, right: Result<Face, String>) -> Vec<S
 #[test]
 fn the_header_says_what_the_rattle_sources_say() {
     let header = header::face(&header_text()).expect("a header that is understood");
-    assert_eq!((header.structs.len(), header.calls.len()), (11, 16));
+    assert_eq!((header.structs.len(), header.calls.len()), (14, 19));
     let none: Vec<String> = Vec::new();
     assert_eq!(differences(Ok(header), source::face(&rattle_text(), "Fr")), none);
 }
@@ -117,6 +116,17 @@ fn items_and_rules_have_the_names_of_the_header() {
     }
 }
 
+/// The header has a third name, for neither of the two seals, which is no seal here.
+#[test]
+fn the_two_seals_have_the_names_of_the_header() {
+    let text = text_of(&in_repository("rust/fenderrope/src/shown.rs"));
+    let ours = source::enumerated(&text, "Which").expect("a source that is understood");
+    let mut theirs = header::numbers(&header_text(), "fr_which", "FR_").expect("a header that is understood");
+    assert_eq!((theirs.remove("NEITHER"), ours.len()), (Some(0), 2));
+    assert_eq!(theirs, ours);
+    assert_eq!((ours["MAIN"], ours["EXTENSION"]), (reference::MAIN, reference::EXTENSION));
+}
+
 /// The words that the library gives are compared with the reference's; the header's comments say the same.
 #[test]
 fn items_and_rules_have_the_words_of_the_header() {
@@ -157,6 +167,24 @@ fn a_reason_is_told_through_these_declarations() {
     assert_eq!((item.number, item.place, item.count, &name), (0, 0, 16, b"signature length\x07\x07"));
     assert_eq!((rule.number, rule.place, rule.count), (0, 0, 34));
     assert_eq!(&words, b"the length is in its shortest form\x07\x07");
+}
+
+/// A walk over Seal A, a look-up in it and one that is refused: all numbers of an answer are others, where they can be.
+#[test]
+fn walks_and_look_ups_through_these_declarations() {
+    let seal = seal_a();
+    let start = fenderrope::plain::walk_open(&seal[..81]);
+    assert_eq!((start.number, start.place, start.at), (2, 26, 0));
+    assert_eq!(fenderrope::plain::walk_open(&seal).at, 18);
+    let step = fenderrope::plain::walk_next(&seal, 18);
+    assert_eq!((step.number, step.place, step.tag, step.tag_place), (0, 0, 10, 18));
+    assert_eq!((step.value.place, step.value.length, step.at), (20, 4, 24));
+    let shown = fenderrope::plain::shown(&seal, &seal, 10);
+    assert_eq!((shown.number, shown.place, shown.which), (0, 0, 2));
+    assert_eq!((shown.value.place, shown.value.length), (20, 4));
+    let refused = fenderrope::plain::shown(&seal[..81], &seal, 10);
+    assert_eq!((refused.number, refused.place, refused.which), (2, 26, 1));
+    assert_eq!((refused.value.place, refused.value.length), (0, 0));
 }
 
 /// Seal A of the tender.

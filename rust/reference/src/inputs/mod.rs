@@ -6,8 +6,8 @@
 //! average.
 //!
 //! A program is compared by answering the calls of [`Base`] in the types of this crate; for each call of [`Inputs`],
-//! and for what [`Call::why`] makes of it, then `run(&Reference, &call)` and `run(&program, &call)` must be equal:
-//! number, place, every field and every lent byte.
+//! and for those that [`Call::beside`] puts beside it, then `run(&Reference, &call)` and `run(&program, &call)` must be
+//! equal: number, place, every field and every lent byte.
 
 mod codecs;
 mod damage;
@@ -18,6 +18,7 @@ mod outcome;
 mod random;
 mod seals;
 mod signatures;
+mod walks;
 mod writer;
 
 pub use outcome::{lent, lent_table, run, Answer, Base, Outcome, Reference};
@@ -32,6 +33,9 @@ pub enum Call {
     Read { seal: Vec<u8>, table_room: usize, text_room: usize },
     Judge { seal: Vec<u8> },
     Why { seal: Vec<u8> },
+    WalkOpen { seal: Vec<u8> },
+    WalkNext { seal: Vec<u8>, at: usize },
+    Shown { main: Vec<u8>, extension: Vec<u8>, tag: usize },
     Write { header: Header, text: Vec<u8>, rows: Vec<usize>, values: Vec<u8>, signature: Vec<u8>, room: usize },
     C40Read { bytes: Vec<u8>, room: usize },
     C40Write { text: Vec<u8>, room: usize },
@@ -51,6 +55,9 @@ impl Call {
             Call::Read { .. } => "read",
             Call::Judge { .. } => "judge",
             Call::Why { .. } => "why",
+            Call::WalkOpen { .. } => "walk_open",
+            Call::WalkNext { .. } => "walk_next",
+            Call::Shown { .. } => "shown",
             Call::Write { .. } => "write",
             Call::C40Read { .. } => "c40_read",
             Call::C40Write { .. } => "c40_write",
@@ -64,19 +71,31 @@ impl Call {
         }
     }
 
-    /// The same seal, asked why it is refused; nothing where the call is no reading. Such calls are not drawn: they are
-    /// put beside every reading that is.
+    /// The same seal, asked why it is refused; nothing where the call is no reading.
     pub fn why(&self) -> Option<Call> {
         match self {
             Call::Read { seal, .. } | Call::Judge { seal } => Some(Call::Why { seal: seal.clone() }),
             _ => None,
         }
     }
+
+    /// The same seal, opened for a walk; nothing where the call is no reading.
+    pub fn walk_open(&self) -> Option<Call> {
+        match self {
+            Call::Read { seal, .. } | Call::Judge { seal } => Some(Call::WalkOpen { seal: seal.clone() }),
+            _ => None,
+        }
+    }
+
+    /// The calls that are not drawn: they are put beside every reading that is.
+    pub fn beside(&self) -> impl Iterator<Item = Call> {
+        self.why().into_iter().chain(self.walk_open())
+    }
 }
 
 /// Every answer that a call can give.
 pub fn answers() -> impl Iterator<Item = usize> {
-    (0..=12).chain(20..=28).chain(40..=47).chain(60..=63).chain([65])
+    (0..=12).chain(20..=28).chain(40..=47).chain(50..=51).chain(60..=63).chain([65])
 }
 
 /// The calls that follow from one seed, without end.
@@ -94,7 +113,7 @@ impl Inputs {
     #[allow(clippy::should_implement_trait)]
     pub fn next(&mut self) -> Call {
         let random = &mut self.random;
-        match random.below(100) {
+        match random.below(112) {
             0..=29 => read(random),
             30..=43 => Call::Judge { seal: seal(random).0 },
             44..=65 => writer::call(random),
@@ -106,13 +125,15 @@ impl Inputs {
             88..=89 => codecs::integer_write(random),
             90..=93 => signatures::to_der(random),
             94..=97 => signatures::to_raw(random),
-            _ => Call::Hash(signatures::size(random)),
+            98..=99 => Call::Hash(signatures::size(random)),
+            100..=105 => walks::next(random),
+            _ => walks::shown(random),
         }
     }
 }
 
-/// A legal seal or a damaged one, or no seal at all, and how many features and characters the draft behind it has.
-fn seal(random: &mut Random) -> (Vec<u8>, usize, usize) {
+/// A legal seal or a damaged one, or no seal at all, and the draft behind it.
+fn seal(random: &mut Random) -> (Vec<u8>, Draft) {
     let mut draft = Draft::legal(random);
     if random.one_in(100) {
         let size = random.within(LONGEST_SEAL, LONGEST_SEAL + 4);
@@ -127,7 +148,7 @@ fn seal(random: &mut Random) -> (Vec<u8>, usize, usize) {
         }
         _ => noise(random),
     };
-    (seal, draft.features.len(), draft.signer.len() + draft.reference.len())
+    (seal, draft)
 }
 
 /// Bytes drawn blindly, some with a front that takes them further.
@@ -141,7 +162,8 @@ fn noise(random: &mut Random) -> Vec<u8> {
 
 /// A reading in rooms that are mostly enough.
 fn read(random: &mut Random) -> Call {
-    let (seal, features, text) = seal(random);
+    let (seal, draft) = seal(random);
+    let (features, text) = (draft.features.len(), draft.signer.len() + draft.reference.len());
     let rows = Row::WIDTH * features;
     let (table_room, text_room) = match random.below(9) {
         0 => (room_for_rows(random, features), random.room(text)),

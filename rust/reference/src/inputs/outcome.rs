@@ -1,13 +1,16 @@
 //! What comes of a call: the answer and the lent memory after it, both as plain values that can be compared.
 
 use super::Call;
-use crate::{Date, Dated, Filled, Hashed, Header, Integer, Numbered, Reading, Reason};
+use crate::{Date, Dated, Filled, Hashed, Header, Integer, Numbered, Opened, Reading, Reason, Shown, Step};
 
 /// The calls of the base. A program that is compared answers all of them, in the types of this crate.
 pub trait Base {
     fn read(&self, seal: &[u8], table: &mut [usize], text: &mut [u8]) -> Reading;
     fn judge(&self, seal: &[u8]) -> Reading;
     fn why(&self, seal: &[u8]) -> Reason;
+    fn walk_open(&self, seal: &[u8]) -> Opened;
+    fn walk_next(&self, seal: &[u8], at: usize) -> Step;
+    fn shown(&self, main: &[u8], extension: &[u8], tag: usize) -> Shown;
     fn write(&self, h: &Header, text: &[u8], rows: &[usize], values: &[u8], sig: &[u8], out: &mut [u8]) -> Filled;
     fn c40_read(&self, bytes: &[u8], out: &mut [u8]) -> Filled;
     fn c40_write(&self, text: &[u8], out: &mut [u8]) -> Filled;
@@ -33,6 +36,15 @@ impl Base for Reference {
     }
     fn why(&self, seal: &[u8]) -> Reason {
         crate::why(seal)
+    }
+    fn walk_open(&self, seal: &[u8]) -> Opened {
+        crate::walk_open(seal)
+    }
+    fn walk_next(&self, seal: &[u8], at: usize) -> Step {
+        crate::walk_next(seal, at)
+    }
+    fn shown(&self, main: &[u8], extension: &[u8], tag: usize) -> Shown {
+        crate::shown(main, extension, tag)
     }
     fn write(&self, h: &Header, text: &[u8], rows: &[usize], values: &[u8], sig: &[u8], out: &mut [u8]) -> Filled {
         crate::write(h, text, rows, values, sig, out)
@@ -71,6 +83,9 @@ impl Base for Reference {
 pub enum Answer {
     Reading(Reading),
     Reason(Reason),
+    Opened(Opened),
+    Step(Step),
+    Shown(Shown),
     Filled(Filled),
     Dated(Dated),
     Numbered(Numbered),
@@ -84,6 +99,9 @@ impl Answer {
         match self {
             Answer::Reading(answer) => (answer.number, answer.place),
             Answer::Reason(answer) => (answer.number, answer.place),
+            Answer::Opened(answer) => (answer.number, answer.place),
+            Answer::Step(answer) => (answer.number, answer.place),
+            Answer::Shown(answer) => (answer.number, answer.place),
             Answer::Filled(answer) => (answer.number, answer.place),
             Answer::Dated(answer) => (answer.number, answer.place),
             Answer::Numbered(answer) => (answer.number, answer.place),
@@ -135,6 +153,13 @@ pub fn run(base: &impl Base, call: &Call) -> Outcome {
         Call::Read { seal, .. } => Answer::Reading(base.read(seal, &mut table, out)),
         Call::Judge { seal } => Answer::Reading(base.judge(seal)),
         Call::Why { seal } => Answer::Reason(base.why(seal)),
+        Call::WalkOpen { seal } => Answer::Opened(base.walk_open(seal)),
+        Call::WalkNext { seal, at } => Answer::Step(base.walk_next(seal, *at)),
+        Call::Shown { main, extension, tag } => {
+            // Two seals that are equal are one, lent twice.
+            let extension = if extension == main { main } else { extension };
+            Answer::Shown(base.shown(main, extension, *tag))
+        }
         Call::Write { header, text, rows, values, signature, .. } => {
             Answer::Filled(base.write(header, text, rows, values, signature, out))
         }

@@ -2,6 +2,7 @@
 #![allow(dead_code)]
 
 pub mod codes;
+pub mod walks;
 
 use codes::rules;
 use reference::inputs::{lent, lent_table};

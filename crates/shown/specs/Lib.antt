@@ -1,0 +1,5 @@
+pub mod Where
+pub mod Found
+pub mod Values
+pub mod Theorems
+pub mod Pins

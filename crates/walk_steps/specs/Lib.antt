@@ -1,0 +1,4 @@
+pub mod Steps
+pub mod Short
+pub mod Rows
+pub mod Pins
