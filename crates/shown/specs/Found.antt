@@ -14,12 +14,12 @@ use Rattle.shown.specs.declared.Where.{Where}
 use Rattle.shown.specs.Where.{valueIn, firstOf}
 
 -- what each case means
-abbrev pub valueOf : Value → Option Part
-valueOf (Is part) = some part
-valueOf NoValue = none
+abbrev pub meaningOf : Value → Option Part
+meaningOf (Is part) = some part
+meaningOf NoValue = none
 
 abbrev pub HasValue : List ℕ → ℕ → ℕ → Value → Type 0
-HasValue s start tag v = (rows : List Row) → Finds s start rows → valueOf v ≡ valueIn tag rows
+HasValue s start tag v = (rows : List Row) → Finds s start rows → meaningOf v ≡ valueIn tag rows
 
 abbrev pub IsFirst : List ℕ → ℕ → List ℕ → ℕ → ℕ → Where → Type 0
 IsFirst main main-start extension extension-start tag w =

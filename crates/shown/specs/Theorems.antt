@@ -19,8 +19,8 @@ use Rattle.verdict.specs.Judge.{Row, Report, Verdict, accepted, refused, judge}
 use Rattle.verdict.specs.Judge.Complete.{reportOf, published-accepted}
 use Rattle.verdict.specs.Judge.Listed.{FromList, from-list}
 use Rattle.verdict.specs.Frames.{endOf}
-use Rattle.verdict.specs.Report.{featureOf, contentOf}
-use Rattle.verdict.specs.Report.Laws.{reported}
+use Rattle.verdict.specs.Report.{featureOf}
+use Rattle.verdict.specs.Report.Laws.{features-reported}
 use Rattle.reading.specs.declared.Part.{Part}
 use Rattle.walk_steps.specs.Rows.Laws.{rows-found, rows-inside}
 use Rattle.shown.specs.declared.Where.{Where}
@@ -28,11 +28,6 @@ use Rattle.shown.specs.declared.Where.the-variants.{Extension, Main, Not
 use Rattle.shown.specs.Where.{valueIn, firstOf, lookUp, whereIs, empty, answerOf, IsShown}
 use Rattle.shown.specs.Values.{Has, valueOf, Seen, bytesOf, seen, seenOf, seenIn}
 use Rattle.shown.specs.Values.Laws.{none-some, value-has, none-has, has-value, seen-rows}
-
--- the features that a report says of a published form are the content's
-features-said : (c : Content) → map (featureOf (publish c)) (reportOf c .rows) ≡ c .features
-unfolding contentOf
-features-said c = ap (λ d. d .features) (reported c)
 
 -- "For a given tag number, show the value out of the extension seal if it has that feature, otherwise out of the main seal": what is seen
 -- of two seals is what their contents say
@@ -43,8 +38,8 @@ shown-contents c d lc ld tag =
     ap (λ v. seen (publish c) (publish d) (lookUp tag v (judge (publish d)))) (published-accepted c lc)
     ∙ ap (λ w. seen (publish c) (publish d) (lookUp tag (accepted (reportOf c)) w)) (published-accepted d ld)
     ∙ seen-rows (publish c) (publish d) tag (reportOf c .rows) (reportOf d .rows)
-    ∙ ap (λ fs. seenOf (valueOf tag fs) (valueOf tag (map (featureOf (publish c)) (reportOf c .rows)))) (features-said d)
-    ∙ ap (λ fs. seenOf (valueOf tag (d .features)) (valueOf tag fs)) (features-said c)
+    ∙ ap (λ fs. seenOf (valueOf tag fs) (valueOf tag (map (featureOf (publish c)) (reportOf c .rows)))) (features-reported d)
+    ∙ ap (λ fs. seenOf (valueOf tag (d .features)) (valueOf tag fs)) (features-reported c)
 
 -- nothing is found where nothing is had
 nothing-found : (tag : ℕ) (fs : List Feature) → ((value : List ℕ) → Has tag value fs → ⊥) → valueOf tag fs ≡ none

@@ -11,16 +11,10 @@ use lib.ListN.{length, replicate}
 use denote.Ref.{RefT, now}
 use Rattle.format.specs.Bytes.{Bytes}
 use Rattle.format.specs.Choice.{pick}
-use Rattle.grammar.specs.Content.{Content}
-use Rattle.grammar.specs.Legal.{Legal}
-use Rattle.grammar.specs.Publish.{publish}
 use Rattle.rows.specs.declared.Row.{Row}
 use Rattle.verdict.specs.Items.{Read, is, not, byte, version, plainIn}
 use Rattle.verdict.specs.Judge.{Report, Verdict, accepted, refused, judge, row}
-use Rattle.verdict.specs.Judge.Complete.{reportOf}
 use Rattle.verdict.specs.Judge.Listed.{FromList, from-list}
-use Rattle.verdict.specs.Report.{featureOf, contentOf}
-use Rattle.verdict.specs.Report.Laws.{reported}
 use Rattle.verdict.specs.Frames.{endOf}
 use Rattle.reading.specs.Calls.{answerOf}
 use Rattle.walk_steps.specs.declared.Step.{Step}
@@ -60,17 +54,13 @@ asked-rows (r ∷ rows) more at s f =
     ∙ ap (λ l. foundRow r ∷ l) ih
 
 -- "It gives exactly the rows of the full reading, in order": opened on an accepted seal and asked again and again, a walk answers with the
--- rows that the judging reports, one after another, and from then on 51 for ever.
+-- rows that the judging reports, one after another, and from then on 51 for ever. "With tag and value": what these rows say of a published
+-- form is its features, `features-reported` in crates/verdict/specs/Report/Laws.antt.
 pub same-rows : (s : RefT (List ℕ)) → Bytes (now s) → (r : Report) → judge (now s) ≡ accepted r → (more : ℕ)
     → asked (length (r .rows) + more) (openedOf s .walk) ≡ map foundRow (r .rows) ++ replicate more noMore
 same-rows s bytes r e more =
     ap (λ v. asked (length (r .rows) + more) (walkAt s (startOf v .at))) e
     ∙ asked-rows (r .rows) more (r .header-end) s (rows-found (now s) bytes r e)
-
--- "with tag and value": the tags and value bytes that these rows say of the seal are the features of the content whose form it is
-pub same-features : (c : Content) → Legal c → map (featureOf (publish c)) (reportOf c .rows) ≡ c .features
-unfolding contentOf
-same-features c l = ap (λ d. d .features) (reported c)
 
 -- "A refused seal gives its number and place ... opens no walk": however often it is asked it says 51
 pub no-walk : (s : RefT (List ℕ)) (number place : ℕ) → judge (now s) ≡ refused number place

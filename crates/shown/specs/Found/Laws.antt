@@ -17,7 +17,7 @@ use Rattle.shown.specs.declared.Value.{Value}
 use Rattle.shown.specs.declared.Value.the-variants.{Is, NoValue}
 use Rattle.shown.specs.declared.Where.the-variants.{Extension, Main, Neither}
 use Rattle.shown.specs.Where.{valueIn, firstOf}
-use Rattle.shown.specs.Found.{valueOf, HasValue, IsFirst}
+use Rattle.shown.specs.Found.{meaningOf, HasValue, IsFirst}
 
 -- the rows that are left of those that the walk finds, and the value is among them
 pub record Rest (s : List ℕ) (tag at : ℕ) (rows : List Row) : Type 0 where
@@ -65,16 +65,16 @@ module _ (s : List ℕ) (start tag at : ℕ) (left : Left s start tag at) (step 
 -- the extension's value, or else the main seal's
 module _ (main : List ℕ) (from : ℕ) (extension : List ℕ) (behind tag : ℕ) (v : Value) (has : HasValue extension behind tag v) where
   pub first-extension : (p : Part) → v ≡ Is p → IsFirst main from extension behind tag (Extension p)
-  first-extension p e rows others f g = ap (λ o. firstOf o (valueIn tag rows)) (sym (ap valueOf e) ∙ has others g)
+  first-extension p e rows others f g = ap (λ o. firstOf o (valueIn tag rows)) (sym (ap meaningOf e) ∙ has others g)
 
   module _ (none : v ≡ NoValue) (w : Value) (has′ : HasValue main from tag w) where
     others-value : (rows others : List Row) → Finds main from rows → Finds extension behind others
-        → firstOf (valueOf NoValue) (valueOf w) ≡ firstOf (valueIn tag others) (valueIn tag rows)
+        → firstOf (meaningOf NoValue) (meaningOf w) ≡ firstOf (valueIn tag others) (valueIn tag rows)
     others-value rows others f g =
-        ap (firstOf (valueOf NoValue)) (has′ rows f) ∙ ap (λ o. firstOf o (valueIn tag rows)) (sym (ap valueOf none) ∙ has others g)
+        ap (firstOf (meaningOf NoValue)) (has′ rows f) ∙ ap (λ o. firstOf o (valueIn tag rows)) (sym (ap meaningOf none) ∙ has others g)
 
     pub first-main : (p : Part) → w ≡ Is p → IsFirst main from extension behind tag (Main p)
-    first-main p e rows others f g = sym (ap (λ u. firstOf (valueOf NoValue) (valueOf u)) e) ∙ others-value rows others f g
+    first-main p e rows others f g = sym (ap (λ u. firstOf (meaningOf NoValue) (meaningOf u)) e) ∙ others-value rows others f g
 
     pub first-none : w ≡ NoValue → IsFirst main from extension behind tag Neither
-    first-none e rows others f g = sym (ap (λ u. firstOf (valueOf NoValue) (valueOf u)) e) ∙ others-value rows others f g
+    first-none e rows others f g = sym (ap (λ u. firstOf (meaningOf NoValue) (meaningOf u)) e) ∙ others-value rows others f g

@@ -54,3 +54,8 @@ reported c =
     (rows-back v (c .features) h (0xFF ∷ (d ++ z)) s (length h) (append-assoc h m (0xFF ∷ (d ++ z))) refl)
     ∙ ap (λ b. record { header = c .header; features = c .features; signature = b })
     (part-there q z [] s (length h + length m + 1 + length d) e lq)
+
+-- the tags and value bytes that its rows say are its features
+pub features-reported : (c : Content) → map (featureOf (publish c)) (reportOf c .rows) ≡ c .features
+unfolding contentOf
+features-reported c = ap (λ d. d .features) (reported c)
