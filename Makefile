@@ -25,7 +25,7 @@
 # All that is built is for x86-64. What stands after tests/x86 is run on another machine too, by a toolchain that is
 # laid there once, or is named as not run.
 
-VERSION := 0.7.0
+VERSION := 0.8.0
 PREFIX ?= /usr/local
 FUZZ_SECONDS ?= 60
 

@@ -20,7 +20,7 @@ const maker makers[MAKERS] = {MAKER(c), MAKER(rust), MAKER(fr)};
 static const maker *other = makers;
 
 static given g[INPUTS];
-static uint8_t seal[INPUTS][4096], text[INPUTS][6144], bytes[INPUTS][4096], raws[INPUTS][64], ders[INPUTS][144], integers[INPUTS][10], out[6144];
+static uint8_t seal[INPUTS][4160], text[INPUTS][6144], bytes[INPUTS][4096], raws[INPUTS][64], ders[INPUTS][144], integers[INPUTS][10], out[6144];
 static size_t table[FR_TABLE_MOST], size[INPUTS], characters[INPUTS], widths[INPUTS], number[INPUTS], wanted;
 static size_t start[INPUTS], tag[INPUTS];
 static fr_date date[INPUTS];
@@ -41,6 +41,9 @@ static void lend(size_t i, given one) {
 }
 
 static size_t any_version(void) { return 3 + draw(2); }
+
+/* the tag of its first feature */
+static size_t tag_of(size_t i) { return g[i].rows[FR_ROW_TAG]; }
 
 static void ready_small(void) { EACH lend(i, real_small(any_version())); }
 static void ready_typical(void) { EACH lend(i, real_typical(any_version())); }
@@ -72,6 +75,51 @@ static void ready_used(void) {
     wanted = 9;
 }
 
+/* another first byte: 3 there */
+static void ready_mark(void) {
+    ready_typical();
+    EACH seal[i][0] ^= 1;
+    wanted = 3;
+}
+
+/* another second byte of the country, which no country has with its first: 5 at the first */
+static void ready_country(void) {
+    ready_typical();
+    EACH do seal[i][3] += 7;
+    while (other->judge(seal[i], size[i]).number != 5);
+    wanted = 5;
+}
+
+/* issued on 29 February 1900, of which the third byte alone is in no date: 6 at the first */
+static void ready_issued(void) {
+    ready_typical();
+    EACH memcpy(seal[i] + other->judge(seal[i], size[i]).ends.header - 8, "\x22\xF8\xBC", 3);
+    wanted = 6;
+}
+
+/* a used tag where FF is to follow 255 features: 9 there */
+static void ready_one_more_tag(void) {
+    ready_full();
+    EACH seal[i][other->judge(seal[i], size[i]).ends.message] = (uint8_t)tag_of(i);
+    wanted = 9;
+}
+
+/* a signature of 57 bytes: 10 at its length */
+static void ready_length(void) {
+    ready_typical();
+    EACH seal[i][other->judge(seal[i], size[i]).ends.message + 1] = 57;
+    wanted = 10;
+}
+
+/* a byte behind the seal: 11 there; and behind the longest: 1 */
+static void add_byte(size_t number) {
+    EACH seal[i][size[i]++] = 0;
+    wanted = number;
+}
+
+static void ready_more(void) { ready_typical(), add_byte(11); }
+static void ready_too_long(void) { ready_full(), add_byte(1); }
+
 /* where the walk over each seal starts; a whole walk ends with 51 */
 static void open_all(size_t number) {
     EACH start[i] = other->walk_open(seal[i], size[i]).at;
@@ -84,7 +132,6 @@ static void ready_long_walk(void) { ready_full(), open_all(51); }
 
 /* small seals with a feature each; the extension of each is the next one, which has another tag */
 static size_t after(size_t i) { return (i + 1) % INPUTS; }
-static size_t tag_of(size_t i) { return g[i].rows[FR_ROW_TAG]; }
 
 static void ready_two(void) {
     ready_small();
@@ -167,6 +214,9 @@ static const struct {
     {"read-82", ready_small, run_read},         {"read-150", ready_typical, run_read},      {"read-4096", ready_full, run_read},
     {"judge-82", ready_small, run_judge},       {"judge-150", ready_typical, run_judge},    {"judge-4096", ready_full, run_judge},
     {"judge-cut", ready_cut, run_judge},        {"judge-signer", ready_signer, run_judge},  {"judge-used", ready_used, run_judge},
+    {"judge-mark", ready_mark, run_judge},      {"judge-country", ready_country, run_judge}, {"judge-issued", ready_issued, run_judge},
+    {"judge-256", ready_one_more_tag, run_judge}, {"judge-length", ready_length, run_judge}, {"judge-more", ready_more, run_judge},
+    {"judge-long", ready_too_long, run_judge},
     {"why-82", ready_small, run_why},           {"why-150", ready_typical, run_why},        {"why-4096", ready_full, run_why},
     {"why-cut", ready_cut, run_why},            {"why-signer", ready_signer, run_why},      {"why-used", ready_used, run_why},
     {"open-150", ready_typical, run_open},      {"open-4096", ready_full, run_open},

@@ -38,7 +38,7 @@ static void see_date(size_t *fields, fr_date d) {
     fields[2] = d.year;
 }
 
-static void see_reading(seen *s, fr_reading r) {
+void see_reading(seen *s, fr_reading r) {
     see(s, r.number, r.place, r.header.version);
     s->fields[3] = r.header.country[0] + 256u * r.header.country[1] + 65536u * r.header.country[2];
     s->fields[4] = r.header.length;
@@ -52,6 +52,7 @@ static void see_reading(seen *s, fr_reading r) {
     s->fields[16] = r.signature.place;
     s->fields[17] = r.signature.length;
     s->fields[18] = r.count;
+    s->fields[19] = r.front;
 }
 
 static void see_reason(seen *s, fr_reason r) {
@@ -432,6 +433,7 @@ size_t compare_all(void) {
     same_names();
     same_orders();
     all_met();
+    same_fronts();
     same_lengths();
     same_steps(&three);
     same_steps(&four);

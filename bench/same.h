@@ -22,6 +22,9 @@ void expect(size_t number);
 /* the first fields of every answer */
 void see(seen *s, size_t number, size_t place, size_t value);
 
+/* every field of a reading */
+void see_reading(seen *s, fr_reading r);
+
 /* makes a call by each maker m, which leaves what it gave in s */
 #define SAME(CALL)                                                                                                     \
     do {                                                                                                               \
@@ -37,6 +40,9 @@ void see(seen *s, size_t number, size_t place, size_t value);
 /* the values that a byte is changed to */
 enum { OTHERS = 11 };
 extern const uint8_t others[OTHERS];
+
+/* the front part of what is refused at a pair, at a date, and for want of room (same_front.c) */
+void same_fronts(void);
 
 /* the walk over any bytes, from their opening (same_walk.c) */
 void same_walk(const uint8_t *seal, size_t n);

@@ -1,6 +1,7 @@
 /*
  * What a camera's overlay can start from: a seal as a picture, each feature in a frame from its tag to its value's end;
- * or, of a refused seal, the bytes judged in red, and beneath them why.
+ * or, of a refused seal, the bytes judged in red, the first byte that no seal has there in a thick box, and beneath
+ * them why.
  * Build it with: cc frames.c $(pkg-config --cflags --libs fenderrope) -o frames
  *
  *   frames <SEAL >PICTURE   reads a seal and writes an SVG of its bytes; bytes are in hexadecimal, places in decimal
@@ -31,7 +32,8 @@ static const char style[] = "text { font: 15px 'DejaVu Sans Mono', Menlo, Consol
     "rect.message, rect.value { fill: #fff3c4 } rect.tag { fill: #e69f00 } rect.length { fill: #f8cf7c }\n"
     ".frame { fill: none; stroke: #000; stroke-width: 2; stroke-linecap: square }\n";
 static const char red[] = "rect.byte { fill: #e8e8e8 } rect.judged { fill: #c00000 } .reason { text-anchor: start }\n"
-    "text.judged { fill: #fff; font-weight: bold } rect.missing { stroke: #c00000; stroke-width: 4 }\n";
+    "text.judged { fill: #fff; font-weight: bold } rect.missing { stroke: #c00000; stroke-width: 4 }\n"
+    "rect.hopeless, rect.sample { fill: none; stroke: #000; stroke-width: 4 }\n";
 
 /* Where the cell of a place stands. */
 static int across(size_t place) { return LEFT + (int)(place % CELLS) * CELL; }
@@ -125,20 +127,35 @@ static void reason(fr_reason why, int y) {
     line(y + 2 * ENTRY, "rule", rule, fr_rule_words(why.rule, rule, sizeof rule).count);
 }
 
-/* A refused seal: the bytes judged in red, or an empty cell for the missing byte where none were there to be judged. */
-static void draw_refused(const uint8_t *seal, size_t length, fr_reason why) {
+/* How far it is good, by a sample of the box around the first byte that no seal has there, if the input has one. */
+static void hope(const uint8_t *seal, size_t length, size_t front, int y) {
+    if (front == length) {
+        printf(TEXT("good up to %zu, the input ends too early"), "reason", LEFT, y, front);
+        return;
+    }
+    printf(BOX, "sample", LEFT + 2, y - 12, SWATCH, SWATCH);
+    printf(TEXT("good up to %zu, no seal has %02X there"), "reason", WORDS, y, front, seal[front]);
+}
+
+/*
+ * A refused seal: the bytes judged in red, or an empty cell for the missing byte where none were there to be judged;
+ * and the box, which comes last, as it lies over the neighbours' edges.
+ */
+static void draw_refused(const uint8_t *seal, size_t length, fr_reason why, size_t front) {
     size_t place = why.judged.place, end = place + why.judged.length, count = place < end ? length : length + 1;
     int y = down(count - 1) + LINE + 20;
     char title[TITLE];
     const char *more = length > FR_SEAL_MOST ? " or more" : ""; /* no more than these were read */
     sprintf(title, "%zu bytes%s, refused %zu at %zu", length, more, why.number, why.place);
-    begin(title, red, count, y + 3 * ENTRY);
+    begin(title, red, count, y + 4 * ENTRY);
     cells("byte", seal, 0, place);
     cells("judged", seal, place, end);
     cells("byte", seal, end, length);
     if (place == end)
         printf(BOX, "missing", across(end) + INSET, down(end) + INSET, CELL - 2 * INSET, HIGH - 2 * INSET);
+    if (front < length) printf(BOX, "hopeless", across(front), down(front), CELL, HIGH);
     reason(why, y);
+    hope(seal, length, front, y + 3 * ENTRY);
     printf("</svg>\n");
 }
 
@@ -158,7 +175,7 @@ int main(int count, char **arguments) {
     if (ferror(stdin)) return failed("standard input", strerror(errno));
     fr_reading r = fr_read(seal, length, table, FR_TABLE_MOST, text, sizeof text);
     if (r.number == 0) draw(seal, r, table);
-    else draw_refused(seal, length, fr_why(seal, length));
+    else draw_refused(seal, length, fr_why(seal, length), r.front);
     if (ferror(stdout) || fclose(stdout) != 0) return failed("standard output", strerror(errno));
     if (r.number == 0) return 0;
     fr_words(r.number, (uint8_t *)words, FR_WORDS_MOST);

@@ -6,9 +6,9 @@
  *
  * The press is named by feature 11: 1 to 12 upper-case letters and digits, in C40. The line of a locked press ends
  * with the frame that a camera overlay draws around the feature: the place of its tag in FILE, and how many bytes tag,
- * length and value are together. After the line of a refusal come five that tell the crew why: number, item, place,
- * bytes judged and the rule that they break. The status is 0 where a press is locked or a tag made, 1 where FILE is
- * refused or is no lock tag, and 2 where something else is wrong; standard error then says what.
+ * length and value are together. After the line of a refusal come six that tell the crew why: number, item, place,
+ * bytes judged, the rule that they break, and how far the tag is good. The status is 0 where a press is locked or a tag
+ * made, 1 where FILE is refused or is no lock tag, and 2 where something else is wrong; standard error then says what.
  *
  * Signing is the signing unit's work: make gives it the signed bytes on standard output and takes the raw signature, 64
  * bytes, from standard input. So is verifying: what is printed is what the tag says, not that it is genuine.
@@ -62,14 +62,27 @@ static const char *bytes_of(const uint8_t *bytes, size_t count) {
     return text;
 }
 
-/* Why a seal is refused: the number in words, and then what the library says of the item that breaks a rule. */
-static int refused(const uint8_t *seal, fr_reason why) {
+/* What stands behind the front part of a refused seal: the first byte that no seal has there, if there is one. */
+static const char *hopeless(const uint8_t *seal, size_t length, size_t front) {
+    static char text[sizeof "no seal has 00 there"];
+    if (front == length) return "the input ends too early";
+    sprintf(text, "no seal has %02X there", seal[front]);
+    return text;
+}
+
+/*
+ * Why a seal is refused: the number in words, then what the library says of the item that breaks a rule, and of the
+ * first hopeless byte.
+ */
+static int refused(const uint8_t *seal, size_t length, size_t front) {
+    fr_reason why = fr_why(seal, length);
     uint8_t item[FR_ITEM_NAME_MOST], rule[FR_RULE_WORDS_MOST];
     int name = (int)fr_item_name(why.item, item, sizeof item).count;
     int words = (int)fr_rule_words(why.rule, rule, sizeof rule).count;
-    return say(1, "refused %zu at %zu: %s\nnumber %zu\nitem %.*s\nplace %zu\nbytes %s\nrule %.*s\n", why.number,
-               why.place, words_of(why.number), why.number, name, (const char *)item, why.place,
-               bytes_of(seal + why.judged.place, why.judged.length), words, (const char *)rule);
+    return say(1, "refused %zu at %zu: %s\nnumber %zu\nitem %.*s\nplace %zu\nbytes %s\nrule %.*s\ngood up to %zu, %s\n",
+               why.number, why.place, words_of(why.number), why.number, name, (const char *)item, why.place,
+               bytes_of(seal + why.judged.place, why.judged.length), words, (const char *)rule, front,
+               hopeless(seal, length, front));
 }
 
 /* Text that went through C40 is a press's name if it is not empty and has no space. */
@@ -86,7 +99,7 @@ static int show(const char *path) {
     if (ferror(file)) return failed(path);
     fclose(file);
     fr_reading r = fr_read(seal, length, table, FR_TABLE_MOST, text, sizeof text);
-    if (r.number != 0) return refused(seal, fr_why(seal, length));
+    if (r.number != 0) return refused(seal, length, r.front);
     const size_t *row = table, *end = table + FR_ROW * r.count;
     while (row < end && row[FR_ROW_TAG] != PRESS) row += FR_ROW;
     if (row == end) return say(1, "no lock tag: no press is named\n");

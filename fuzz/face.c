@@ -3,7 +3,7 @@
  * refusal and none outside what is written, what is read writes back the same, and what is written reads back the same. The rows of a seal frame its
  * features, one after another, and the places of the tags change nothing of a writing. Why a seal is refused agrees
  * with the verdict and with the bytes judged (why.h); the walk agrees with the rows, and a look-up with those of two
- * seals (walk.h).
+ * seals (walk.h); some seal begins with the front part of an input, and none with a byte more of it (front.h).
  *
  * The library is compiled code that the fuzzer cannot look into. So each buffer is lent against a page that must not be touched, before it or behind it,
  * and the fuzzer is told the number and place of each answer as its counters.
@@ -23,6 +23,7 @@ static void broken(const char *what, const char *file, int line) {
 }
 
 #include "why.h"
+#include "front.h"
 
 /*
  * How often each number was answered and each call done; and the counters that the fuzzer follows, for each number, or call where it is 0, and a byte of
@@ -52,6 +53,7 @@ static void tell(void) {
         if (answers[i] != 0) fprintf(stderr, " %zu:%lu", i, answers[i]);
     fprintf(stderr, "\n");
     tell_reasons();
+    tell_offsets();
 }
 
 /* Lent memory: pages between two that must not be touched, and a copy to compare with. */
@@ -70,6 +72,7 @@ int LLVMFuzzerInitialize(int *count, char ***words) {
         MUST(pages != (uint8_t *)MAP_FAILED && mprotect(pages + PAGE, SIZE, PROT_READ | PROT_WRITE) == 0);
         rooms[i].low = pages + PAGE;
     }
+    find_days();
     atexit(tell);
     return 0;
 }
@@ -100,16 +103,17 @@ static int same_header(fr_header a, fr_header b) {
 
 static int same_reading(fr_reading a, fr_reading b) {
     return a.number == b.number && a.place == b.place && same_header(a.header, b.header) && memcmp(&a.ends, &b.ends, sizeof(fr_ends)) == 0
-        && memcmp(&a.signature, &b.signature, sizeof(fr_part)) == 0 && a.count == b.count;
+        && memcmp(&a.signature, &b.signature, sizeof(fr_part)) == 0 && a.count == b.count && a.front == b.front;
 }
 
-/* An answer that refuses: every field but number and place is 0, and nothing lent has changed. */
+/* An answer that refuses: every field but number, place and front is 0, and nothing lent has changed. */
 static void refused(fr_reading r) {
     fr_reading none;
     seen(READ, r.number, r.place);
     memset(&none, 0, sizeof none);
     none.number = r.number;
     none.place = r.place;
+    none.front = r.front;
     MUST(r.number != 0 && same_reading(r, none) && kept(SEAL, 0) && kept(TABLE, 0) && kept(TEXT, 0));
 }
 
@@ -173,7 +177,7 @@ static fr_reading read_into(const uint8_t *seal, size_t size, size_t numbers, si
 static void too_short(const uint8_t *seal, size_t size, size_t numbers, size_t room) {
     fr_reading r = read_into(seal, size, numbers, room);
     refused(r);
-    MUST(r.number == 12 && r.place == 0);
+    MUST(r.number == 12 && r.place == 0 && r.front == size);
 }
 
 /* With just the room, or one more, which is no whole row, the answer is the same; with one less, or a number less a feature, it is 12. */
@@ -204,6 +208,7 @@ static fr_reading read_whole(const void *bytes, size_t size) {
     fr_reading r = read_into(seal, size, FR_TABLE_MOST, FR_TEXT_MOST);
     MUST(same_reading(r, fr_judge(seal, size)));
     explained(r, seal, size);
+    fronted(r, seal, size);
     walked(r, seal, size, (const size_t *)(const void *)rooms[TABLE].at);
     strayed(seal, size);
     MUST(kept(SEAL, 0));
@@ -486,6 +491,8 @@ int LLVMFuzzerTestOneInput(const uint8_t *data, size_t size) {
     late = size == 0 || (data[size - 1] & 1) == 0;
     choose(data, size);
     read_seal(data, size);
+    drawn_header();
+    crowded();
     write_seal(data, size);
     codecs(data, size);
     return 0;

@@ -40,13 +40,15 @@ static int is_country(const uint8_t *t) {
     return t[2] == ' ' || (is_letter(t[1]) && is_letter(t[2]));
 }
 
-/* The width of a version 4 reference, by the two digits in the names. */
-static size_t reference_width(const uint8_t *seal) {
+/* The length of a version 4 reference, by the two digits in the names, and how wide it is in C40. */
+static size_t reference_length(const uint8_t *seal) {
     uint8_t t[6];
     MUST(fr_c40_read(seal + 4, 4, t, 6).count == 6 && is_digit(t[4]) && is_digit(t[5]));
     size_t high = t[4] - (t[4] < 'A' ? '0' : 'A' - 10u), low = t[5] - (t[5] < 'A' ? '0' : 'A' - 10u);
-    return (16 * high + low + 2) / 3 * 2;
+    return 16 * high + low;
 }
+
+static size_t reference_width(const uint8_t *seal) { return (reference_length(seal) + 2) / 3 * 2; }
 
 /* Where an item of the header begins; for what stands behind the header, its end. */
 static size_t place_of(size_t item, const uint8_t *seal) {

@@ -3,9 +3,10 @@
  *
  * Every call takes every input and answers by value. `number` is 0 when the call is done; any other number is a
  * refusal from the list below, and `place` says where: it is 0 where the call names no other. On a refusal no lent
- * memory changes and every field but number and place is 0, save that fr_why says why a seal is refused, and fr_shown
- * which. On 0 a call that fills a buffer writes from its start, gives the count written, and leaves the memory past
- * it as it was. docs/NUMBERS.md has the numbers with their order and places.
+ * memory changes and every field but number and place is 0, save that fr_read and fr_judge say how far the input is
+ * good, fr_why why a seal is refused, and fr_shown which. On 0 a call that fills a buffer writes from its start, gives
+ * the count written, and leaves the memory past it as it was. docs/NUMBERS.md has the numbers with their order and
+ * places.
  *
  * A buffer is a pointer and a length. The pointer is not null unless the length is 0, points to as many elements as
  * the length says, and a buffer that is written overlaps no other buffer of the same call. No call keeps a pointer,
@@ -35,7 +36,7 @@ extern "C" {
 #endif
 
 /* The version of this header and its library. */
-#define FR_VERSION "0.7.0"
+#define FR_VERSION "0.8.0"
 
 /* Sizes that hold for every legal seal (document 01, "Sizes"). */
 #define FR_SEAL_MOST 4096      /* bytes of a seal */
@@ -215,6 +216,7 @@ typedef struct fr_reading {
     fr_ends ends;
     fr_part signature; /* the raw signature: r, then s */
     size_t count;      /* of features */
+    size_t front;      /* length of the longest front part of the input with which some accepted seal begins */
 } fr_reading;
 
 /* What fr_why answers. */
@@ -296,6 +298,12 @@ typedef struct fr_hashed {
  * The place is the first byte of the item that was not read, and for 5 of its first C40 pair that is wrongly coded or
  * does not fit the number of characters, if it has one; for 1 it is 4,096, for 10 the first byte of the length, for 11
  * the first extra byte, for 12 it is 0.
+ *
+ * `front` is given on every number: some accepted seal begins with the first `front` bytes of the input, and none with
+ * one byte more of it, if it has more. So seal[front], where there is one, is the first byte that no seal has there,
+ * and where front is seal_length every byte given is hopeful. The 4,096 limit, the tags used before and the room that
+ * a signature needs all count. For an accepted seal it is the whole length, on 12 too; on a refusal it is the one
+ * further field that need not be 0, and on 1 it is at most 4,096.
  */
 fr_reading fr_read(const uint8_t *seal, size_t seal_length, size_t *table, size_t table_length, uint8_t *text,
                    size_t text_length);

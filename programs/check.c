@@ -1,6 +1,6 @@
 /*
  * fenderrope-check [FILE]: whether the seal in FILE, or on standard input, is good, and why if it is not. Prints the
- * first line of its listing: `accepted`, or `refused NUMBER at PLACE`; and after the second the five lines that
+ * first line of its listing: `accepted`, or `refused NUMBER at PLACE`; and after the second the first five lines that
  * fenderrope-why prints. Status 0 accepted, 1 refused, 2 anything else, so that a shell that says
  * `fenderrope-check <tag && start` starts only where the seal was accepted and the line was written.
  */

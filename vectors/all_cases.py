@@ -13,6 +13,7 @@ import sys
 import c40_cases
 import der_cases
 import feature_cases
+import front_cases
 import listing_cases
 import pair_cases
 import seal_cases
@@ -23,7 +24,7 @@ import write_cases
 
 BUFFER = 65536   # the program's for a file of cases and for their answers, neither of which may fill it
 LETTERS = {"c40": "c", "numbers": "n", "signatures": "s", "seals": "r", "writing": "w", "listing": "l",
-           "why": "y", "walk": "f", "features": "t"}
+           "why": "y", "walk": "f", "features": "t", "fronts": "h"}
 BACK = "b"   # chapters of seals that are read and written back
 NAMES = {
     "c40": c40_cases.chapters(),
@@ -35,6 +36,7 @@ NAMES = {
     "why": why_cases.chapters(),
     "walk": itertools.chain(walk_cases.chapters(), shown_cases.chapters()),
     "features": feature_cases.chapters(),
+    "fronts": front_cases.chapters(),
 }
 
 

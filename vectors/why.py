@@ -1,4 +1,5 @@
-"""Reference for the reason of a refusal (document 02, Ticket 11), and the lines that tell it.
+"""Reference for the reason of a refusal (document 02, Ticket 11), and the lines that tell it; the sixth is of the first
+hopeless byte (Ticket 12, front.py).
 
 `table` sets out the items in the order in which they are judged, each with its rules in their order. A rule is its
 words and a test of the bytes from the item's first one to the input's end: None where it is kept, else which bytes were
@@ -11,6 +12,7 @@ import re
 
 from c40_cases import LAST_PAIRS
 from der_cases import FOLLOWING, date_of, length_bytes
+from front import front
 from seals import COUNTRY, MOST, SIGNER, SIZES
 
 # The rules in words, in the order of their codes from 1 on, and the number that is answered where one is broken.
@@ -187,9 +189,17 @@ def shown(data):
     return (data[:16].hex(" ").upper() or "none") + more
 
 
+def good_part(seal):
+    """How far the input is hopeful, and the byte there with which no seal goes on."""
+    length = front(seal)
+    return f"good up to {length}, " + (
+        f"no seal has {seal[length]:02X} there" if length < len(seal) else "the input ends too early")
+
+
 def told(seal, reason):
     """What is printed of a seal."""
     if reason is None:
         return "accepted\n"
     judged = shown(seal[reason.place:reason.place + reason.length])
-    return f"number {reason.number}\nitem {reason.item}\nplace {reason.place}\nbytes {judged}\nrule {reason.rule}\n"
+    return (f"number {reason.number}\nitem {reason.item}\nplace {reason.place}\nbytes {judged}\nrule {reason.rule}\n"
+            f"{good_part(seal)}\n")

@@ -1,6 +1,8 @@
 /* C written for speed, for fr_read and fr_judge: item by item in one way for good and refused seals; a bit a tag tells whether it was used; text
-   through the table of pairs; once all is judged a second walk, which tests nothing, writes the rows, and the text goes by memcpy. */
+   through the table of pairs; once all is judged a second walk, which tests nothing, writes the rows, and the text goes by memcpy. How far a
+   refused seal is good is reckoned by another walk (front.c), which a good one does not need. */
 #include "days.h"
+#include "front.h"
 #include "letters.h"
 #include "tables.h"
 
@@ -179,20 +181,29 @@ static fr_reading judge(const uint8_t *s, size_t n, uint8_t *names) {
     a.signature.place = i.next.place;
     a.signature.length = i.value;
     a.ends.seal = n;
+    a.front = n;
+    return a;
+}
+
+/* an answer with the front part of a refused seal too */
+static fr_reading fronted(fr_reading a, const uint8_t *s, size_t n) {
+    if (a.number) a.front = c_front(s, n);
     return a;
 }
 
 fr_reading c_read(const uint8_t *s, size_t n, size_t *table, size_t numbers, uint8_t *text, size_t room) {
     uint8_t names[259];
-    fr_reading a = judge(s, n, names);
+    fr_reading a = fronted(judge(s, n, names), s, n);
     if (a.number) return a;
-    if (numbers < FR_ROW * a.count || room < 4 + a.header.length) return refuse((refusal){12, 0});
+    if (numbers < FR_ROW * a.count || room < 4 + a.header.length) return (fr_reading){.number = 12, .front = n};
     put_rows(a.ends.header, s, a.header.version, a.count, table);
     memcpy(text, names, 4 + a.header.length);
     return a;
 }
 
-fr_reading c_judge(const uint8_t *s, size_t n) {
+fr_reading c_verdict(const uint8_t *s, size_t n) {
     uint8_t names[259];
     return judge(s, n, names);
 }
+
+fr_reading c_judge(const uint8_t *s, size_t n) { return fronted(c_verdict(s, n), s, n); }

@@ -16,11 +16,22 @@ extern uint32_t c_pairs[65536];
 extern uint32_t c_first[256], c_second[256], c_third[256];
 #define STRANGER 0x10000u
 
-static inline uint32_t pair_at(const uint8_t *s) {
+/* What a pair of a header's text may be, a bit each: a country; the signer's first three; three letters or digits; the signer's last and the
+   reference's length; two letters or digits, and one, that end a reference. */
+enum { COUNTRY = 1, SIGNER = 2, THREE = 4, LENGTH = 8, TWO = 16, ONE = 32 };
+
+/* Which of them a pair is, by its 16 bits as above; and by a first byte, which of them some pair is that begins with it. */
+extern uint8_t c_kinds[65536], c_begins[256];
+
+static inline uint16_t bits_at(const uint8_t *s) {
     uint16_t pair;
     memcpy(&pair, s, 2);
-    return c_pairs[pair];
+    return pair;
 }
+
+static inline uint32_t pair_at(const uint8_t *s) { return c_pairs[bits_at(s)]; }
+
+static inline unsigned kinds_at(const uint8_t *s) { return c_kinds[bits_at(s)]; }
 
 static inline size_t count_of(uint32_t entry) { return entry >> 24; }
 

@@ -1,9 +1,10 @@
 /* C written for speed, for fr_walk_open, fr_walk_next and fr_shown: the judge (reader.c) says where a walk begins; a
    step tests what it reads; a look-up in seals that were judged tests nothing any more. */
 #include "der.h"
+#include "front.h"
 
 fr_start c_walk_open(const uint8_t *s, size_t n) {
-    fr_reading r = c_judge(s, n);
+    fr_reading r = c_verdict(s, n);
     return (fr_start){r.number, r.place, r.ends.header};
 }
 

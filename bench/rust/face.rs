@@ -44,6 +44,7 @@ pub struct Reading {
     pub ends: Ends,
     pub signature: Part,
     pub count: usize,
+    pub front: usize,
 }
 
 #[repr(C)]

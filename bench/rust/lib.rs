@@ -4,6 +4,7 @@ use std::slice::{from_raw_parts, from_raw_parts_mut};
 
 mod der;
 mod face;
+mod front;
 mod numbers;
 mod reader;
 mod signature;

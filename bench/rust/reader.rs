@@ -1,6 +1,8 @@
-//! The reader: item by item from the left, an item that is not read ends the reading; once all is judged a second walk writes the rows.
+//! The reader: item by item from the left, an item that is not read ends the reading; once all is judged a second walk writes the rows. How far a refused
+//! seal is good is reckoned by a walk of its own.
 use crate::der;
 use crate::face::{refusal, Date, Ends, Header, Part, Reading, Refusal, Row, ROW};
+use crate::front::front;
 use crate::text;
 
 /// A place in the seal, moved past each item that is read.
@@ -206,6 +208,7 @@ fn judge_names(seal: &[u8], names: &mut [u8; 259]) -> Result<Reading, Refusal> {
         ends: Ends { header: header_end, message, seal: seal.len() },
         signature,
         count,
+        front: seal.len(),
     })
 }
 
@@ -221,8 +224,12 @@ fn put_rows(reading: &Reading, seal: &[u8], table: &mut [usize]) -> Result<(), R
     Ok(())
 }
 
-fn reading_of(answer: Result<Reading, Refusal>) -> Reading {
-    answer.unwrap_or_else(|Refusal { number, place }| Reading { number, place, ..Reading::default() })
+/// A seal that is refused for want of room, 12, is good to its end.
+fn reading_of(seal: &[u8], answer: Result<Reading, Refusal>) -> Reading {
+    answer.unwrap_or_else(|Refusal { number, place }| {
+        let front = if number == 12 { seal.len() } else { front(seal) };
+        Reading { number, place, front, ..Reading::default() }
+    })
 }
 
 fn try_read(seal: &[u8], table: &mut [usize], text: &mut [u8]) -> Result<Reading, Refusal> {
@@ -236,10 +243,15 @@ fn try_read(seal: &[u8], table: &mut [usize], text: &mut [u8]) -> Result<Reading
     Ok(reading)
 }
 
+/// The verdict, with no front part of a refused seal.
+pub fn verdict(seal: &[u8]) -> Result<Reading, Refusal> {
+    judge_names(seal, &mut [0; 259])
+}
+
 pub fn judge(seal: &[u8]) -> Reading {
-    reading_of(judge_names(seal, &mut [0; 259]))
+    reading_of(seal, verdict(seal))
 }
 
 pub fn read(seal: &[u8], table: &mut [usize], text: &mut [u8]) -> Reading {
-    reading_of(try_read(seal, table, text))
+    reading_of(seal, try_read(seal, table, text))
 }

@@ -35,6 +35,17 @@ fn count_in(pair: &[u8], is_last: bool) -> Result<usize, usize> {
     }
 }
 
+/// The characters of a pair that is the last, and how many they are, if it is rightly coded.
+pub fn characters(pair: [u8; 2]) -> Option<([u8; 3], usize)> {
+    let count = count_in(&pair, true).ok()?;
+    let u = usize::from(u16::from_be_bytes(pair)) - 1;
+    let characters = match count {
+        1 => [pair[1] - 1, 0, 0],
+        _ => [CHART[u / 1600 % 40], CHART[u / 40 % 40], CHART[u % 40]],
+    };
+    Some((characters, count))
+}
+
 pub fn read(bytes: &[u8], out: &mut [u8]) -> Result<usize, Refusal> {
     let n = bytes.len();
     if n > 4096 {

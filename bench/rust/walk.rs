@@ -1,11 +1,13 @@
 //! The walk over the features of a seal, and the look-up of a tag in a main seal and its extension.
 use crate::der;
-use crate::face::{Part, Start, Step, Where};
+use crate::face::{Part, Refusal, Start, Step, Where};
 use crate::reader;
 
 pub fn open(seal: &[u8]) -> Start {
-    let reading = reader::judge(seal);
-    Start { number: reading.number, place: reading.place, at: reading.ends.header }
+    match reader::verdict(seal) {
+        Ok(reading) => Start { at: reading.ends.header, ..Start::default() },
+        Err(Refusal { number, place }) => Start { number, place, at: 0 },
+    }
 }
 
 /// The feature at a place, if one stands there.

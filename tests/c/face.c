@@ -6,6 +6,7 @@
 #include "lent.h"
 
 #include "codecs.h"
+#include "front.h"
 #include "reading.h"
 #include "walking.h"
 #include "why.h"
@@ -24,6 +25,11 @@ int main(void) {
     test_pairs();
     test_lengths();
     test_places();
+    test_front_three();
+    test_front_four();
+    test_front_follow();
+    test_front_room();
+    test_front_most();
     test_why_three();
     test_why_four();
     test_why_most();

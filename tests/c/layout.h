@@ -36,13 +36,14 @@ LAYOUT(fr_part, 16);
 FIELD(fr_part, place, 0, 8);
 FIELD(fr_part, length, 8, 8);
 
-LAYOUT(fr_reading, 152);
+LAYOUT(fr_reading, 160);
 FIELD(fr_reading, number, 0, 8);
 FIELD(fr_reading, place, 8, 8);
 FIELD(fr_reading, header, 16, 88);
 FIELD(fr_reading, ends, 104, 24);
 FIELD(fr_reading, signature, 128, 16);
 FIELD(fr_reading, count, 144, 8);
+FIELD(fr_reading, front, 152, 8);
 
 LAYOUT(fr_reason, 48);
 FIELD(fr_reason, number, 0, 8);

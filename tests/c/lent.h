@@ -65,18 +65,34 @@ static int no_header(fr_header h) {
         && same_date(h.signed_on, 0, 0, 0) && h.definition == 0 && h.category == 0;
 }
 
+/* Whether an answer refuses so: every field but these two and the front part is 0. */
 static int unread(fr_reading r, size_t number, size_t place) {
     return r.number == number && r.place == place && no_header(r.header) && r.ends.header == 0 && r.ends.message == 0 && r.ends.seal == 0
         && r.signature.place == 0 && r.signature.length == 0 && r.count == 0;
 }
 
 /*
+ * What holds of the front part for every input: a good seal is its own; that of any other lies in it, is its own front
+ * part and no more than cut; and with a byte more the input is refused, and is good so far.
+ */
+static int hopes(const uint8_t *seal, size_t length) {
+    fr_reading r = fr_judge(seal, length), part, more;
+    if (r.front > length || r.front > FR_SEAL_MOST || (r.number == 0 && r.front != length)) return 0;
+    part = fr_judge(seal, r.front);
+    if (part.front != r.front || (part.number != 0 && part.number != 2)) return 0;
+    if (r.front == length) return 1;
+    more = fr_judge(seal, r.front + 1);
+    return more.number != 0 && more.front == r.front;
+}
+
+/*
  * What holds of the reason for every input: number and place are the verdict's; an accepted seal has none; a refused
- * one has an item, a rule and a part of the seal, which begins at the place.
+ * one has an item, a rule and a part of the seal, which begins at the place. And what holds of the front part.
  */
 static int tells(const uint8_t *seal, size_t length) {
     fr_reading r = fr_judge(seal, length);
     fr_reason w = fr_why(seal, length);
+    if (!hopes(seal, length)) return 0;
     if (w.number != r.number || w.place != r.place || w.judged.place != w.place) return 0;
     if (w.number == 0) return w.place == 0 && w.item == 0 && w.rule == 0 && w.judged.length == 0;
     if (w.item < FR_ITEM_SEAL || w.item > FR_ITEM_END) return 0;
@@ -86,9 +102,10 @@ static int tells(const uint8_t *seal, size_t length) {
 
 /* Reads with all the room that there can be: the verdict alone and the reading both refuse so, and nothing lent changes. */
 static int refuses(const uint8_t *seal, size_t length, size_t number, size_t place) {
+    fr_reading judged = fr_judge(seal, length), read;
     fresh();
-    return unread(fr_judge(seal, length), number, place) && unread(fr_read(seal, length, table, FR_TABLE_MOST, lent, FR_TEXT_MOST), number, place)
-        && tells(seal, length) && kept(0, 0);
+    read = fr_read(seal, length, table, FR_TABLE_MOST, lent, FR_TEXT_MOST);
+    return unread(judged, number, place) && unread(read, number, place) && read.front == judged.front && tells(seal, length) && kept(0, 0);
 }
 
 /* The numbers of a row, in their order. */
@@ -145,7 +162,7 @@ static int is_header_a(fr_header h) {
 /* Every field of an answer about Seal A. */
 static int is_reading_a(fr_reading r) {
     return r.number == 0 && r.place == 0 && is_header_a(r.header) && r.ends.header == 18 && r.ends.message == 24 && r.ends.seal == 82
-        && r.signature.place == 26 && r.signature.length == 56 && r.count == 1;
+        && r.signature.place == 26 && r.signature.length == 56 && r.count == 1 && r.front == 82;
 }
 
 #endif

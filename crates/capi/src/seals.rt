@@ -4,6 +4,7 @@ ghost use lib.ListN.{length};
 ghost use Rattle.format.specs.Answers.{told, filled};
 ghost use Rattle.reading.specs.Calls.{answerOf, reading, rowsIn, textIn, then};
 ghost use Rattle.verdict.specs.Judge.{judge};
+ghost use Rattle.front_header.specs.Header.{front};
 ghost use Rattle.write_given.specs.Given.{given};
 ghost use Rattle.write_judge.specs.Calls.{writing};
 ghost use Rattle.face.specs.Face.{filledOf};
@@ -15,26 +16,29 @@ use face_seals::FrHeader;
 use face_seals::FrReading;
 use face_why::FrReason;
 
-// Reads a seal: `reader::read`. On 0 a row for each feature stands in `table`, and signer and reference in `text`; on any
-// other number both stay, and every field but number and place is 0.
+// Reads a seal: `front_reading::read`. On 0 a row for each feature stands in `table`, and signer and reference in `text`; on any
+// other number both stay, and every field but number, place and front is 0.
 #[no_mangle]
 pub extern "C" fn fr_read(seal: &[u8], table: &mut [usize], text: &mut [u8]) -> FrReading
     ensures answer { λ r. ⌜ r
-        ≡ readingOf (answerOf (reading (now (seal .entry)) (length (now (table .entry))) (length (now (text .entry))))) ⌝ }
+        ≡ readingOf (answerOf (reading (now (seal .entry)) (length (now (table .entry))) (length (now (text .entry)))))
+        (front (now (seal .entry))) ⌝ }
     ensures rows { λ r. ⌜ now (table .exit)
         ≡ then (rowsIn (reading (now (seal .entry)) (length (now (table .entry))) (length (now (text .entry))))) (now (table .entry)) ⌝ }
     ensures names { λ r. ⌜ now (text .exit)
         ≡ then (textIn (reading (now (seal .entry)) (length (now (table .entry))) (length (now (text .entry))))) (now (text .entry)) ⌝ }
 {
-    FrReading::of(reader::read(seal, table, text))
+    let read = front_reading::read(seal, table, text);
+    FrReading::of(read.reading, read.front)
 }
 
-// The verdict on a seal, with nothing lent: `reader::judge`.
+// The verdict on a seal, with nothing lent: `front_reading::judge`.
 #[no_mangle]
 pub extern "C" fn fr_judge(seal: &[u8]) -> FrReading
-    ensures { λ r. ⌜ r ≡ readingOf (answerOf (judge (now (seal .entry)))) ⌝ }
+    ensures { λ r. ⌜ r ≡ readingOf (answerOf (judge (now (seal .entry)))) (front (now (seal .entry))) ⌝ }
 {
-    FrReading::of(reader::judge(seal))
+    let judged = front_reading::judge(seal);
+    FrReading::of(judged.reading, judged.front)
 }
 
 // Why a seal is refused, and every field 0 for an accepted one: `why::why`.

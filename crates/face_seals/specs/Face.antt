@@ -1,6 +1,7 @@
 -- The structs of the C face for whole seals, field by field: each holds what the layer beneath answers, and nothing is lost on the way
 -- (Kept.antt beside this file).
 -- Assumes nothing.
+use Prim.Native.Nat.{ℕ}
 use Rattle.fields.specs.declared.Header.{Header}
 use Rattle.reading.specs.declared.Ends.{Ends}
 use Rattle.reading.specs.declared.Part.{Part}
@@ -30,8 +31,9 @@ endsOf e = record { header = e .header; message = e .message; seal = e .seal }
 abbrev pub partOf : Part → FrPart
 partOf p = record { place = p .place; length = p .length }
 
-abbrev pub readingOf : Reading → FrReading
-readingOf r =
+-- a reading, and the front part of its input beside it
+abbrev pub readingOf : Reading → ℕ → FrReading
+readingOf r front =
     record {
       number = r .number;
       place = r .place;
@@ -39,6 +41,7 @@ readingOf r =
       ends = endsOf (r .ends);
       signature = partOf (r .signature);
       count = r .count;
+      front = front;
     }
 
 -- inwards: what the face is given, as the call beneath takes it

@@ -1,6 +1,7 @@
 -- Nothing is lost on the way: from each struct of whole seals, what it was made of comes back whole.
 -- Assumes nothing.
 use mathlib.Core.Path.{_≡_, refl}
+use Prim.Native.Nat.{ℕ}
 use Rattle.fields.specs.declared.Header.{Header}
 use Rattle.reading.specs.declared.Reading.{Reading}
 use Rattle.face_seals.specs.declared.FrHeader.{FrHeader}
@@ -26,5 +27,8 @@ readingIn f =
       count = f .count;
     }
 
-pub reading-kept : (r : Reading) → readingIn (readingOf r) ≡ r
-reading-kept r = refl
+pub reading-kept : (r : Reading) (front : ℕ) → readingIn (readingOf r front) ≡ r
+reading-kept r front = refl
+
+pub front-kept : (r : Reading) (front : ℕ) → readingOf r front .front ≡ front
+front-kept r front = refl

@@ -44,6 +44,7 @@ reading-out :
       signature = record { place = 16; length = 17 };
       count = 18;
     })
+    19
     ≡ record {
       number = 10;
       place = 11;
@@ -51,5 +52,6 @@ reading-out :
       ends = record { header = 13; message = 14; seal = 15 };
       signature = record { place = 16; length = 17 };
       count = 18;
+      front = 19;
     }
 reading-out = refl

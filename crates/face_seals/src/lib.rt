@@ -35,7 +35,7 @@ pub struct FrPart {
     pub length: usize,
 }
 
-// What a reading answers.
+// What a reading answers; `front` is the length of the longest front part of the input with which some accepted seal begins.
 #[repr(C)]
 pub struct FrReading {
     pub number: usize,
@@ -44,6 +44,7 @@ pub struct FrReading {
     pub ends: FrEnds,
     pub signature: FrPart,
     pub count: usize,
+    pub front: usize,
 }
 
 impl FrHeader {
@@ -85,9 +86,9 @@ impl FrHeader {
 }
 
 impl FrReading {
-    // A reading, as the face gives it.
-    pub fn of(reading: Reading) -> FrReading
-        ensures { λ r. ⌜ r ≡ readingOf reading ⌝ }
+    // A reading and the front part beside it, as the face gives them.
+    pub fn of(reading: Reading, front: usize) -> FrReading
+        ensures { λ r. ⌜ r ≡ readingOf reading front ⌝ }
     {
         let header = FrHeader::of(reading.header);
         let ends = reading.ends;
@@ -106,6 +107,7 @@ impl FrReading {
                 length: signature.length,
             },
             count: reading.count,
+            front,
         }
     }
 }

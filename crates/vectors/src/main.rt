@@ -12,6 +12,7 @@ enum Calls {
     Back,
     Listing,
     Why,
+    Front,
     Walk,
 }
 
@@ -28,6 +29,7 @@ fn run_line(calls: Calls, line: &[u8], out: &mut [u8], to: usize) -> usize
         Calls::Back => case_back::run_line(line, out, to),
         Calls::Listing => case_listing::run_line(line, out, to),
         Calls::Why => case_why::run_line(line, out, to),
+        Calls::Front => case_front::run_line(line, out, to),
         Calls::Walk => case_walk::run_line(line, out, to),
     }
 }
@@ -86,6 +88,7 @@ fn calls_of(letter: u8) -> Calls {
         b'w' => Calls::Writing,
         b'b' => Calls::Back,
         b'y' => Calls::Why,
+        b'h' => Calls::Front,
         b'f' | b't' => Calls::Walk,
         _ => Calls::Listing,
     }

@@ -1,13 +1,14 @@
--- How long a text can be: 214 bytes are room for every one. 10 for the number, 26 for the item, 27 for the place, 84 for the bytes and 67
--- for the rule.
+-- How long a text can be: 256 bytes are room for every one. 10 for the number, 26 for the item, 27 for the place, 84 for the bytes, 67 for
+-- the rule and 42 for the front part.
 -- Assumes nothing.
 use Prim.Native.Nat.{ℕ, _*_, _-_, _≤_, _<_}
 use native.Mathlib.Omega.{arith}
 use mathlib.Core.Path.{_≡_, refl, ap}
 use borrow.Author.Tests.{eqb-true, eqb-false}
 use mathlib.Core.List.{List, [], _∷_, _++_}
-use lib.Dec.{eqb}
+use lib.Dec.{eqb, ltb}
 use lib.ListN.{length, take, drop, length-append, length-take, length-drop}
+use Rattle.format.specs.Bytes.{Bytes}
 use Rattle.format.specs.Choice.{pick}
 use Rattle.format.specs.Choice.Laws.{by-test}
 use Rattle.verdict.specs.Items.{Way, is, not}
@@ -21,8 +22,11 @@ use Rattle.hex_bytes.specs.Shown.Laws.{more-none, more-some, shown-none, shown-
 use Rattle.why_words.specs.Names.{nameOf, wordsOf}
 use Rattle.why_words.specs.Calls.Laws.{longest-name, longest-words}
 use Rattle.why.specs.declared.Reason.{Reason}
+use Rattle.front.specs.Front.Crew.{at-most}
+use Rattle.front_header.specs.Header.{front}
+use Rattle.front_header.specs.Exact.{front-is}
 use Rattle.why.specs.Told.{telling, told}
-use Rattle.why_lines.specs.Lines.{judgedIn, reasonLines, textOf, whyText}
+use Rattle.why_lines.specs.Lines.{judgedIn, reasonLines, endingOf, frontLine, textOf, whyText}
 
 -- what fits 64 bits has at most 20 digits
 abbrev pub Word : ℕ → Type 0
@@ -53,6 +57,19 @@ shown-size s h =
     let few = length-take most s in
     omega (arith, hex-size (take most s), more-size n (omega arith)))
 
+-- one byte, or none
+shown-empty : length (shown []) ≡ 5
+shown-empty = refl
+
+shown-one : (b : ℕ) → length (shown (b ∷ [])) ≡ 3
+unfolding hexBytes
+shown-one b = refl
+
+one-size : (s : List ℕ) → length s ≤ 1 → length (shown s) ≤ 5
+one-size [] h = omega (arith, shown-empty)
+one-size (b ∷ []) h = omega (arith, shown-one b)
+one-size (b ∷ c ∷ s) h = absurd (omega arith)
+
 -- the five lines
 abbrev joint : List ℕ → List ℕ → List ℕ → List ℕ → List ℕ → List ℕ
 joint n i p b r = line "number " n then line "item " i then line "place " p then line "bytes" b then line "rule " r
@@ -71,20 +88,46 @@ reason-size r judged h g f =
     (shown-size judged f)
     (longest-words .most (r .rule))
 
-text-size : (s : List ℕ) (r : Reason) → r .number ≤ 11 → Word (r .place) → Word (length s) → length (textOf s r) ≤ 214
-text-size s r h g f =
+-- the line of a front part
+ending-size : (s : List ℕ) (k : ℕ) → length (endingOf s k) ≤ 26
+ending-size s k =
+    by-test (ltb k (length s))
+    (λ e.
+    let few = length-take 1 (drop k s) in
+    let size : length (ascii ", no seal has" ++ (shown (take 1 (drop k s)) ++ ascii " there")) ≤ 26 =
+    simp length-append (omega (arith, one-size (take 1 (drop k s)) (omega arith))) in
+    omega (
+      arith,
+      ap (λ b. length (pick b (ascii ", no seal has" ++ (shown (take 1 (drop k s)) ++ ascii " there"))
+          (ascii ", the input ends too early"))) e,
+    ))
+    (λ e. omega (
+      arith,
+      ap (λ b. length (pick b (ascii ", no seal has" ++ (shown (take 1 (drop k s)) ++ ascii " there"))
+          (ascii ", the input ends too early"))) e,
+    ))
+
+front-size : (s : List ℕ) (k : ℕ) → k ≤ 4096 → length (frontLine s k) ≤ 42
+unfolding frontLine
+front-size s k h = simp length-append (omega (arith, decimal-size 3 k (omega arith), ending-size s k))
+
+text-size :
+    (s : List ℕ) (r : Reason) (k : ℕ) → r .number ≤ 11 → Word (r .place) → Word (length s) → k ≤ 4096 → length (textOf s r k) ≤ 256
+text-size s r k h g f few =
     let j = judgedIn s (r .judged) in
-    let few = length-take (r .judged .length) (drop (r .judged .place) s) in
+    let some = length-take (r .judged .length) (drop (r .judged .place) s) in
     let left = length-drop (r .judged .place) s in
     let lines = reason-size r j h g (omega arith) in
+    let whole = length-append (reasonLines r j) (frontLine s k) in
+    let last = front-size s k few in
     by-test (eqb (r .number) 0)
-    (λ e. omega (arith, ap (λ b. length (pick b (line "accepted" []) (reasonLines r j))) e))
-    (λ e. omega (arith, ap (λ b. length (pick b (line "accepted" []) (reasonLines r j))) e))
+    (λ e. omega (arith, ap (λ b. length (pick b (line "accepted" []) (reasonLines r j ++ frontLine s k))) e))
+    (λ e. omega (arith, ap (λ b. length (pick b (line "accepted" []) (reasonLines r j ++ frontLine s k))) e))
 
 number-small : (s : List ℕ) (w : Way Report) → telling s w .number ≤ 11
 number-small s (is r at) = omega arith
 number-small s (not why place) = numbers (why .rule) .1
 
-pub room : (s : List ℕ) → Word (told s .place) → Word (length s) → length (whyText s) ≤ 214
+pub room : (s : List ℕ) → Bytes s → Word (told s .place) → Word (length s) → length (whyText s) ≤ 256
 unfolding whyText told
-room s h g = text-size s (told s) (number-small s (judging s)) h g
+room s bytes h g = text-size s (told s) (front s) (number-small s (judging s)) h g (at-most s (front s) (front-is s bytes))

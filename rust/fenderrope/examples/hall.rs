@@ -5,7 +5,7 @@
 //!
 //! The press is named by feature 11: 1 to 12 upper-case letters and digits, in C40. The line of a locked press ends
 //! with the frame that a camera overlay draws around the feature: the place of its tag in FILE, and how many bytes tag,
-//! length and value are together. The line of a refused FILE is followed by five that say why. The status is 0 where a
+//! length and value are together. The line of a refused FILE is followed by six that say why. The status is 0 where a
 //! press is locked or a tag made, 1 where FILE is refused or is no lock tag, and 2 where something else is wrong;
 //! standard error then says what.
 //!

@@ -42,7 +42,7 @@ fn line(feature: Feature) -> String {
 
 /// The line of a refused tag.
 fn refused(which: Which) -> impl FnOnce(Refusal) -> String {
-    move |Refusal { number, place }| format!("refused {number} at {place} in {which}\n")
+    move |Refusal { number, place, .. }| format!("refused {number} at {place} in {which}\n")
 }
 
 /// The press's name in a feature's value: C40 text that is not empty.

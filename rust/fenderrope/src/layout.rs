@@ -76,6 +76,9 @@ pub struct Reading {
     pub signature: Part,
     /// How many features there are.
     pub count: usize,
+    /// How many bytes from the first on some accepted seal begins with, and none with one byte more of the input. Given
+    /// on every number.
+    pub front: usize,
 }
 
 /// What a seal answers that is asked why it is refused. Every field is 0 where it is not.
@@ -225,8 +228,8 @@ laid_out!(Header: size 88, align 8, version at 0, country at 8, length at 16, is
     definition at 72, category at 80);
 laid_out!(Ends: size 24, align 8, header at 0, message at 8, seal at 16);
 laid_out!(Part: size 16, align 8, place at 0, length at 8);
-laid_out!(Reading: size 152, align 8, number at 0, place at 8, header at 16, ends at 104, signature at 128,
-    count at 144);
+laid_out!(Reading: size 160, align 8, number at 0, place at 8, header at 16, ends at 104, signature at 128,
+    count at 144, front at 152);
 laid_out!(Reason: size 48, align 8, number at 0, place at 8, item at 16, rule at 24, judged at 32);
 laid_out!(Start: size 24, align 8, number at 0, place at 8, at at 16);
 laid_out!(Step: size 56, align 8, number at 0, place at 8, tag at 16, tag_place at 24, value at 32, at at 48);

@@ -2,8 +2,8 @@
 //! library that is proved, called from safe Rust.
 //!
 //! Every call takes every input. What is lent is slices; nothing is allocated, and `std` is not needed. A call that is
-//! not done gives a [`Refusal`] with the number and the place, and no lent byte has changed. Signatures are carried and
-//! converted, not verified.
+//! not done gives a [`Refusal`] with the number and the place, of a seal also with its first hopeless byte, and no lent
+//! byte has changed. Signatures are carried and converted, not verified.
 //!
 //! [`judge`] gives a verdict on a seal, [`read`] all that is in it, [`walk`] its features one after another without a
 //! table, [`shown`] a value where an extension tag hangs behind the first, and [`why`] the reason of a refusal.
@@ -65,16 +65,27 @@
 //! // One byte more is refused.
 //! seal.push(0);
 //! let refusal = judge(&seal).unwrap_err();
-//! assert_eq!(refusal, Refusal { number: 11, place: 82 });
+//! assert_eq!(refusal, Refusal { number: 11, place: 82, front: 82 });
 //! assert_eq!(refusal.to_string(), "refused 11 at 82: bytes after the signature");
 //!
-//! // And the crew is told why: which item breaks which rule, and by which bytes.
+//! // And the crew is told why: which item breaks which rule, by which bytes, and which byte is the first hopeless one.
 //! let reason = why(&seal).ok_or("accepted")?;
 //! assert_eq!(reason.judged, &seal[82..]);
 //! assert_eq!(
 //!     reason.to_string().lines().collect::<Vec<_>>(),
-//!     ["number 11", "item end", "place 82", "bytes 00", "rule nothing follows the signature"]
+//!     [
+//!         "number 11",
+//!         "item end",
+//!         "place 82",
+//!         "bytes 00",
+//!         "rule nothing follows the signature",
+//!         "good up to 82, no seal has 00 there",
+//!     ]
 //! );
+//!
+//! // The place of a date is its first byte; of year 0 only the third is bad.
+//! seal[10..13].copy_from_slice(&[0x31, 0x97, 0x50]);
+//! assert_eq!(judge(&seal).unwrap_err(), Refusal { number: 6, place: 10, front: 12 });
 //! # Ok::<(), Box<dyn std::error::Error>>(())
 //! ```
 //!

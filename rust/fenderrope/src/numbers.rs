@@ -3,7 +3,7 @@
 //!
 //! ```
 //! use fenderrope::{judge, numbers, Refusal};
-//! assert!(matches!(judge(&[0xDC]), Err(Refusal { number: numbers::CUT, place: 1 })));
+//! assert!(matches!(judge(&[0xDC]), Err(Refusal { number: numbers::CUT, place: 1, front: 1 })));
 //! ```
 
 // The words stand once, in the library.

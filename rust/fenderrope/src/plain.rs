@@ -1,12 +1,13 @@
 //! The calls as the library answers them: a number, a place and the rest, in one struct by value.
 //!
 //! `number` is 0 when the call is done. On any other number every field but number and place is 0 and no lent memory
-//! has changed; where a seal is refused [`why`] fills its other fields, and [`shown`] says which seal it is. The
-//! functions of the crate's root say the same as `Result`s; these are for programs that pass the numbers on.
+//! has changed; where a seal is refused [`judge`] and [`read`] say how far it is hopeful, [`why`] fills its other
+//! fields, and [`shown`] says which seal it is. The functions of the crate's root say the same as `Result`s; these are
+//! for programs that pass the numbers on.
 //!
 //! ```
 //! let answer = fenderrope::plain::judge(&[]);
-//! assert_eq!((answer.number, answer.place), (2, 0));
+//! assert_eq!((answer.number, answer.place, answer.front), (2, 0, 0));
 //! ```
 
 pub use crate::face::{

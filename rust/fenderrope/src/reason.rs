@@ -27,34 +27,44 @@ pub struct Reason<'a> {
     /// byte where that alone is judged, and else the whole length; of a seal that is too long, and of what follows the
     /// signature, the first byte that is too many.
     pub judged: &'a [u8],
+    /// How many of the seal's first bytes are hopeful, as [`Refusal::front`].
+    pub front: usize,
+    /// The byte behind those, with which no accepted seal goes on; none where the input ends too early.
+    pub hopeless: Option<u8>,
 }
 
 impl<'a> Reason<'a> {
-    /// The reason that a plain answer tells of; none for an accepted seal. The library is proved to name a part of the
-    /// seal, and no other codes than the listed ones; were it not so, this would stop and make nothing up.
-    pub(crate) fn of(answer: layout::Reason, seal: &'a [u8]) -> Option<Reason<'a>> {
+    /// The reason that a plain answer tells of, with the seal's front part; none for an accepted seal. The library is
+    /// proved to name a part of the seal, and no other codes than the listed ones; were it not so, this would stop and
+    /// make nothing up.
+    pub(crate) fn of(answer: layout::Reason, front: usize, seal: &'a [u8]) -> Option<Reason<'a>> {
         let layout::Reason { number, place, item, rule, judged } = answer;
         if number == 0 {
             return None;
         }
         let item = Item::of_code(item).expect("an item of the list");
         let rule = Rule::of_code(rule).expect("a rule of the list");
-        Some(Reason { number, place, item, rule, judged: &seal[judged.place..][..judged.length] })
+        let judged = &seal[judged.place..][..judged.length];
+        Some(Reason { number, place, item, rule, judged, front, hopeless: seal.get(front).copied() })
     }
 
-    /// Number and place alone, as [`crate::judge`] refuses the seal.
+    /// Number, place and front part alone, as [`crate::judge`] refuses the seal.
     pub fn refusal(&self) -> Refusal {
-        Refusal { number: self.number, place: self.place }
+        Refusal { number: self.number, place: self.place, front: self.front }
     }
 }
 
-/// The five lines that `fenderrope-why` prints, without the last one's newline: number, item, place, the bytes judged
-/// and the rule. Of the bytes at most sixteen are shown, and then how many more there are.
+/// The six lines that `fenderrope-why` prints, without the last one's newline: number, item, place, the bytes judged,
+/// the rule, and how far the seal is good. Of the bytes at most sixteen are shown, and then how many more there are.
 impl fmt::Display for Reason<'_> {
     fn fmt(&self, f: &mut fmt::Formatter<'_>) -> fmt::Result {
         write!(f, "number {}\nitem {}\nplace {}\nbytes ", self.number, self.item, self.place)?;
         show(self.judged, f)?;
-        write!(f, "\nrule {}", self.rule)
+        write!(f, "\nrule {}\ngood up to {}, ", self.rule, self.front)?;
+        match self.hopeless {
+            Some(byte) => write!(f, "no seal has {byte:02X} there"),
+            None => f.write_str("the input ends too early"),
+        }
     }
 }
 

@@ -17,7 +17,8 @@ use crate::verdict::Verdict;
 /// # Errors
 ///
 /// 1 to 11 where the bytes are no seal, as [`judge`]; 12 `READ_ROOM` where they are one and there is not the room that
-/// [`Verdict::table_room`] and [`Verdict::text_room`] say ([`crate::numbers`]). All lent memory stays.
+/// [`Verdict::table_room`] and [`Verdict::text_room`] say ([`crate::numbers`]), and then [`Refusal::front`] is the
+/// seal's length. All lent memory stays.
 ///
 /// ```
 /// let mut seal = b"\xDC\x02\xD9\xC5\xD9\xB7\x5E\x65\x19\xA6\x31\x9E\xF5\x31\x9E\xF5\x01\x02".to_vec();
@@ -44,18 +45,19 @@ pub fn read<'a>(seal: &'a [u8], table: &'a mut [usize], text: &'a mut [u8]) -> R
 ///
 /// 1 `TOO_LONG` at 4,096; then 2 to 11, item by item from the left ([`crate::numbers`]). The place is the first byte of
 /// the item that was not read, for 5 of its first pair that is wrongly coded or does not fit if it has one, for 10 of
-/// the signature's length, for 11 the first extra byte.
+/// the signature's length, for 11 the first extra byte. [`Refusal::front`] is how far the seal is hopeful; a good
+/// one is so to its end.
 ///
 /// ```
 /// let refusal = fenderrope::judge(b"").unwrap_err();
-/// assert_eq!((refusal.number, refusal.place), (2, 0));
+/// assert_eq!((refusal.number, refusal.place, refusal.front), (2, 0, 0));
 /// ```
 pub fn judge(seal: &[u8]) -> Result<Verdict, Refusal> {
     Verdict::of(face::judge(seal))
 }
 
-/// Why a seal is refused, with nothing lent: the item that breaks a rule, the rule, and the bytes judged; nothing where
-/// the seal is accepted. Number and place are those of [`judge`].
+/// Why a seal is refused, with nothing lent: the item that breaks a rule, the rule, the bytes judged, and the first
+/// hopeless byte; nothing where the seal is accepted. Number, place and front part are those of [`judge`].
 ///
 /// ```
 /// use fenderrope::{why, Item, Reason, Rule};
@@ -67,10 +69,18 @@ pub fn judge(seal: &[u8]) -> Result<Verdict, Refusal> {
 ///
 /// let reason = why(&seal).unwrap();
 /// let (item, rule) = (Item::Tag, Rule::NotUsedBefore);
-/// assert_eq!(reason, Reason { number: 9, place: 24, item, rule, judged: &seal[24..25] });
+/// let (judged, front, hopeless) = (&seal[24..25], 24, Some(0x0A));
+/// assert_eq!(reason, Reason { number: 9, place: 24, item, rule, judged, front, hopeless });
 /// assert_eq!(
 ///     reason.to_string().lines().collect::<Vec<_>>(),
-///     ["number 9", "item tag", "place 24", "bytes 0A", "rule a tag is used once only"]
+///     [
+///         "number 9",
+///         "item tag",
+///         "place 24",
+///         "bytes 0A",
+///         "rule a tag is used once only",
+///         "good up to 24, no seal has 0A there",
+///     ]
 /// );
 ///
 /// seal.drain(24..26);
@@ -78,7 +88,7 @@ pub fn judge(seal: &[u8]) -> Result<Verdict, Refusal> {
 /// ```
 #[must_use]
 pub fn why(seal: &[u8]) -> Option<Reason<'_>> {
-    Reason::of(face::why(seal), seal)
+    Reason::of(face::why(seal), face::judge(seal).front, seal)
 }
 
 /// Writes a seal from the start of `out` and gives its length; memory past it stays.

@@ -98,7 +98,7 @@ impl<'a> Shown<'a> {
     /// alone; were it not so, this would stop and make nothing up.
     fn of(answer: Where, main: &'a [u8], extension: &'a [u8]) -> Result<Shown<'a>, NotShown> {
         let Where { number, place, which, value: Part { place: first, length } } = answer;
-        let refusal = Refusal { number, place };
+        let refusal = Refusal { number, place, front: 0 };
         match (number, Which::of_code(which)) {
             (0, Some(which)) => {
                 let seal = if which == Which::Main { main } else { extension };
@@ -122,7 +122,7 @@ impl<'a> Shown<'a> {
 #[derive(Clone, Copy, PartialEq, Eq, Hash)]
 #[must_use]
 pub enum NotShown {
-    /// The main seal is refused, as [`crate::judge`] refuses it. The extension may be refused too.
+    /// The main seal is refused, at the place where [`crate::judge`] refuses it. The extension may be refused too.
     Main(Refusal),
     /// The main seal is accepted, and the extension seal is refused.
     Extension(Refusal),
@@ -135,7 +135,7 @@ impl NotShown {
     pub fn refusal(&self) -> Refusal {
         match *self {
             NotShown::Main(refusal) | NotShown::Extension(refusal) => refusal,
-            NotShown::Neither => Refusal { number: NO_FEATURE, place: 0 },
+            NotShown::Neither => Refusal { number: NO_FEATURE, place: 0, front: 0 },
         }
     }
 

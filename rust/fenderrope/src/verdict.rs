@@ -21,8 +21,9 @@ pub struct Verdict {
 impl Verdict {
     /// The fields of a plain answer, or its refusal.
     pub(crate) fn of(answer: layout::Reading) -> Result<Verdict, Refusal> {
-        let layout::Reading { number, place, header, ends, signature, count } = answer;
-        Refusal::unless(number, place, Verdict { header, ends, signature, count })
+        let layout::Reading { number, place, header, ends, signature, count, front } = answer;
+        let verdict = Refusal::unless(number, place, Verdict { header, ends, signature, count });
+        verdict.map_err(|refusal| Refusal { front, ..refusal })
     }
 
     /// How many numbers a reading needs in its table: a row a feature.

@@ -12,7 +12,8 @@ use crate::refusal::Refusal;
 ///
 /// # Errors
 ///
-/// 1 to 11, as [`crate::judge`] ([`crate::numbers`]): a refused seal opens no walk. 12 is not given.
+/// 1 to 11, as [`crate::judge`] but for the front part ([`crate::numbers`]): a refused seal opens no walk. 12 is not
+/// given.
 ///
 /// ```
 /// let mut seal = b"\xDC\x02\xD9\xC5\xD9\xB7\x5E\x65\x19\xA6\x31\x9E\xF5\x31\x9E\xF5\x01\x02".to_vec();

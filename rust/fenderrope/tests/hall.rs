@@ -46,8 +46,8 @@ fn a_tag_that_is_not_good_locks_nothing() {
     assert_eq!(told(&no_name), (1, "no lock tag: no name of a press at 22".to_string()));
 }
 
-/// The line of today, and then the five that say why.
-fn refused(seal: &[u8], lines: [&str; 6]) {
+/// The line of today, and then the six that say why.
+fn refused(seal: &[u8], lines: [&str; 7]) {
     assert_eq!(told(seal), (1, lines.join("\n")));
 }
 
@@ -64,6 +64,7 @@ fn a_refused_tag_says_why() {
             "place 26",
             "bytes 0B",
             "rule a tag is used once only",
+            "good up to 26, no seal has 0B there",
         ],
     );
     refused(
@@ -75,6 +76,7 @@ fn a_refused_tag_says_why() {
             "place 28",
             "bytes 00 00",
             "rule all its bytes are there",
+            "good up to 30, the input ends too early",
         ],
     );
     refused(
@@ -86,6 +88,7 @@ fn a_refused_tag_says_why() {
             "place 0",
             "bytes none",
             "rule all its bytes are there",
+            "good up to 0, the input ends too early",
         ],
     );
     refused(
@@ -97,6 +100,7 @@ fn a_refused_tag_says_why() {
             "place 4096",
             "bytes DC",
             "rule a seal has at most 4,096 bytes",
+            "good up to 1, no seal has DC there",
         ],
     );
     refused(
@@ -108,6 +112,7 @@ fn a_refused_tag_says_why() {
             "place 28",
             "bytes 00 00 00 00 00 00 00 00 00 00 00 00 00 00 00 00 and 47 more",
             "rule all its bytes are there",
+            "good up to 91, the input ends too early",
         ],
     );
 }

@@ -67,7 +67,7 @@ fn names_of_presses() {
 
 /// A tag is refused where it is judged so, and nothing is shown, though the other one names a press.
 fn refused_as_judged(seal: &[u8], good: &[u8]) {
-    let Err(Refusal { number, place }) = judge(seal) else {
+    let Err(Refusal { number, place, .. }) = judge(seal) else {
         assert!(told(seal, None).is_ok() && told(good, Some(seal)).is_ok());
         return;
     };

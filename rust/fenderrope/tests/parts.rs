@@ -107,7 +107,7 @@ fn the_verdict_says_what_room_a_reading_needs() {
             Err(refusal) => panic!("{refusal}"),
         };
         assert!(enough(rows, names) && enough(rows + 1, names + 1));
-        let no_room = Refusal { number: numbers::READ_ROOM, place: 0 };
+        let no_room = Refusal { number: numbers::READ_ROOM, place: 0, front: seal.len() };
         assert_eq!(read(&seal, &mut vec![0; rows], &mut vec![0; names - 1]), Err(no_room));
         // One short, three numbers a feature, and none.
         for short in [rows.saturating_sub(1), (ROW - 1) * verdict.count, 0].into_iter().filter(|&short| short < rows) {
@@ -126,8 +126,11 @@ fn what_was_read_is_written_with_another_signature() {
     assert_eq!(out[..90], [&seal[..25], &[64], &[0xBB; 64]].concat());
     assert_eq!(out[90..], [7; 10]);
     let (short, mut none) = ([0; 55], [7; 81]);
-    assert_eq!(reading.write(&short, &mut out), Err(Refusal { number: numbers::WRITE_SIGNATURE, place: 0 }));
-    assert_eq!(reading.write(reading.signature(), &mut none), Err(Refusal { number: numbers::WRITE_ROOM, place: 0 }));
+    assert_eq!(reading.write(&short, &mut out), Err(Refusal { number: numbers::WRITE_SIGNATURE, place: 0, front: 0 }));
+    assert_eq!(
+        reading.write(reading.signature(), &mut none),
+        Err(Refusal { number: numbers::WRITE_ROOM, place: 0, front: 0 })
+    );
     assert_eq!(none, [7; 81]);
 }
 
@@ -137,7 +140,7 @@ fn a_refusal_is_an_error_in_words() {
     let told: Box<dyn std::error::Error> = refusal.into();
     assert_eq!(told.to_string(), "refused 2 at 26: the input ends before an item is whole");
     assert_eq!(format!("{:?}", Err::<(), _>(refusal)), format!("Err({told})"));
-    assert_eq!(Refusal { number: 13, place: 4 }.to_string(), "refused 13 at 4");
+    assert_eq!(Refusal { number: 13, place: 4, front: 9 }.to_string(), "refused 13 at 4");
 }
 
 #[test]

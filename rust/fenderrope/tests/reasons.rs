@@ -18,11 +18,13 @@ fn with(place: usize, new: &[u8]) -> Vec<u8> {
     seal
 }
 
-/// The reason of a refused seal: number and place are the judge's, and the bytes judged stand at the place.
+/// The reason of a refused seal: number, place and front part are the judge's, the bytes judged stand at the place, and
+/// the hopeless byte behind the front part.
 fn reason(seal: &[u8]) -> Reason<'_> {
     let reason = why(seal).expect("a refused seal");
     assert_eq!(judge(seal), Err(reason.refusal()));
-    assert_eq!(reason.refusal(), Refusal { number: reason.number, place: reason.place });
+    assert_eq!(reason.refusal(), Refusal { number: reason.number, place: reason.place, front: reason.front });
+    assert_eq!(reason.hopeless, seal.get(reason.front).copied());
     assert_eq!(reason.judged.as_ptr(), seal[reason.place..].as_ptr());
     reason
 }
@@ -82,14 +84,17 @@ fn items_and_rules_of_version_four() {
 
 /// The lines of a reason that shows these bytes.
 fn lines_of(judged: &[u8]) -> String {
-    Reason { number: 2, place: 26, item: Item::Signature, rule: Rule::There, judged }.to_string()
+    let (item, rule, front, hopeless) = (Item::Signature, Rule::There, 81, None);
+    Reason { number: 2, place: 26, item, rule, judged, front, hopeless }.to_string()
 }
 
 /// None, one, sixteen, seventeen and many bytes.
 #[test]
 fn the_lines_that_the_crew_reads() {
-    let around =
-        |bytes: &str| format!("number 2\nitem signature\nplace 26\nbytes {bytes}\nrule all its bytes are there");
+    let around = |bytes: &str| {
+        let rule = "all its bytes are there\ngood up to 81, the input ends too early";
+        format!("number 2\nitem signature\nplace 26\nbytes {bytes}\nrule {rule}")
+    };
     let counted: Vec<u8> = (0..=255).collect();
     let sixteen = "00 01 02 03 04 05 06 07 08 09 0A 0B 0C 0D 0E 0F";
     assert_eq!(lines_of(&[]), around("none"));
@@ -106,14 +111,23 @@ fn the_lines_that_the_crew_reads() {
 #[test]
 fn lines_of_refused_seals() {
     let used = reason(&with(24, b"\x0A")).to_string();
-    assert_eq!(used, "number 9\nitem tag\nplace 24\nbytes 0A\nrule a tag is used once only");
+    assert_eq!(
+        used,
+        "number 9\nitem tag\nplace 24\nbytes 0A\nrule a tag is used once only\ngood up to 24, no seal has 0A there"
+    );
     let empty = reason(&[]).to_string();
-    assert_eq!(empty, "number 2\nitem mark\nplace 0\nbytes none\nrule all its bytes are there");
+    assert_eq!(
+        empty,
+        "number 2\nitem mark\nplace 0\nbytes none\nrule all its bytes are there\ngood up to 0, the input ends too early"
+    );
     let cut = reason(&seal_a()[..81]).to_string();
     let shown = ["AA"; 16].join(" ");
     assert_eq!(
         cut,
-        format!("number 2\nitem signature\nplace 26\nbytes {shown} and 39 more\nrule all its bytes are there")
+        format!(
+            "number 2\nitem signature\nplace 26\nbytes {shown} and 39 more\nrule all its bytes are there\n\
+             good up to 81, the input ends too early"
+        )
     );
 }
 

@@ -87,14 +87,15 @@ fn features_without_their_walk() {
     assert_eq!((find(11).map(|feature| feature.value), find(12)), (Some(&[][..]), None));
 }
 
-/// A refused seal opens no walk, in every cut and with a byte more; number and place are the judge's.
+/// A refused seal opens no walk, in every cut and with a byte more; number and place are the judge's, and there is no
+/// front part.
 #[test]
 fn refused_seals_open_no_walk() {
     for good in [seal_a(), long_seal()] {
         let cuts = (0..good.len()).map(|length| good[..length].to_vec());
         for wrong in cuts.chain([[&good[..], &[0]].concat(), [&good[..], &[0; 4096]].concat()]) {
             let refusal = judge(&wrong).expect_err("a refused seal");
-            assert_eq!(walk(&wrong).err(), Some(refusal));
+            assert_eq!(walk(&wrong).err(), Some(Refusal { front: 0, ..refusal }));
             assert_eq!(plain::walk_open(&wrong).at, 0);
             assert_eq!(plain::walk_next(&wrong, 0).number, numbers::WALK_END);
         }
@@ -161,7 +162,7 @@ fn tags_that_neither_seal_has() {
     for tag in [1, 12, 253, 255, 256, 266, 256 + 7, 510, 1 << 32, (1 << 32) + 10, usize::MAX] {
         let refused = shown(&main, &extension, tag).expect_err("in neither seal");
         assert_eq!((refused, refused.which()), (NotShown::Neither, None));
-        assert_eq!(refused.refusal(), Refusal { number: numbers::NO_FEATURE, place: 0 });
+        assert_eq!(refused.refusal(), Refusal { number: numbers::NO_FEATURE, place: 0, front: 0 });
     }
 }
 
@@ -169,7 +170,7 @@ fn tags_that_neither_seal_has() {
 #[test]
 fn refused_seals_show_nothing() {
     let (good, cut, longer) = (seal_a(), &seal_a()[..81], [&seal_a()[..], &[0]].concat());
-    let (at_26, at_82) = (Refusal { number: 2, place: 26 }, Refusal { number: 11, place: 82 });
+    let (at_26, at_82) = (Refusal { number: 2, place: 26, front: 0 }, Refusal { number: 11, place: 82, front: 0 });
     for tag in [10, 11, 255, usize::MAX] {
         assert_eq!(shown(cut, &good, tag), Err(NotShown::Main(at_26)));
         assert_eq!(shown(&good, cut, tag), Err(NotShown::Extension(at_26)));
@@ -184,7 +185,7 @@ fn refused_seals_show_nothing() {
 
 #[test]
 fn what_is_not_shown_in_words() {
-    let used = Refusal { number: 9, place: 24 };
+    let used = Refusal { number: 9, place: 24, front: 0 };
     for (refused, words, which) in [
         (NotShown::Main(used), "main seal refused 9 at 24: tag already used", Some(Which::Main)),
         (NotShown::Extension(used), "extension seal refused 9 at 24: tag already used", Some(Which::Extension)),

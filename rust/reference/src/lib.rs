@@ -4,16 +4,18 @@
 //! and in another structure: the reader is a set of small parsers over the bytes that are left, the writer builds the
 //! seal and only then looks for room, and "the shortest form" is "what the writer would have written". Why a seal is
 //! refused is told by a table of items and rules that does not ask the reader. A step of a walk finds what the writer
-//! would have written at its place, and the whole walk takes no steps. Where two of these programs differ, one of them
-//! misreads.
+//! would have written at its place, and the whole walk takes no steps. How far an input is hopeful is searched for,
+//! byte by byte. Where two of these programs differ, one of them misreads.
 //!
 //! Every call takes every input. "On any other number all lent memory stays and every field but number and place is 0";
-//! where a seal is refused, a [`Reason`] has its other fields too, and a [`Shown`] says which of two seals it is.
+//! where a seal is refused, a [`Reading`] has its front part too, a [`Reason`] its other fields, and a [`Shown`] says
+//! which of two seals it is.
 #![forbid(unsafe_code)]
 
 mod c40;
 mod dates;
 mod der;
+mod front;
 pub mod inputs;
 mod integers;
 mod names;
@@ -27,6 +29,7 @@ mod writing;
 
 pub use c40::{c40_read, c40_write};
 pub use dates::{date_from_number, date_to_number};
+pub use front::front;
 pub use integers::{integer_read, integer_write};
 pub use reading::{judge, read};
 pub use reasons::{item_name, put_item_name, put_rule_words, rule_words, why, Reason};
@@ -86,6 +89,8 @@ pub struct Reading {
     pub ends: Ends,
     pub signature: Part,
     pub count: usize,
+    /// "The length of the longest front part of the input with which some accepted seal begins", on a refusal too.
+    pub front: usize,
 }
 
 /// The answer of a call that fills a buffer: "write from its start and give the count written".

@@ -1,4 +1,4 @@
-//! The reader (document 01, "Layout" and "The numbers a call answers"; document 02, Tickets 1 and 10).
+//! The reader (document 01, "Layout" and "The numbers a call answers"; document 02, Tickets 1, 10 and 12).
 //!
 //! A parser takes the bytes that are left and gives what it read and the bytes left after it. A refusal remembers how
 //! many bytes were left where its item began, or the pair that it names; its place is then the seal's length less that.
@@ -6,7 +6,7 @@
 use std::collections::BTreeSet;
 
 use crate::der::Fault;
-use crate::{c40, dates, der, names, Ends, Header, Part, Reading, Refusal, Row, LONGEST_SEAL, SIGNATURE_SIZES};
+use crate::{c40, dates, der, front, names, Ends, Header, Part, Reading, Refusal, Row, LONGEST_SEAL, SIGNATURE_SIZES};
 
 /// The number of a refusal, and how many bytes were left at the byte that it names.
 struct Stopped {
@@ -194,21 +194,27 @@ fn parse(bytes: &[u8]) -> Result<Accepted, Refusal> {
     seal(bytes).map_err(|stopped| Refusal { number: stopped.number, place: bytes.len() - stopped.left })
 }
 
-/// A refusal is its number and place, and all else is 0.
-fn refused(refusal: Refusal) -> Reading {
-    Reading { number: refusal.number, place: refusal.place, ..Reading::default() }
+/// A refusal is its number, its place and the front part of the input, and all else is 0.
+fn refused(seal: &[u8], refusal: Refusal) -> Reading {
+    Reading { number: refusal.number, place: refusal.place, front: front(seal), ..Reading::default() }
 }
 
 impl Accepted {
+    /// "For an accepted seal it is the whole length."
     fn reading(&self) -> Reading {
         let Accepted { header, ends, signature, .. } = *self;
-        Reading { number: 0, place: 0, header, ends, signature, count: self.rows.len() }
+        Reading { number: 0, place: 0, header, ends, signature, count: self.rows.len(), front: ends.seal }
     }
 }
 
 /// The reader's answer without room for table and text, and so never 12.
 pub fn judge(seal: &[u8]) -> Reading {
-    parse(seal).map_or_else(refused, |accepted| accepted.reading())
+    parse(seal).map_or_else(|refusal| refused(seal, refusal), |accepted| accepted.reading())
+}
+
+/// Where the header of an accepted seal ends.
+pub(crate) fn header_end(seal: &[u8]) -> Result<usize, Refusal> {
+    Ok(parse(seal)?.ends.header)
 }
 
 /// The rows of an accepted seal, in its order.
@@ -221,11 +227,11 @@ pub(crate) fn rows(seal: &[u8]) -> Result<Vec<Row>, Refusal> {
 pub fn read(seal: &[u8], table: &mut [usize], text: &mut [u8]) -> Reading {
     let accepted = match parse(seal) {
         Ok(accepted) => accepted,
-        Err(refusal) => return refused(refusal),
+        Err(refusal) => return refused(seal, refusal),
     };
     let rows = Row::table(&accepted.rows);
     if table.len() < rows.len() || text.len() < accepted.text.len() {
-        return refused(Refusal::of(12));
+        return refused(seal, Refusal::of(12));
     }
     table[..rows.len()].copy_from_slice(&rows);
     text[..accepted.text.len()].copy_from_slice(&accepted.text);

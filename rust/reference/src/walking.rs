@@ -3,7 +3,7 @@
 //! A step asks which feature, as it is published, stands at a place. The whole walk and the look-up make no steps: they
 //! go by the ticket's words, "exactly the rows of the full reading, in order".
 
-use crate::{der, judge, reading, Part, Reading, Refusal, Row};
+use crate::{der, reading, Part, Refusal, Row};
 
 /// "Which" of a look-up: the main seal.
 pub const MAIN: usize = 1;
@@ -41,8 +41,10 @@ pub struct Shown {
 /// Opens a walk: at the header's end, where the first feature begins. "A refused seal gives its number and place, opens
 /// no walk", and so its place to step at is 0; "12 is not given here".
 pub fn walk_open(seal: &[u8]) -> Opened {
-    let Reading { number, place, ends, .. } = judge(seal);
-    Opened { number, place, at: ends.header }
+    match reading::header_end(seal) {
+        Ok(at) => Opened { number: 0, place: 0, at },
+        Err(Refusal { number, place }) => Opened { number, place, at: 0 },
+    }
 }
 
 /// "02 is version 3, 03 is version 4."

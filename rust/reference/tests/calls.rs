@@ -43,7 +43,10 @@ fn a_refusal_is_a_number_and_a_place() {
         }
         assert!(outcome.untouched(), "{call:?}");
         let bare = match outcome.answer {
-            Answer::Reading(_) => Answer::Reading(Reading { number, place, ..Reading::default() }),
+            // "On a refusal this length is the one further field that need not be 0."
+            Answer::Reading(Reading { front, .. }) => {
+                Answer::Reading(Reading { number, place, front, ..Reading::default() })
+            }
             // Reasons and openings are not drawn.
             Answer::Reason(_) | Answer::Opened(_) => outcome.answer,
             Answer::Step(_) => Answer::Step(Step { number, place, ..Step::default() }),

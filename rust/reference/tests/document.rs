@@ -132,7 +132,7 @@ fn seal_a_is_read() {
     let answer = reference::read(&seal, &mut table, &mut text);
     let ends = Ends { header: 18, message: 24, seal: 82 };
     let signature = Part { place: 26, length: 56 };
-    assert_eq!(answer, Reading { number: 0, place: 0, header: header_a(), ends, signature, count: 1 });
+    assert_eq!(answer, Reading { number: 0, place: 0, header: header_a(), ends, signature, count: 1, front: 82 });
     assert_eq!(table, [&[10, 18, 20, 4], &lent_table(6)[4..]].concat());
     assert_eq!(text, [&b"UTAB00001"[..], &lent(11)[9..]].concat());
 }

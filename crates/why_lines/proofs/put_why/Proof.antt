@@ -6,6 +6,7 @@ use mathlib.Core.Path.{_≡_}
 use mathlib.Core.Bool.{true, false}
 use Prim.Native.Nat.{ℕ}
 use lib.Dec.{eqb}
+use Rattle.lines.specs.Line.Laws.{put-more}
 use Rattle.why_lines.proofs.put_why.Statement.{statement}
 use Rattle.why_lines.proofs.put_why.Tie as tie
 
@@ -35,16 +36,22 @@ part-requires c κs = search needs
 put-reason-requires : tie.Need-put-reason-requires
 put-reason-requires c κs = search needs
 
+put-front-requires : tie.Need-put-front-requires
+put-front-requires c κs = search needs
+
 same-length-2 : tie.Need-same-length-2
 same-length-2 c = search needs
 
 returns-2 : tie.Need-returns-2
 returns-2 c =
-    let put = c .before .before in
+    let front = c .before .before in
+    let put = front .before .before .before .before in
     let part = put .before in
     let test = part .before .before .before in
     let other : eqb (number (test .before)) 0 ≡ false = ne-eqb _ _ (test .if1 .left) in
-    rw other (rw (part .part .ensures .bytes) at (put .put-reason .ensures))
+    rw other
+    (put-more _ _ _ _ _ _ _ _ (rw (part .part .ensures .bytes) at (put .put-reason .ensures)) (put .put-reason .kept .0)
+    (front .put-front .ensures))
 
 pub put-why-spec : {M : Type 1} → statement M
 put-why-spec =
@@ -56,5 +63,6 @@ put-why-spec =
     returns
     part-requires
     put-reason-requires
+    put-front-requires
     same-length-2
     returns-2)

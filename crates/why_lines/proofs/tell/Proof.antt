@@ -16,17 +16,23 @@ why-requires c κs = search needs
 put-why-requires : tie.Need-put-why-requires
 put-why-requires c κs = search needs
 
+front-requires : tie.Need-front-requires
+front-requires c κs = search needs
+
 returns : tie.Need-returns
 returns c =
-    let asked = c .before .before in
-    let s = asked .before .before in
+    let found = c .before .before in
+    let asked = found .before in
+    let known = asked .before in
+    let s = known .before in
     let seal = now (s .args .seal) in
     let e = asked .why .ensures in
     let place : Word (told seal .place) = omega (arith, asked .why .ok, ap (λ r. r .place) e) in
-    let most = room seal place (omega arith) in
+    let most = room seal (λ i. known .shared-slice-known .given i .fits) place (omega arith) in
     let held =
-    whole seal (now (s .args .out)) _ (c .put-why .result) (omega (arith, most, s .good)) (asked .why .result) e (c .put-why .ensures) in
+    whole seal (now (s .args .out)) _ (c .put-why .result) (omega (arith, most, s .good)) (asked .why .result) (found .front .result) e
+    (found .front .ensures) (c .put-why .ensures) in
     (held .0, (held .1, (most, enough (omega arith))))
 
 pub tell-spec : {M : Type 1} → statement M
-tell-spec = tie.close (tie.spec why-requires put-why-requires returns)
+tell-spec = tie.close (tie.spec why-requires front-requires put-why-requires returns)

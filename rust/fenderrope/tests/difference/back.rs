@@ -81,7 +81,7 @@ fn accepted(seal: &[u8]) -> Result<(), String> {
         expect(count == Ok(seal.len()), "an accepted seal is not written back")?;
         expect(again.content() == seal, "an accepted seal is written back otherwise")?;
         let short = reading.write(reading.signature(), &mut again.content_mut()[1..]);
-        expect(short == Err(Refusal { number: 28, place: 0 }), "a seal is written where there is no room")?;
+        expect(short == Err(Refusal { number: 28, place: 0, front: 0 }), "a seal is written where there is no room")?;
         let mark = &seal[reading.signed().len()..seal.len() - reading.signature().len()];
         expect(mark[0] == 0xFF, "the signed bytes do not end at the mark")?;
         expect([reading.signed(), mark, reading.signature()].concat() == seal, "zones that are not the seal's")

@@ -5,6 +5,7 @@
 
 mod back;
 mod days;
+mod fronts;
 mod lent;
 mod library;
 mod lines;
@@ -17,6 +18,7 @@ mod walks;
 mod words;
 mod wrapper;
 mod wrong;
+mod wrong_fronts;
 mod wrong_reasons;
 mod wrong_walks;
 
@@ -41,7 +43,8 @@ fn setting(name: &str, otherwise: u64) -> u64 {
 
 /// Puts drawn calls to the programs and to the reference; asks of the seal of each reading why it is refused and opens
 /// a walk over it, and of some makes a step at every place. How often each answer was given, how often the calendar, a
-/// pair or a row decided, what walks and look-ups came to, the reasons, or the first difference.
+/// pair or a row decided, what walks and look-ups came to, the reasons, the first hopeless bytes, or the first
+/// difference.
 fn compare(seed: u64, count: u64, programs: &[Program]) -> Result<Counts, String> {
     let (mut inputs, mut counts) = (Inputs::new(seed), Counts::default());
     for at in 0..count {
@@ -90,6 +93,7 @@ fn the_library_answers_as_the_reference_does() {
     assert_eq!(seen(counts.pairs), all(&pairs::ALL), "not every kind of faulty pair");
     assert_eq!(seen(counts.rows), all(&rows::ALL), "not every kind of row or room");
     assert_eq!(seen(counts.walks), all(&walks::ALL), "not every kind of step or look-up");
+    assert_eq!(seen(counts.fronts), all(&fronts::ALL), "not every kind of hopeless byte");
     counts.reasons.must_be_all();
 }
 

@@ -4,7 +4,7 @@ use std::collections::BTreeMap;
 
 use reference::inputs::{Call, Outcome};
 
-use crate::{days, pairs, reasons, rows, walks};
+use crate::{days, fronts, pairs, reasons, rows, walks};
 
 /// How often, by call.
 type ByCall = BTreeMap<&'static str, u64>;
@@ -13,7 +13,8 @@ type ByCall = BTreeMap<&'static str, u64>;
 pub type Kind = (&'static str, &'static str);
 
 /// How often each call gave each number, how often the calendar decided, how often a pair or a character did, how often
-/// the tag's place in a row mattered, what walks and look-ups came to, and why seals were refused.
+/// the tag's place in a row mattered, what walks and look-ups came to, which byte was the first hopeless one, and why
+/// seals were refused.
 #[derive(Debug, Default)]
 pub struct Counts {
     pub answers: BTreeMap<usize, ByCall>,
@@ -21,6 +22,7 @@ pub struct Counts {
     pub pairs: BTreeMap<Kind, u64>,
     pub rows: BTreeMap<Kind, u64>,
     pub walks: BTreeMap<Kind, u64>,
+    pub fronts: BTreeMap<Kind, u64>,
     pub reasons: reasons::Counts,
 }
 
@@ -34,6 +36,7 @@ impl Counts {
         pairs::decided(call, outcome).into_iter().for_each(|kind| *self.pairs.entry(kind).or_default() += 1);
         rows::decided(call, outcome).into_iter().for_each(|(kind, times)| *self.rows.entry(kind).or_default() += times);
         walks::decided(call, outcome).into_iter().for_each(|kind| *self.walks.entry(kind).or_default() += 1);
+        fronts::decided(call, outcome).into_iter().for_each(|kind| *self.fronts.entry(kind).or_default() += 1);
         self.reasons.add(call, outcome);
     }
 }
@@ -80,7 +83,7 @@ pub fn outcome(outcome: &Outcome) -> String {
 
 /// One line for each number: how often it was given, and by which calls. Then the same for what the calendar decided,
 /// for each refusal of a pair or a character where it stood and what was wrong, what was counted of rows, of walks and
-/// of look-ups, and the reasons by item and by rule.
+/// of look-ups, the first hopeless bytes by item, and the reasons by item and by rule.
 pub fn counts(counts: &Counts) -> String {
     let times = |by_call: &ByCall| {
         let calls: Vec<_> = by_call.iter().map(|(name, count)| format!("{name} {count}")).collect();
@@ -91,11 +94,12 @@ pub fn counts(counts: &Counts) -> String {
     let pairs = pairs::ALL.iter().map(|(answer, kinds)| format!("pair {}", by_kind(answer, kinds, &counts.pairs)));
     let rows = rows::ALL.iter().map(|(answer, kinds)| format!("row {}", by_kind(answer, kinds, &counts.rows)));
     let walks = walks::ALL.iter().map(|(answer, kinds)| by_kind(answer, kinds, &counts.walks));
-    answers.chain(dates).chain(pairs).chain(rows).chain(walks).chain([counts.reasons.show()]).collect()
+    let fronts = fronts::ALL.iter().map(|(item, kinds)| by_kind(item, kinds, &counts.fronts));
+    answers.chain(dates).chain(pairs).chain(rows).chain(walks).chain(fronts).chain([counts.reasons.show()]).collect()
 }
 
 /// An answer, and a line of how often each kind of it was counted.
-fn by_kind(answer: &'static str, kinds: &[&'static str], counts: &BTreeMap<Kind, u64>) -> String {
+pub fn by_kind(answer: &'static str, kinds: &[&'static str], counts: &BTreeMap<Kind, u64>) -> String {
     let times = |kind| counts.get(&(answer, kind)).unwrap_or(&0);
     let kinds: Vec<_> = kinds.iter().map(|&kind| format!("{kind} {}", times(kind))).collect();
     format!("{answer}\n       {}\n", kinds.join(", "))

@@ -50,6 +50,7 @@ pub fn reading_out(answer: ours::plain::Reading) -> reference::Reading {
         ends: ends_out(answer.ends),
         signature: part_out(answer.signature),
         count: answer.count,
+        front: answer.front,
     }
 }
 

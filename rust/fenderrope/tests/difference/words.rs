@@ -93,7 +93,7 @@ fn the_longest_words_have_the_sizes_of_the_crate() {
 #[test]
 fn a_refusal_shows_the_words() {
     for number in NUMBERS.codes() {
-        let (words, refusal) = (reference::words(number), Refusal { number, place: 24 });
+        let (words, refusal) = (reference::words(number), Refusal { number, place: 24, front: 0 });
         let shown = if words.is_empty() { String::new() } else { format!(": {words}") };
         assert_eq!((&*Words::of(number), &*refusal.words()), (words, words));
         assert_eq!(refusal.to_string(), format!("refused {number} at 24{shown}"));

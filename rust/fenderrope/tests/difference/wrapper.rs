@@ -1,4 +1,5 @@
-//! The crate's `Result`s as a program to compare: what a refusal does not carry is 0, as in the plain answers.
+//! The crate's `Result`s as a program to compare: what a refusal does not carry is 0, as in the plain answers. A good
+//! seal's front part, which the crate does not give, is its length.
 
 use fenderrope::{judge, plain, walk, NotShown, Refusal, Verdict, Which};
 use reference::inputs::{run, Base, Call, Outcome};
@@ -24,17 +25,27 @@ fn reading(answer: Result<Verdict, Refusal>) -> Reading {
             ends: ends_out(ends),
             signature: part_out(signature),
             count,
+            front: ends.seal,
             ..Reading::default()
         },
-        Err(Refusal { number, place }) => Reading { number, place, ..Reading::default() },
+        Err(Refusal { number, place, front }) => Reading { number, place, front, ..Reading::default() },
     }
 }
 
 pub fn filled(answer: Result<usize, Refusal>) -> Filled {
     match answer {
         Ok(count) => Filled { count, ..Filled::default() },
-        Err(Refusal { number, place }) => Filled { number, place, ..Filled::default() },
+        Err(refusal) => {
+            let (number, place) = told(refusal);
+            Filled { number, place, ..Filled::default() }
+        }
     }
+}
+
+/// Number and place of a refusal that has no front part, as it is not of a reading.
+fn told(Refusal { number, place, front }: Refusal) -> (usize, usize) {
+    assert_eq!(front, 0, "a front part from a call that gives none");
+    (number, place)
 }
 
 /// Where in the seal these bytes lie; a copy of them would lie elsewhere.
@@ -42,8 +53,9 @@ pub fn part_of(seal: &[u8], part: &[u8]) -> Part {
     Part { place: (part.as_ptr() as usize).wrapping_sub(seal.as_ptr() as usize), length: part.len() }
 }
 
-/// The reason with its parts as codes, and where in the seal the bytes judged lie.
+/// The reason with its parts as codes, and where in the seal the bytes judged lie. Its front part is the judge's.
 fn reason(seal: &[u8], why: fenderrope::Reason) -> Reason {
+    assert_eq!(judge(seal), Err(why.refusal()), "another refusal than the judge's");
     let judged = part_of(seal, why.judged);
     Reason { number: why.number, place: why.place, item: why.item.code(), rule: why.rule.code(), judged }
 }
@@ -56,7 +68,7 @@ pub fn row(seal: &[u8], feature: fenderrope::Feature) -> Row {
 
 /// A refusal of a look-up, and of which seal.
 fn not_shown(refused: NotShown) -> Shown {
-    let Refusal { number, place } = refused.refusal();
+    let (number, place) = told(refused.refusal());
     Shown { number, place, which: refused.which().map_or(0, Which::code), ..Shown::default() }
 }
 
@@ -81,7 +93,10 @@ impl Base for Wrapper {
                 let at = first.or(judge(seal).ok().map(|verdict| verdict.ends.header));
                 Opened { at: at.unwrap_or_default(), ..Opened::default() }
             }
-            Err(Refusal { number, place }) => Opened { number, place, ..Opened::default() },
+            Err(refusal) => {
+                let (number, place) = told(refusal);
+                Opened { number, place, ..Opened::default() }
+            }
         }
     }
 
@@ -117,21 +132,30 @@ impl Base for Wrapper {
     fn date_from_number(&self, number: usize) -> Dated {
         match fenderrope::Date::from_number(number) {
             Ok(date) => Dated { date: date_out(date), ..Dated::default() },
-            Err(Refusal { number, place }) => Dated { number, place, ..Dated::default() },
+            Err(refusal) => {
+                let (number, place) = told(refusal);
+                Dated { number, place, ..Dated::default() }
+            }
         }
     }
 
     fn date_to_number(&self, date: Date) -> Numbered {
         match date_in(date).number() {
             Ok(value) => Numbered { value, ..Numbered::default() },
-            Err(Refusal { number, place }) => Numbered { number, place, ..Numbered::default() },
+            Err(refusal) => {
+                let (number, place) = told(refusal);
+                Numbered { number, place, ..Numbered::default() }
+            }
         }
     }
 
     fn integer_read(&self, bytes: &[u8]) -> Integer {
         match fenderrope::integer_read(bytes) {
             Ok(value) => Integer { value, ..Integer::default() },
-            Err(Refusal { number, place }) => Integer { number, place, ..Integer::default() },
+            Err(refusal) => {
+                let (number, place) = told(refusal);
+                Integer { number, place, ..Integer::default() }
+            }
         }
     }
 
@@ -150,7 +174,10 @@ impl Base for Wrapper {
     fn hash(&self, n: usize) -> Hashed {
         match fenderrope::hash(n) {
             Ok(hash) => Hashed { bits: hash.bits(), ..Hashed::default() },
-            Err(Refusal { number, place }) => Hashed { number, place, ..Hashed::default() },
+            Err(refusal) => {
+                let (number, place) = told(refusal);
+                Hashed { number, place, ..Hashed::default() }
+            }
         }
     }
 }

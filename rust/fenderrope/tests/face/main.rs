@@ -149,7 +149,7 @@ fn a_seal_is_read_through_these_declarations() {
     assert_eq!((reading.header.issued_on, reading.header.signed_on), (date, date));
     assert_eq!((reading.header.definition, reading.header.category), (1, 2));
     assert_eq!((reading.ends.header, reading.ends.message, reading.ends.seal), (18, 24, 82));
-    assert_eq!((reading.signature.place, reading.signature.length), (26, 56));
+    assert_eq!((reading.signature.place, reading.signature.length, reading.front), (26, 56, 82));
     assert_eq!((table, &text), ([10, 18, 20, 4, 7, 7], b"UTAB00001\x07\x07"));
 }
 

@@ -139,6 +139,9 @@ fn seal(random: &mut Random) -> (Vec<u8>, Draft) {
         let size = random.within(LONGEST_SEAL, LONGEST_SEAL + 4);
         draft.fill_to(random, size);
     }
+    if random.one_in(60) {
+        draft.cramp(random);
+    }
     let seal = match random.below(20) {
         0..=6 => draft.bytes(),
         7..=16 => damage::seal(random, &draft, 1),

@@ -133,6 +133,24 @@ impl Draft {
         }
     }
 
+    /// Features up to where little room is left, and then one or two that may not fit, or another signature.
+    pub fn cramp(&mut self, random: &mut Random) {
+        let any = random.below(450);
+        let size = LONGEST_SEAL - random.pick(&[0, 1, 2, 3, any, any]);
+        self.fill_to(random, size);
+        let used: Vec<u8> = self.features.iter().map(|feature| feature.0).collect();
+        let free = tags(random, 255).into_iter().filter(|tag| !used.contains(tag));
+        let count = random.below(3);
+        for tag in free.take(count) {
+            let any = random.below(600);
+            let length = random.pick(&[0, 1, 127, 128, 255, any, any]);
+            let length = if self.version == 3 { length.min(255) } else { length };
+            self.features.push((tag, random.bytes(length)));
+        }
+        let size = 2 * random.pick(&SIGNATURE_SIZES);
+        self.signature = random.bytes(size);
+    }
+
     /// The length of a feature in this version.
     pub fn length_bytes(&self, length: usize) -> Vec<u8> {
         if self.version == 3 {

@@ -81,7 +81,10 @@ pub fn read_in(seal: &[u8], numbers: usize, characters: usize) -> (Reading, Vec<
     let (rows, names) = if answer.number == 0 {
         (Row::WIDTH * answer.count, 4 + answer.header.length)
     } else {
-        assert_eq!(answer, Reading { number: answer.number, place: answer.place, ..Reading::default() });
+        assert_eq!(
+            answer,
+            Reading { number: answer.number, place: answer.place, front: answer.front, ..Reading::default() }
+        );
         (0, 0)
     };
     assert_eq!(table[rows..], lent_table(numbers)[rows..]);

@@ -2,9 +2,15 @@
 -- Assumes nothing.
 use borrow.Author.Needs.{needs}
 use mathlib.Core.Path.{ap, _∙_}
+use Rattle.front_reading.specs.declared.Fronted.{Fronted}
+use Rattle.face_seals.specs.declared.FrReading.{FrReading}
 use Rattle.face_seals.specs.Face.{readingOf}
 use Rattle.capi.proofs.seals.fr_read.Statement.{statement}
 use Rattle.capi.proofs.seals.fr_read.Tie as tie
+
+-- an answer and the front part beside it, as the face gives them
+abbrev shown : Fronted → FrReading
+shown f = readingOf (f .reading) (f .front)
 
 read-requires : tie.Need-read-requires
 read-requires c κs = search needs
@@ -20,7 +26,7 @@ same-length-2 c = search needs
 
 returns : tie.Need-returns
 returns c = (
-  c .of .ensures ∙ ap readingOf (c .before .before .before .before .before .read .ensures .0),
+  c .of .ensures ∙ ap shown (c .before .before .before .before .before .read .ensures .0),
   c .before .before .before .before .before .read .ensures .1,
 )
 

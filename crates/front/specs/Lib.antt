@@ -1,0 +1,3 @@
+pub mod Front
+pub mod Room
+pub mod Items

@@ -1,0 +1,4 @@
+pub mod Header
+pub mod Days
+pub mod Pairs
+pub mod Exact
