@@ -145,7 +145,7 @@ static void fronted(fr_reading r, const uint8_t *seal, size_t size) {
     MUST(fr_judge(changed_behind(seal, size, r.front + 1), size).front == r.front);
 }
 
-/* What a fuzzer seldom makes of a seal: headers with two bytes drawn, and features that leave little room behind them. */
+/* What a fuzzer seldom makes of a seal: headers with two bytes drawn, and features with little room behind them. */
 static uint8_t made_up[FR_SEAL_MOST + 1];
 
 /* A good header, of version 3, or of 4 with a reference that ends in two characters or is one; gives where it ends. */

@@ -185,16 +185,10 @@ static fr_reading judge(const uint8_t *s, size_t n, uint8_t *names) {
     return a;
 }
 
-/* an answer with the front part of a refused seal too */
-static fr_reading fronted(fr_reading a, const uint8_t *s, size_t n) {
-    if (a.number) a.front = c_front(s, n);
-    return a;
-}
-
 fr_reading c_read(const uint8_t *s, size_t n, size_t *table, size_t numbers, uint8_t *text, size_t room) {
     uint8_t names[259];
-    fr_reading a = fronted(judge(s, n, names), s, n);
-    if (a.number) return a;
+    fr_reading a = judge(s, n, names);
+    if (a.number) return a.front = c_front(s, n), a;
     if (numbers < FR_ROW * a.count || room < 4 + a.header.length) return (fr_reading){.number = 12, .front = n};
     put_rows(a.ends.header, s, a.header.version, a.count, table);
     memcpy(text, names, 4 + a.header.length);
@@ -206,4 +200,9 @@ fr_reading c_verdict(const uint8_t *s, size_t n) {
     return judge(s, n, names);
 }
 
-fr_reading c_judge(const uint8_t *s, size_t n) { return fronted(c_verdict(s, n), s, n); }
+fr_reading c_judge(const uint8_t *s, size_t n) {
+    uint8_t names[259];
+    fr_reading a = judge(s, n, names);
+    if (a.number) a.front = c_front(s, n);
+    return a;
+}

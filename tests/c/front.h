@@ -1,11 +1,11 @@
 /*
  * How far a refused input is good: the first byte that no seal has there, in every item, before the place, at it and
- * behind it; the room that a signature needs; and at each place of two seals, which bytes can follow.
+ * behind it; the room that a signature needs; and at each place of two seals, how many bytes can follow.
  */
 #include "lent.h"
 #include "made.h"
 
-/* What is put into a seal from `at` on, the length of the input, number and place of the refusal, and its front part. */
+/* What is put into a seal from `at` on, the input's length, number and place of the refusal, and the front part. */
 typedef struct hope {
     size_t at;
     const char *bytes;
@@ -13,7 +13,7 @@ typedef struct hope {
     size_t number, place, front;
 } hope;
 
-/* Whether the input is refused so, by the verdict and by the reading, and is good so far. Another front part is shown. */
+/* Whether the input is refused so, by the verdict and by the reading, and good so far. Another front part is shown. */
 static int good_up_to(const uint8_t *seal, size_t length, size_t number, size_t place, size_t front) {
     fr_reading judged = fr_judge(seal, length), read = fr_read(seal, length, table, FR_TABLE_MOST, lent, FR_TEXT_MOST);
     if (judged.front == front && read.front == front) return refuses(seal, length, number, place);
@@ -41,9 +41,9 @@ static void check_fronts(const uint8_t *seal, size_t length) {
 }
 
 /*
- * Version 3: Seal A, 82 bytes. "\xD9\xAD" is UT0 and "\xD9\xAC" UT and a space; "\x57\xFC" is A<<, the only country that
- * begins with 57, and none begins with 58; "\x24\x77" is 1TA, "\x13\x3C" three spaces, and "\x19\xA5" 000, the least of
- * three letters or digits.
+ * Version 3: Seal A, 82 bytes. "\xD9\xAD" is UT0 and "\xD9\xAC" UT and a space; "\x57\xFC" is A<<, the only country
+ * that begins with 57, and none begins with 58; "\x24\x77" is 1TA, "\x13\x3C" three spaces, and "\x19\xA5" 000, the
+ * least of three letters or digits.
  */
 static const hope hopes_of_three[] = {
     {0, "\xDD", 1, 82, 3, 0, 0},
@@ -210,7 +210,8 @@ static void test_front_follow(void) {
     static const feature features[] = {{11, 200}, {12, 3}};
     size_t i;
     for (i = 0; i < sizeof three; i++) CHECK(follow(seal_a, i, three[i]));
-    for (; i < SEAL_A; i++) CHECK(follow(seal_a, i, i == 13 ? 69 : i == 16 || i == 17 ? 254 : i == 24 ? 255 : i == 25 ? 4 : 256));
+    for (; i < SEAL_A; i++)
+        CHECK(follow(seal_a, i, i == 13 ? 69 : i == 16 || i == 17 ? 254 : i == 24 ? 255 : i == 25 ? 4 : 256));
     CHECK(follow(seal_a, SEAL_A, 0));
     make_seal(4, features, 2);
     for (i = 0; i < sizeof four; i++) CHECK(follow(made, i, four[i]));
@@ -270,12 +271,13 @@ static void test_front_room(void) {
         CHECK(fr_judge(input, end).number == 2 && fr_judge(input, end).front == end && tells(input, end));
         fill_to(input, l->version, l->place + 1);
         memcpy(input + l->place + 1, l->bytes, l->count);
-        CHECK(fr_judge(input, end + 1).number == 2 && fr_judge(input, end + 1).front == l->further && tells(input, end + 1));
+        CHECK(fr_judge(input, end + 1).number == 2 && fr_judge(input, end + 1).front == l->further);
+        CHECK(tells(input, end + 1));
         CHECK(good_up_to(input, FR_SEAL_MOST + 1, 1, 4096, l->further));
     }
 }
 
-/* All 255 tags are used: FF alone can follow. And the longest seal, alone, with a byte more, and with a tag used twice. */
+/* All 255 tags are used: FF alone can follow. And the longest seal, alone, with a byte more, and with a tag twice. */
 static void test_front_most(void) {
     static feature all[FR_FEATURES_MOST];
     static uint8_t input[FR_SEAL_MOST + 1];

@@ -78,7 +78,7 @@ fn name_in(value: &[u8]) -> Option<String> {
     is_name(&name[..count]).then(|| String::from_utf8_lossy(&name[..count]).into_owned())
 }
 
-/// The line of a refused seal, and the five that say why.
+/// The line of a refused seal, and the six that say why.
 fn refused(seal: &[u8], refusal: Refusal) -> String {
     let why = why(seal).map_or(String::new(), |reason| format!("\n{reason}"));
     format!("{refusal}{why}")
