@@ -1,9 +1,9 @@
 -- The front of a date is the longest (document 02, Ticket 12): so many bytes begin some day's, and one more none's.
 -- Assumes nothing.
 use mathlib.Core.Path.{_≡_, refl, ap, ap₂, sym, subst, _∙_}
-use mathlib.Core.Bool.{Bool, true, false}
+use mathlib.Core.Bool.{true}
 use mathlib.Core.List.{List, [], _∷_, _++_}
-use Prim.Native.Nat.{ℕ, _+_, _*_, _/_, _%_, _<_, _≤_}
+use Prim.Native.Nat.{ℕ, _+_, _*_, _/_, _%_, _<_}
 use native.Mathlib.Omega.{arith}
 use lib.ListN.{length, take}
 use lib.Seq.{take-all}
@@ -11,7 +11,7 @@ use Rattle.format.specs.Bytes.{Bytes}
 use Rattle.format.specs.Bytes.Laws.{bytes-nil, bytes-cons}
 use Rattle.format.specs.BigEndian.{be, val}
 use Rattle.format.specs.BigEndian.Laws.{bytes-be, be-val}
-use Rattle.format.specs.Choice.Laws.{by-test, not-true}
+use Rattle.format.specs.Choice.Laws.{by-test}
 use Rattle.dates.specs.declared.Date.{Date}
 use Rattle.dates.specs.Days.{isDay, Day, firstDay, numberOf, dateOf, publish as date}
 use Rattle.dates.specs.Days.Laws.{number-date, date-number, val-publish, length-publish}
@@ -21,6 +21,7 @@ use Rattle.front_days.specs.Days.Laws.{some-day, day-some}
 use Rattle.front.specs.Front.{Begins, Longest}
 use Rattle.front.specs.Front.Laws.{longest-end, longest-stop}
 use Rattle.front.specs.Items.{Item}
+use Rattle.front_message.specs.Message.Laws.{not-both}
 
 -- the three bytes of a day
 abbrev pub Dated : List ℕ → Type 0
@@ -100,10 +101,6 @@ begun-three a b c (rest, i) =
 begun-four : (a b c e : ℕ) → Begins Dated (a ∷ b ∷ c ∷ e ∷ []) → ⊥
 begun-four a b c e (rest, i) = omega (arith, sym (length-publish (i .a)) ∙ ap length (i .is))
 
--- a test that is false is not true
-not-both : {b : Bool} → b ≡ true → b ≡ false → ⊥
-not-both t f = not-true (sym f ∙ t)
-
 -- the front of one byte, and of two, where with the next byte no day begins
 one-longest :
     (a : ℕ) (s : List ℕ) →
@@ -149,26 +146,6 @@ day-longest (a ∷ b ∷ c ∷ s) bytes =
     four [] h w = absurd (omega arith)
     four (x ∷ r) h w = begun-four a b c x w
 
--- Three bytes that are whole are the bytes of the day that they carry; and a day's bytes are three.
-two-at-most : (a b : ℕ) → twoFront a b ≤ 2
-two-at-most a b =
-    by-test (someDay (a * 65536 + b * 256) 255)
-    (λ e. rw e (omega arith))
-    (λ e. rw e (by-test (someDay (a * 65536) 65535) (λ f. rw f (omega arith)) (λ f. rw f (omega arith))))
-
-pub day-sound : (t : List ℕ) → length t ≡ 3 → Bytes t → dayFront t ≡ 3 → (Day (value t)) × (date (value t) ≡ t)
-unfolding dayFront
-day-sound [] l bytes e = absurd (omega arith)
-day-sound (a ∷ []) l bytes e = absurd (omega arith)
-day-sound (a ∷ b ∷ []) l bytes e = absurd (omega arith)
-day-sound (a ∷ b ∷ c ∷ x ∷ s) l bytes e = absurd (omega arith)
-day-sound (a ∷ b ∷ c ∷ []) l bytes e =
-    let t = a ∷ b ∷ c ∷ [] in
-    let day : Day (value t) =
-    by-test (isDay (value t))
-    (λ h. h)
-    (λ h. let two : twoFront a b ≡ 3 = rw h at e in absurd (omega (arith, two-at-most a b))) in
-    (day, published t l bytes day)
-
-pub day-complete : (d : Date) → Day d → (length (date d) ≡ 3) × Bytes (date d)
-day-complete d h = (length-publish d, bytes-of (date d) d refl)
+-- the bytes of a day are three
+pub day-size : (d : Date) → Day d → length (date d) ≡ 3
+day-size d h = length-publish d

@@ -8,7 +8,7 @@ use Rattle.front_message.specs.Message.Exact.{message-is}
 use Rattle.front_header.specs.Header.{front}
 use Rattle.front_header.specs.Header.Parts.{Readers}
 use Rattle.front_header.specs.Header.Laws.{front-is-by}
-use Rattle.front_header.specs.Days.{day-longest, day-complete}
+use Rattle.front_header.specs.Days.{day-longest, day-size}
 use Rattle.front_header.specs.Pairs.Fronts.{country-reader, signer-reader, triple-reader, length-reader, two-reader, one-reader}
 
 readers : Readers
@@ -19,7 +19,7 @@ readers = record {
   length = length-reader;
   two = two-reader;
   one = one-reader;
-  day = record { size = λ d l. day-complete d l .0; front = day-longest };
+  day = record { size = day-size; front = day-longest };
 }
 
 pub front-is : (s : List ℕ) → Bytes s → Longest Sealed s (front s)

@@ -9,9 +9,7 @@ pub mod Signature
 pub mod Lengths
 pub mod Values
 pub mod Exact
-pub mod Fuel
 pub mod Pins
-use mathlib.Core.Bool.{Bool}
 use Prim.Native.Nat.{ℕ, zero, suc, _+_, _-_, _*_}
 use mathlib.Core.List.{List, [], _∷_}
 use lib.Dec.{ltb, eqb}

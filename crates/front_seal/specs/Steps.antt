@@ -4,7 +4,7 @@ pub mod Dates
 pub mod Names
 pub mod Start
 use mathlib.Core.Path.{_≡_, refl, sym, ap}
-use mathlib.Core.List.{List, []}
+use mathlib.Core.List.{List}
 use Prim.Native.Nat.{ℕ, _+_, _≤_, _<_}
 use native.Mathlib.Omega.{arith}
 use lib.Dec.{ltb}
@@ -12,7 +12,6 @@ use lib.ListN.{length, drop, getD}
 use lib.Seq.{drop-drop}
 use native.Mathlib.Decide.{decLe}
 use borrow.Author.Tests.{lt-ltb, le-ltb}
-use Rattle.format.specs.Choice.{pick}
 use Rattle.format.specs.Choice.Laws.{within-true}
 use Rattle.format.specs.Places.{at-place, past-end}
 use Rattle.front_header.specs.Header.{byteFront, past, lastFront}

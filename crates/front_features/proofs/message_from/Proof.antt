@@ -1,14 +1,11 @@
 -- `front_features::message_from` meets its contract: where no message begins there is none, and else `message_front` tells.
 -- Assumes nothing.
-use borrow.Author.Needs.{needs}
 use borrow.Author.Tests.{lt-ltb, le-ltb}
 use native.Mathlib.Omega.{arith}
 use mathlib.Core.Path.{_≡_, sym, ap, _∙_}
 use mathlib.Core.List.{List, []}
 use Prim.Native.Nat.{ℕ, suc, _+_, _-_, _≤_, _<_}
-use lib.Dec.{ltb}
 use lib.ListN.{length, drop}
-use Rattle.format.specs.Choice.{pick}
 use Rattle.format.specs.Places.{past-end}
 use Rattle.grammar.specs.Content.{Version}
 use Rattle.front_message.specs.Message.{turn, messageFront}

@@ -1,20 +1,17 @@
 -- The pairs that fit as the signer's last character and a length are exactly their published forms, and the length is the one that the
 -- pair's two digits give.
 -- Assumes nothing.
-use mathlib.Core.Path.{_≡_, refl, sym, ap, subst, _∙_}
+use mathlib.Core.Path.{_≡_, refl, sym, subst, _∙_}
 use Prim.Native.Nat.{ℕ, _+_, _*_, _-_, _/_, _%_, _<_, _≤_}
 use native.Mathlib.Omega.{arith}
-use mathlib.Core.List.{List, [], _∷_}
-use lib.ListN.{getD}
 use Rattle.format.specs.Hex.{hexDigit}
 use Rattle.pairs.specs.Chart.{valueOf}
 use Rattle.pairs.specs.Chart.Laws.{value-range}
-use Rattle.pairs.specs.Pairs.{packedOf, triple, number, first, second, third}
-use Rattle.pairs.specs.Pairs.Laws.{triple-is}
+use Rattle.pairs.specs.Pairs.{triple, number, first, second, third}
 use Rattle.grammar.specs.Legal.{LetterOrDigit}
 use Rattle.front_pairs.specs.Pairs.{lengthIn}
 use Rattle.front_pairs.specs.Pairs.Laws.{several}
-use Rattle.front_pairs.specs.Pairs.Laws.Kept.{Made, fits-made, second-made, third-made}
+use Rattle.front_pairs.specs.Pairs.Laws.Kept.{fits-made}
 use Rattle.front_pairs.specs.declared.Kind.the-variants as kind
 use Rattle.front.specs.Items.{Counted, countedItem}
 use Rattle.front_header.specs.Pairs.{Pair}
@@ -66,24 +63,3 @@ counted-complete v l =
     (triple-pair kind.Length (valueOf (v .0)) (v .1 / 16 + 4) (v .1 % 16 + 4) (several kind.Length refl) (value-range (v .0) .1)
     (omega (arith, l .2)) (omega arith)
     (either-value (v .0) (l .0), (omega arith, omega (arith, l .2)), (omega arith, omega arith), omega (arith, l .1)))
-
--- the length that the two digits of such a pair give is the one that was put in
-pub counted-length : (v : ℕ × ℕ) → Counted v → (x y : ℕ) → countedItem v ≡ x ∷ y ∷ [] → v .1 ≡ lengthIn x y
-counted-length v l x y e =
-    let a = valueOf (v .0) in
-    let b = v .1 / 16 + 4 in
-    let c = v .1 % 16 + 4 in
-    let n = packedOf a b c in
-    let ha = value-range (v .0) .1 in
-    let hb : b < 40 = omega (arith, l .2) in
-    let hc : c < 40 = omega arith in
-    let same = sym e ∙ counted-form v l ∙ triple-is a b c in
-    let ex : x ≡ n / 256 % 256 = ap (λ t. getD t 0 0) same in
-    let ey : y ≡ n % 256 = ap (λ t. getD t 1 0) same in
-    let is : number x y ≡ n = omega arith in
-    let s = second-made (number x y) a b c is ha hb hc in
-    let o = third-made (number x y) a b c is ha hb hc in
-    back (v .1) ∙ sym (λ i. 16 * (s i - 4) + (o i - 4))
-  where
-    back : (L : ℕ) → L ≡ 16 * (L / 16 + 4 - 4) + (L % 16 + 4 - 4)
-    back L = omega arith

@@ -4,21 +4,20 @@ use mathlib.Core.Path.{_≡_, refl, sym, ap, subst, _∙_}
 use mathlib.Core.Logic.{_⊎_, inl, inr, ⊎-elim}
 use Prim.Native.Nat.{ℕ, zero, suc, _+_, _<_, _≤_}
 use native.Mathlib.Omega.{arith}
-use mathlib.Core.List.{List, [], _∷_, map}
-use lib.ListN.{length, getD}
+use mathlib.Core.List.{List, [], _∷_}
+use lib.ListN.{getD}
 use Rattle.format.specs.Bytes.Laws.{all-at}
 use Rattle.pairs.specs.Chart.{valueOf}
 use Rattle.pairs.specs.Pairs.{packedOf, triple, number, first, second, third}
-use Rattle.c40.specs.Text.{publish as c40}
 use Rattle.grammar.specs.Legal.{Letter, Filler, Country}
 use Rattle.grammar.specs.Publish.{carried}
 use Rattle.front_pairs.specs.Pairs.Laws.{several}
-use Rattle.front_pairs.specs.Pairs.Laws.Kept.{Kept, Made, fits-made}
+use Rattle.front_pairs.specs.Pairs.Laws.Kept.{fits-made}
 use Rattle.front_pairs.specs.declared.Kind.the-variants as kind
 use Rattle.front.specs.Items.{countryItem}
 use Rattle.front_header.specs.Pairs.{Pair}
 use Rattle.front_header.specs.Pairs.Items.{Sound, Complete}
-use Rattle.front_header.specs.Pairs.Values.{With, letter-with, letter-value, letter-carried, filler-carried, triple-bytes, form-three}
+use Rattle.front_header.specs.Pairs.Values.{letter-with, letter-value, letter-carried, filler-carried, triple-bytes, form-three}
 use Rattle.front_header.specs.Pairs.Values.{three-pair, list-three}
 
 -- a character that is carried with a value

@@ -4,22 +4,20 @@
 use mathlib.Core.Path.{_≡_, refl, sym, ap, subst, _∙_}
 use mathlib.Core.Logic.{_⊎_, inl, inr, ⊎-elim}
 use mathlib.Core.Bool.{true}
-use Prim.Native.Nat.{ℕ, zero, suc, _+_, _*_, _-_, _/_, _%_, _<_, _≤_}
+use Prim.Native.Nat.{ℕ, _+_, _-_, _<_}
 use native.Mathlib.Omega.{arith}
-use mathlib.Core.List.{List, [], _∷_, map}
+use mathlib.Core.List.{List, [], _∷_}
 use lib.ListN.{length, getD}
 use Rattle.format.specs.Bytes.{Bytes}
 use Rattle.format.specs.Bytes.Laws.{all-at}
-use Rattle.format.specs.Hex.{hexDigit}
 use Rattle.pairs.specs.Chart.{valueOf}
 use Rattle.pairs.specs.Chart.Laws.{value-range}
 use Rattle.pairs.specs.Pairs.{packedOf, triple, number, first, second, third}
 use Rattle.c40.specs.Text.{publish as c40}
-use Rattle.grammar.specs.Legal.{Letter, LetterOrDigit, Filler, Country}
-use Rattle.grammar.specs.Publish.{carried, hexDigits}
+use Rattle.grammar.specs.Legal.{Letter, LetterOrDigit}
 use Rattle.front.specs.Front.{Longest}
 use Rattle.front.specs.Items.{Item, Reader, First, Characters}
-use Rattle.front_pairs.specs.Pairs.{fits, pairFront, lengthIn}
+use Rattle.front_pairs.specs.Pairs.{fits, pairFront}
 use Rattle.front_pairs.specs.Pairs.Laws.{several}
 use Rattle.front_pairs.specs.Pairs.Laws.Kept.{Kept, fits-made, fits-single, single-fits}
 use Rattle.front_pairs.specs.declared.Kind.{Kind}

@@ -6,9 +6,8 @@ use Prim.Native.Nat.{ℕ, _+_, _-_, _/_, _%_, _<_, _≤_}
 use native.Mathlib.Omega.{arith}
 use borrow.Author.Tests.{ltb-true, ltb-false, eq-eqb, ne-eqb}
 use mathlib.Core.List.{List, [], _∷_}
-use lib.Dec.{ltb, eqb}
+use lib.Dec.{ltb}
 use lib.ListN.{length, getD}
-use Rattle.format.specs.Choice.{pick}
 use Rattle.format.specs.Choice.Laws.{by-test}
 use Rattle.format.specs.Hex.{hexDigit}
 use Rattle.format.specs.Hex.Laws.{digit-figure, digit-letter}
@@ -21,7 +20,7 @@ use Rattle.c40.specs.Text.{publish as c40}
 use Rattle.c40.specs.Text.Laws.{publish-pair}
 use Rattle.grammar.specs.Legal.{Letter, Digit, LetterOrDigit, Filler}
 use Rattle.grammar.specs.Publish.{carried}
-use Rattle.front_pairs.specs.Pairs.Laws.Kept.{Kept, Made, made-fits}
+use Rattle.front_pairs.specs.Pairs.Laws.Kept.{Kept, made-fits}
 use Rattle.front_pairs.specs.declared.Kind.{Kind}
 use Rattle.front_pairs.specs.declared.Kind.the-variants.{One}
 use Rattle.front_header.specs.Pairs.{Pair}

@@ -8,7 +8,6 @@ use Prim.Native.Nat.{ℕ}
 use denote.Ref.{now}
 use lib.ListN.{length}
 use Rattle.front_header.specs.Header.{front}
-use Rattle.front_reading.specs.declared.Fronted.{Fronted}
 use Rattle.front_reading.specs.Fronted.Laws.{judged-whole}
 use Rattle.front_reading.proofs.judge.Statement.{statement}
 use Rattle.front_reading.proofs.judge.Tie as tie

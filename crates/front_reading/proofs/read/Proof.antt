@@ -1,12 +1,10 @@
 -- `front_reading::read` meets its contract: the reading, and the front part beside it.
 -- Assumes nothing.
 use borrow.Author.Needs.{needs}
-use mathlib.Core.Path.{_≡_}
 use mathlib.Core.Logic.{inl, inr}
 use mathlib.Core.List.{List}
 use denote.Ref.{now}
 use Prim.Native.Nat.{ℕ}
-use Rattle.front_reading.specs.declared.Fronted.{Fronted}
 use Rattle.front_reading.specs.Fronted.{Whole}
 use Rattle.front_reading.specs.Fronted.Laws.{read-whole}
 use Rattle.front_reading.proofs.read.Statement.{statement}

@@ -1,6 +1,6 @@
 -- `front_seal::front` meets its contract: the mark, the version, and then the rest.
 -- Assumes nothing.
-use mathlib.Core.Path.{_≡_, ap, sym, _∙_}
+use mathlib.Core.Path.{ap, sym, _∙_}
 use native.Mathlib.Omega.{arith}
 use Rattle.versions.specs.Versions.{statedOf, versionOfByte}
 use Rattle.front_seal.specs.Steps.Start.{two-there, no-bytes, no-mark, mark-alone, no-version, version-goes}

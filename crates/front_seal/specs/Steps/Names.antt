@@ -1,16 +1,16 @@
 -- The steps of the names: text by threes is one item of its whole width, and what follows goes on from there.
 -- Assumes nothing.
-use mathlib.Core.Path.{_≡_, refl, sym, ap, _∙_}
+use mathlib.Core.Path.{_≡_, sym, ap, _∙_}
 use mathlib.Core.Bool.{true}
 use mathlib.Core.List.{List, [], _∷_}
-use Prim.Native.Nat.{ℕ, zero, suc, _+_, _-_, _*_, _/_, _≤_, _<_}
+use Prim.Native.Nat.{ℕ, zero, suc, _+_, _-_, _≤_, _<_}
 use native.Mathlib.Omega.{arith}
 use native.Mathlib.Decide.{decLe}
 use lib.Dec.{ltb}
 use lib.ListN.{length, drop, getD, length-drop}
 use lib.Seq.{drop-drop, getD-drop}
 use borrow.Author.Tests.{lt-ltb, le-ltb, ltb-true, ltb-false}
-use Rattle.format.specs.Choice.{pick, both, within}
+use Rattle.format.specs.Choice.{within}
 use Rattle.format.specs.Choice.Laws.{by-test, both-true, within-both}
 use Rattle.format.specs.Places.{at-place}
 use Rattle.c40.specs.Text.{width}
