@@ -83,7 +83,7 @@ pub characters-cut : (n : ℕ) → Cut (Characters n) c40
 characters-cut n a b t u la lb e = cut-text n a b t u (la .0, reference-text a (la .1)) (lb .0, reference-text b (lb .1)) e
 
 -- the value of a hexadecimal digit, in the chart
-value-hex : (n : ℕ) → n < 16 → valueOf (hexDigit n) ≡ n + 4
+pub value-hex : (n : ℕ) → n < 16 → valueOf (hexDigit n) ≡ n + 4
 value-hex n h =
     by-test (ltb n 10)
     (λ e. let l = ltb-true n 10 e in rw e (omega (arith, value-digit (48 + n) (omega arith) (omega arith))))

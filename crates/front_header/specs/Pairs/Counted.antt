@@ -14,9 +14,10 @@ use Rattle.front_pairs.specs.Pairs.Laws.{several}
 use Rattle.front_pairs.specs.Pairs.Laws.Kept.{fits-made}
 use Rattle.front_pairs.specs.declared.Kind.the-variants as kind
 use Rattle.front.specs.Items.{Counted, countedItem}
+use Rattle.front_header.specs.Header.Parts.{value-hex}
 use Rattle.front_header.specs.Pairs.{Pair}
 use Rattle.front_header.specs.Pairs.Items.{Sound, Complete}
-use Rattle.front_header.specs.Pairs.Values.{With, either-with, either-value, digit-value, triple-pair, form-three, form-with}
+use Rattle.front_header.specs.Pairs.Values.{With, either-with, either-value, triple-pair, form-three, form-with}
 
 -- the length by two values
 module _ (b c L : ℕ) (low : 4 ≤ b) (high : b ≤ 19) (low′ : 4 ≤ c) (high′ : c ≤ 19) (e : L ≡ 16 * (b - 4) + (c - 4)) where
@@ -45,16 +46,16 @@ counted-sound x y hx hy e =
     let most = length-most (second n) (third n) L (v .1 .0) (v .1 .1) (v .2 .0) (v .2 .1) refl in
     let least = length-some (second n) (third n) L (v .1 .0) (v .1 .1) (v .2 .0) (v .2 .1) refl (v .3) in
     let q : With (λ c. Unit) (second n) =
-    record { c = hexDigit (L / 16); legal = tt; is = digit-value (L / 16) (omega (arith, most)) ∙ s } in
+    record { c = hexDigit (L / 16); legal = tt; is = value-hex (L / 16) (omega (arith, most)) ∙ s } in
     let r : With (λ c. Unit) (third n) =
-    record { c = hexDigit (L % 16); legal = tt; is = digit-value (L % 16) (omega arith) ∙ o } in
+    record { c = hexDigit (L % 16); legal = tt; is = value-hex (L % 16) (omega arith) ∙ o } in
     ((p .c, L), (p .legal, least, most), form-with LetterOrDigit (λ c. Unit) (λ c. Unit) _ _ _ x y p q r hx hy (m .is))
 
 -- the form of a character and a length, by three values
 counted-form : (v : ℕ × ℕ) → Counted v → countedItem v ≡ triple (valueOf (v .0)) (v .1 / 16 + 4) (v .1 % 16 + 4)
 counted-form v l =
-    let s = digit-value (v .1 / 16) (omega (arith, l .2)) in
-    let o = digit-value (v .1 % 16) (omega arith) in
+    let s = value-hex (v .1 / 16) (omega (arith, l .2)) in
+    let o = value-hex (v .1 % 16) (omega arith) in
     form-three (v .0) (hexDigit (v .1 / 16)) (hexDigit (v .1 % 16)) ∙ (λ i. triple (valueOf (v .0)) (s i) (o i))
 
 pub counted-complete : Complete kind.Length Counted countedItem

@@ -15,10 +15,11 @@ use Rattle.front_pairs.specs.Pairs.Laws.{several}
 use Rattle.front_pairs.specs.Pairs.Laws.Kept.{fits-made}
 use Rattle.front_pairs.specs.declared.Kind.the-variants as kind
 use Rattle.front.specs.Items.{countryItem}
+use Rattle.front_header.specs.Header.Parts.{three-listed}
 use Rattle.front_header.specs.Pairs.{Pair}
 use Rattle.front_header.specs.Pairs.Items.{Sound, Complete}
 use Rattle.front_header.specs.Pairs.Values.{letter-with, letter-value, letter-carried, filler-carried, triple-bytes, form-three}
-use Rattle.front_header.specs.Pairs.Values.{three-pair, list-three}
+use Rattle.front_header.specs.Pairs.Values.{three-pair}
 
 -- a character that is carried with a value
 record Carried (P : ℕ → Type 0) (v : ℕ) : Type 0 where
@@ -87,7 +88,7 @@ carried-letter c h = subst (λ d. 14 ≤ valueOf d) (sym (letter-carried c h)) (
 
 pub country-complete : Complete kind.Country Country countryItem
 country-complete t l =
-    subst (λ u. Pair kind.Country (countryItem u)) (sym (list-three t (l .size)))
+    subst (λ u. Pair kind.Country (countryItem u)) (sym (three-listed t (l .size)))
     (three-pair kind.Country (carried (getD t 0 0)) (carried (getD t 1 0)) (carried (getD t 2 0)) (several kind.Country refl) (
       carried-letter (getD t 0 0) (l .first),
       ⊎-elim (λ h. inl (carried-letter (getD t 1 0) h, last)) (λ h. inr (filled h)) (allowed 1 (omega arith)),

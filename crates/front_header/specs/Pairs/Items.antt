@@ -22,9 +22,10 @@ use Rattle.front_pairs.specs.Pairs.Laws.{several}
 use Rattle.front_pairs.specs.Pairs.Laws.Kept.{Kept, fits-made, fits-single, single-fits}
 use Rattle.front_pairs.specs.declared.Kind.{Kind}
 use Rattle.front_pairs.specs.declared.Kind.the-variants as kind
+use Rattle.front_header.specs.Header.Parts.{three-listed}
 use Rattle.front_header.specs.Pairs.{Pair, pair-front-is}
 use Rattle.front_header.specs.Pairs.Values.{With, letter-with, either-with, letter-value, either-value}
-use Rattle.front_header.specs.Pairs.Values.{triple-bytes, triple-pair, form-two, form-one, form-with, three-pair, list-three}
+use Rattle.front_header.specs.Pairs.Values.{triple-bytes, triple-pair, form-two, form-one, form-with, three-pair}
 
 -- an item whose forms are exactly the pairs that fit, and how far it is begun
 module _ (k : Kind) {A : Type 0} (L : A → Type 0) (p : A → List ℕ) where
@@ -59,7 +60,7 @@ record Three (P Q R : ℕ → Type 0) (x : List ℕ) : Type 0 where
 module _ (k : Kind) (P Q R : ℕ → Type 0) (h : k ≡ kind.One → ⊥) where
   three-complete : ((a b c : ℕ) → P a → Q b → R c → Kept k (valueOf a) (valueOf b) (valueOf c)) → Complete k (Three P Q R) c40
   three-complete kept t l =
-      subst (λ u. Pair k (c40 u)) (sym (list-three t (l .size))) (three-pair k _ _ _ h (kept _ _ _ (l .p) (l .q) (l .r)))
+      subst (λ u. Pair k (c40 u)) (sym (three-listed t (l .size))) (three-pair k _ _ _ h (kept _ _ _ (l .p) (l .q) (l .r)))
 
   three-sound : (x y a b c : ℕ) → x < 256 → y < 256 → number x y ≡ packedOf a b c → With P a → With Q b → With R c
       → (t : List ℕ) × Three P Q R t × (c40 t ≡ x ∷ y ∷ [])

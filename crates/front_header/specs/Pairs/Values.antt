@@ -1,16 +1,13 @@
 -- The characters of a header's pairs, by their values, and back; and a pair's bytes, by its three values.
 -- Assumes nothing.
-use mathlib.Core.Path.{_≡_, refl, sym, ap, subst, _∙_}
+use mathlib.Core.Path.{_≡_, refl, sym, subst, _∙_}
 use mathlib.Core.Logic.{inl, inr, ⊎-elim}
 use Prim.Native.Nat.{ℕ, _+_, _-_, _/_, _%_, _<_, _≤_}
 use native.Mathlib.Omega.{arith}
 use borrow.Author.Tests.{ltb-true, ltb-false, eq-eqb, ne-eqb}
-use mathlib.Core.List.{List, [], _∷_}
+use mathlib.Core.List.{[], _∷_}
 use lib.Dec.{ltb}
-use lib.ListN.{length, getD}
 use Rattle.format.specs.Choice.Laws.{by-test}
-use Rattle.format.specs.Hex.{hexDigit}
-use Rattle.format.specs.Hex.Laws.{digit-figure, digit-letter}
 use Rattle.pairs.specs.Chart.{valueOf}
 use Rattle.pairs.specs.Chart.Laws.{value-space, value-digit, value-letter, value-range}
 use Rattle.pairs.specs.Pairs.{packedOf, triple, number}
@@ -66,17 +63,6 @@ letter-carried c h = rw (ne-eqb c 60 (λ e. omega arith)) refl
 pub filler-carried : (c : ℕ) → Filler c → valueOf (carried c) ≡ 3
 filler-carried c h = rw (eq-eqb c 60 h) (sym (value-space 32 (omega arith)))
 
--- a hexadecimal digit's value is 4 more than what it stands for
-pub digit-value : (n : ℕ) → n < 16 → valueOf (hexDigit n) ≡ n + 4
-digit-value n h =
-    by-test (ltb n 10)
-    (λ t.
-    let k = ltb-true n 10 t in
-    ap valueOf (sym (digit-figure n k)) ∙ sym (value-digit (48 + n) (omega arith) (omega arith)) ∙ omega arith)
-    (λ t.
-    let k = ltb-false n 10 t in
-    ap valueOf (sym (digit-letter n k)) ∙ sym (value-letter (55 + n) (omega arith) (omega arith)) ∙ omega arith)
-
 -- the bytes of three values
 pub triple-bytes : (a b c x y : ℕ) → x < 256 → y < 256 → number x y ≡ packedOf a b c → triple a b c ≡ x ∷ y ∷ []
 triple-bytes a b c x y hx hy e =
@@ -124,11 +110,3 @@ pub three-pair :
 three-pair kind a b c h k =
     subst (Pair kind) (sym (form-three a b c))
     (triple-pair kind (valueOf a) (valueOf b) (valueOf c) h (value-range a .1) (value-range b .1) (value-range c .1) k)
-
--- a list of three, by its elements
-pub list-three : (t : List ℕ) → length t ≡ 3 → t ≡ getD t 0 0 ∷ getD t 1 0 ∷ getD t 2 0 ∷ []
-list-three [] e = absurd (omega arith)
-list-three (a ∷ []) e = absurd (omega arith)
-list-three (a ∷ b ∷ []) e = absurd (omega arith)
-list-three (a ∷ b ∷ c ∷ []) e = refl
-list-three (a ∷ b ∷ c ∷ d ∷ t) e = absurd (omega arith)
