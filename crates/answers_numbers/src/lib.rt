@@ -1,5 +1,7 @@
 // What the calls of dates and single INTEGERs answer, as the C face tells it: number, place and value or count of every case. Each table
 // stands once, for the exported calls of `capi` and for the cases that are run.
+#![tactic(auto)]
+
 ghost use Rattle.std.specs.Prelude.{◌≡◌};
 ghost use Rattle.dates.specs.Calls.{taken_of, numbered_of as given_number};
 ghost use Rattle.integers.specs.Calls.{reading_of, writing_of};

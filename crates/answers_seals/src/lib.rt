@@ -1,5 +1,7 @@
 // What the writer answers, as the C face tells it: the number and the count of every case. The reader answers a struct, and
 // `FrReading::of` takes that.
+#![tactic(auto)]
+
 ghost use Rattle.std.specs.Prelude.{◌≡◌};
 ghost use Rattle.write_judge.specs.Calls.{writing_of};
 ghost use Rattle.face.specs.Face.{filled_of};

@@ -1,5 +1,7 @@
 // What the calls of ECDSA signatures, raw and DER, and of the hash that goes with a size answer, as the C face tells it: number, place and
 // count or bits of every case. Each table stands once, for the exported calls of `capi` and for the cases that are run.
+#![tactic(auto)]
+
 ghost use Rattle.std.specs.Prelude.{◌≡◌};
 ghost use Rattle.ecdsa.specs.Calls.{to_der_of, to_raw_of, hash_of};
 ghost use Rattle.face.specs.Face.{filled_of, hashed_of};

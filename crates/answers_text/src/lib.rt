@@ -1,5 +1,7 @@
 // What the calls of C40 text, of the words and of the names answer, as the C face tells it: number, place and count of every case. Each
 // table stands once, for the exported calls of `capi` and for the cases that are run.
+#![tactic(auto)]
+
 ghost use Rattle.std.specs.Prelude.{◌≡◌};
 ghost use Rattle.c40.specs.Calls.{reading_of, writing_of};
 ghost use Rattle.c40.specs.declared.Reading.TheVariants.{WrongPair};

@@ -1,4 +1,6 @@
 // Bytes of one lent slice copied into another, in blocks.
+#![tactic(auto)]
+
 ghost use Rattle.std.specs.Prelude.{◌≡◌, ◌+◌, ◌≤◌, length, take, drop};
 ghost use Rattle.format.specs.Buffer.{over};
 ghost use Rattle.octets.specs.Copy.{copied};

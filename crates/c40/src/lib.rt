@@ -1,4 +1,6 @@
 // The C40 text codec (document 01, C40; Doc 9303-13, 2.6): what its calls answer. `c40_read` reads, `c40_write` writes.
+#![tactic(auto)]
+
 use pairs::Fault;
 
 // What reading C40 bytes answers; `reading_of` of specs/Calls.antt gives each case its number and place.

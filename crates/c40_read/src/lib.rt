@@ -1,4 +1,6 @@
 // C40 bytes read as text (document 01, C40; Doc 9303-13, 2.6).
+#![tactic(auto)]
+
 ghost use Rattle.std.specs.Prelude.{◌≡◌, length};
 ghost use Rattle.format.specs.Answers.{told, filled};
 ghost use Rattle.c40.specs.Calls.{reading, reading_of};

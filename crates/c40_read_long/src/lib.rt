@@ -1,5 +1,7 @@
 // C40 bytes read as text, by a chart that is laid out for long ones (document 01, C40; Doc 9303-13, 2.6). A long text is read once, into
 // memory of its own, two look-ups a pair; whatever is not good there is left to `c40_read`, which says what is wrong.
+#![tactic(auto)]
+
 ghost use Rattle.std.specs.Prelude.{◌≡◌, true, ◌<◌, ◌≤◌, length};
 ghost use Rattle.format.specs.Answers.{told, filled};
 ghost use Rattle.pairs.specs.Chart.{the_chart};

@@ -1,4 +1,6 @@
 // Text written in C40 bytes (document 01, C40; Doc 9303-13, 2.6).
+#![tactic(auto)]
+
 ghost use Rattle.std.specs.Prelude.{◌≡◌, length};
 ghost use Rattle.format.specs.Answers.{told, filled};
 ghost use Rattle.c40.specs.Calls.{writing, writing_of};

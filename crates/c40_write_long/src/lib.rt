@@ -1,5 +1,7 @@
 // Text written in C40 bytes, with a way of its own for long ones (document 01, C40; Doc 9303-13, 2.6). A long text is judged and coded in
 // one pass, into memory of its own; whatever is not good there is left to `c40_write`, which says what is wrong.
+#![tactic(auto)]
+
 ghost use Rattle.std.specs.Prelude.{◌≡◌, true, ◌+◌, ◌≤◌, length};
 ghost use Rattle.format.specs.BigEndian.{be};
 ghost use Rattle.format.specs.Buffer.{over};

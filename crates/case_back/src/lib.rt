@@ -1,4 +1,6 @@
 // A case of a seal that is read and written back, and the line of its answer: whether the same bytes came back, and the writer's answer.
+#![tactic(auto)]
+
 ghost use Rattle.std.specs.Prelude.{◌≡◌, ◌≤◌, length, take};
 ghost use Rattle.case_file.specs.Line.{Within};
 ghost use Rattle.case_file.specs.Tells.{Tells};

@@ -1,4 +1,6 @@
 // A case of the C40 codec, and the line of its answer: `NUMBER at PLACE wrote COUNT kept`, and the bytes written.
+#![tactic(auto)]
+
 ghost use Rattle.std.specs.Prelude.{◌≤◌, length};
 ghost use Rattle.case_file.specs.Line.{Within};
 

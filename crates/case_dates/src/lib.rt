@@ -1,4 +1,6 @@
 // A case of dates, and the line of its answer.
+#![tactic(auto)]
+
 ghost use Rattle.case_file.specs.Line.{Within};
 
 use case_file::put_answer;

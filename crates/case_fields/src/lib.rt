@@ -1,4 +1,6 @@
 // A reading in the line of a case: number, place and every field, and whether `judge` tells the same.
+#![tactic(auto)]
+
 ghost use Rattle.case_file.specs.Line.{Within};
 ghost use Rattle.std.specs.Prelude.{◌≡◌};
 ghost use Rattle.case_file.specs.Tells.{Tells};

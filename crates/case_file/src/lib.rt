@@ -1,4 +1,6 @@
 // What the crates share that run a line of a file of cases: a case is a line of text, and so is its answer.
+#![tactic(auto)]
+
 mod fill;
 mod given;
 mod line;

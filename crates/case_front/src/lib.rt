@@ -1,5 +1,7 @@
 // A case of the front part: number and place of the verdict and the front part beside them, and whether a reading without room tells the
 // same front part.
+#![tactic(auto)]
+
 ghost use Rattle.case_file.specs.Line.{Within};
 
 use case_file::{at, put_number, put_text};

@@ -1,4 +1,6 @@
 // A case of `listing::list`: the listing, and a line with the count and whether the rest was kept.
+#![tactic(auto)]
+
 ghost use Rattle.case_file.specs.Line.{Within};
 
 use case_file::{at, put_number, put_text};

@@ -1,4 +1,6 @@
 // A case of DER lengths, INTEGERs or dates, and the line of its answer: what was answered, and on `j` what was written.
+#![tactic(auto)]
+
 ghost use Rattle.std.specs.Prelude.{◌≤◌, length};
 ghost use Rattle.case_file.specs.Line.{Within};
 

@@ -1,4 +1,6 @@
 // Scanning a line of cases: where it ends, a byte, a decimal number, and bytes as runs of hex digits.
+#![tactic(auto)]
+
 ghost use Rattle.std.specs.Prelude.{◌≡◌, ◌-◌, get_or};
 ghost use Rattle.lines.specs.Line.{Put, Counts};
 ghost use Rattle.case_scan.specs.Scan.{LineEnd, Numeral, number_at, number_end, pairs_at, pairs_end, times, run_at, run_end, runs_at};

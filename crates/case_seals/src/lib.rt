@@ -1,5 +1,7 @@
 // A case of the reader, and the line of its answer: `NUMBER at PLACE`, the fields, what stands in the lent table and
 // text, whether all else was kept, and whether `judge` agrees.
+#![tactic(auto)]
+
 ghost use Rattle.std.specs.Prelude.{◌≡◌, ◌≤◌, length, drop};
 ghost use Rattle.case_file.specs.Fill.{all_are};
 ghost use Rattle.case_file.specs.Line.{Within};

@@ -1,4 +1,6 @@
 // A case of the signature forms or of the choice of hash, and the line of its answer: what was answered and written.
+#![tactic(auto)]
+
 ghost use Rattle.std.specs.Prelude.{◌≤◌, length};
 ghost use Rattle.case_file.specs.Line.{Within};
 

@@ -1,4 +1,6 @@
 // Cases of the walk over the features of a seal, of its text, and of the look-up of a tag (document 02, Ticket 2).
+#![tactic(auto)]
+
 ghost use Rattle.case_file.specs.Line.{Within};
 
 mod line;

@@ -1,5 +1,7 @@
 // A case of the writer, and the line of its answer: the number, the count, whether every byte past the count was kept,
 // and the bytes written.
+#![tactic(auto)]
+
 ghost use Rattle.std.specs.Prelude.{◌≤◌, length};
 ghost use Rattle.case_file.specs.Line.{Within, Counts};
 

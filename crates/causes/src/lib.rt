@@ -1,5 +1,7 @@
 // Why a byte string is no seal (document 01, "The numbers a call answers", Reader): the item that is not read, and the rule that it breaks.
 // The number that is answered is the rule's.
+#![tactic(auto)]
+
 ghost use Rattle.std.specs.Prelude.{◌≡◌};
 ghost use Rattle.causes.specs.Causes.{rule_number, item_code, rule_code};
 

@@ -1,4 +1,6 @@
 // Dates of a seal (document 01, Dates; Doc 9303-13, 2.3.1): month, day and year as one number MMDDYYYY, big-endian in three bytes.
+#![tactic(auto)]
+
 ghost use Rattle.std.specs.Prelude.{◌≡◌, [], ◌∷◌};
 ghost use Rattle.format.specs.BigEndian.{val};
 ghost use Rattle.dates.specs.Days.{is_day, dated, first_day, last_day};

@@ -1,4 +1,6 @@
 // DER (document 01; X.690): lengths read and formed, and which first byte of an INTEGER is needless. `elements` reads elements.
+#![tactic(auto)]
+
 ghost use Rattle.std.specs.Prelude.{◌≡◌, ◌<◌, length, drop};
 ghost use Rattle.der.specs.Length.{read_length, long_form, length_form, written, least as leastOf};
 ghost use Rattle.der.specs.Content.{redundant};

@@ -1,5 +1,7 @@
 // ECDSA signatures (document 01, Signatures; Doc 9303-13, 2.4 and Appendix B): what the calls on them answer, the sizes
 // and the choice of hash.
+#![tactic(auto)]
+
 ghost use Rattle.std.specs.Prelude.{◌≡◌};
 ghost use Rattle.ecdsa.specs.Signature.{is_size};
 ghost use Rattle.ecdsa.specs.Calls.{hash_for, hash_of};

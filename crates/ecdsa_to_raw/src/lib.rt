@@ -1,4 +1,6 @@
 // A DER ECDSA signature to its raw form (document 01, Signatures; Doc 9303-13, 2.4 and Appendix B).
+#![tactic(auto)]
+
 ghost use Rattle.std.specs.Prelude.{◌≡◌, length};
 ghost use Rattle.format.specs.Answers.{told, filled};
 ghost use Rattle.ecdsa.specs.Calls.{to_raw, to_raw_of};

@@ -1,4 +1,6 @@
 // DER elements (document 01; X.690): one read at the head of a byte string, and the length of one put down.
+#![tactic(auto)]
+
 ghost use Rattle.std.specs.Prelude.{◌≡◌, ◌^◌, ◌<◌, ◌≤◌, length};
 ghost use Rattle.octets.specs.Copy.{copied, reached};
 ghost use Rattle.der.specs.Length.{written};

@@ -1,5 +1,7 @@
 // The structs of the C face: plain numbers and bytes by value, and no pointers; those of whole seals stand in `face_seals`.
 // specs/Face.antt sets out what each holds, field by field. The exported calls, in the crate `capi`, give them and take them.
+#![tactic(auto)]
+
 ghost use Rattle.std.specs.Prelude.{◌≡◌};
 ghost use Rattle.face.specs.Face.{date_of, filled_with, hashed_of, inner_date};
 ghost use Rattle.format.specs.Answers.{result};

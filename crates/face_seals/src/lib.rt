@@ -1,5 +1,7 @@
 // The structs of the C face for whole seals: a header, and what a reading answers. specs/Face.antt sets out what each holds, field by
 // field.
+#![tactic(auto)]
+
 ghost use Rattle.std.specs.Prelude.{◌≡◌};
 ghost use Rattle.face_seals.specs.Face.{header_of, reading_of, inner_header};
 

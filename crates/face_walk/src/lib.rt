@@ -1,4 +1,6 @@
 // The structs of the C face for the walk and the look-up. specs/Face.antt sets out what each holds, field by field.
+#![tactic(auto)]
+
 ghost use Rattle.std.specs.Prelude.{◌≡◌};
 ghost use Rattle.shown.specs.Where.{showing, empty, answer_of};
 ghost use Rattle.face_walk.specs.Face.{start_of, step_of, where_of};

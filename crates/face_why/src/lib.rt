@@ -1,4 +1,6 @@
 // The struct of the C face that says why a seal is refused. specs/Face.antt sets out what it holds, field by field.
+#![tactic(auto)]
+
 ghost use Rattle.std.specs.Prelude.{◌≡◌};
 ghost use Rattle.face_why.specs.Face.{reason_of};
 

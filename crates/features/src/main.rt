@@ -1,5 +1,7 @@
 // The program that walks over the features of a seal (document 02, Ticket 2): a seal on standard input, the text on standard output.
 // What it prints is what `walk_lines::tell` promises.
+#![tactic(auto)]
+
 use input::Input;
 use libc::{STDERR_FILENO, STDOUT_FILENO};
 use walk_lines::{READ, ROOM};

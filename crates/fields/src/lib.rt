@@ -1,5 +1,7 @@
 // What reader and writer share of a seal's fields (document 01, Layout): the header that both carry, the tests of its
 // characters, and the length of a signature.
+#![tactic(auto)]
+
 ghost use Rattle.std.specs.Prelude.{◌≡◌, [], ◌∷◌};
 ghost use Rattle.fields.specs.Characters as character;
 

@@ -1,5 +1,7 @@
 // Which bytes can be completed to a date (document 02, Tickets 3 and 12): three bytes are a day or not; of one or two,
 // the first and the last number that they begin tell.
+#![tactic(auto)]
+
 ghost use Rattle.std.specs.Prelude.{◌≡◌, ◌+◌, ◌<◌, drop};
 ghost use Rattle.front_days.specs.Days.{last_of, in_month, some_day, one_front, two_front, day_front};
 

@@ -1,5 +1,7 @@
 // How far features and signature can be completed to those of an accepted seal (document 02, Ticket 12). A seal has at
 // most 4,096 bytes, so at a place `at` there is room for 4096 - at.
+#![tactic(auto)]
+
 ghost use Rattle.std.specs.Prelude.{◌≡◌, [], ◌∷◌, suc, ◌+◌, ◌-◌, ◌<◌, ◌≤◌, ltb, length, drop};
 ghost use Rattle.format.specs.Choice.{pick};
 ghost use Rattle.grammar.specs.Content.{four};

@@ -1,5 +1,7 @@
 // Which bytes can be completed to a pair of a header (document 02, Ticket 12): by the three values that a pair is made
 // of.
+#![tactic(auto)]
+
 ghost use Rattle.std.specs.Prelude.{◌≡◌, ◌-◌, drop};
 ghost use Rattle.front_pairs.specs.Pairs.{is_single, kept_by, fits as fits_of, opens as opens_of, pair_front, length_in};
 ghost use Rattle.pairs.specs.Pairs.{number as number_of};

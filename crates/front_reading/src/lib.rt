@@ -1,4 +1,6 @@
 // The reader's calls with the front part beside the answer (document 02, Ticket 12).
+#![tactic(auto)]
+
 ghost use Rattle.std.specs.Prelude.{◌≡◌, length};
 ghost use Rattle.verdict.specs.Judge.{judge as verdict};
 ghost use Rattle.reading.specs.Calls.{answer_of, reading, rows_in, text_in, then};

@@ -1,5 +1,7 @@
 // The length of the longest front part of some bytes with which an accepted seal begins (document 02, Ticket 12): one
 // pass, item by item, as far as an item can be completed, and behind a whole one as far as what follows can.
+#![tactic(auto)]
+
 ghost use Rattle.std.specs.Prelude.{◌≡◌, ◌+◌, ◌≤◌, drop};
 ghost use Rattle.grammar.specs.Content.{three};
 ghost use Rattle.front_header.specs.Header.{front as front_of, country_front, names_front, length_front, text_front, dates_front, last_front};

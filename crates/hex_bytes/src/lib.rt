@@ -1,5 +1,7 @@
 // Bytes as people are shown them, in hexadecimal: the first sixteen, and how many more there are. Each function puts its text down from a
 // place on, as far as there is room, and gives the next place.
+#![tactic(auto)]
+
 ghost use Rattle.lines.specs.Line.{Put};
 ghost use Rattle.hex_bytes.specs.Shown.{spaced, hex_bytes, and_more, shown};
 

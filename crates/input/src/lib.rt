@@ -1,4 +1,6 @@
 // Standard input, read into a lent buffer: what the programs that take a seal share.
+#![tactic(auto)]
+
 ghost use Rattle.input.specs.Input.{Given};
 
 use libc::STDIN_FILENO;

@@ -1,5 +1,6 @@
 // Single DER INTEGERs over the signed 64-bit range (document 01, Signatures; X.690, 8.3): what the calls on them answer.
 // `integers_read` reads, `integers_write` writes.
+#![tactic(auto)]
 
 // What reading one whole INTEGER answers; `reading_of` of specs/Calls.antt gives each case its number.
 #[derive(Drop)]

@@ -1,4 +1,6 @@
 // A DER INTEGER of the signed 64-bit range read (document 01, Signatures; X.690, 8.3).
+#![tactic(auto)]
+
 ghost use Rattle.std.specs.Prelude.{◌≡◌};
 ghost use Rattle.integers.specs.Calls.{reading, reading_of};
 

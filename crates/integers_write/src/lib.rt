@@ -1,4 +1,6 @@
 // A DER INTEGER of the signed 64-bit range written (document 01, Signatures; X.690, 8.3).
+#![tactic(auto)]
+
 ghost use Rattle.std.specs.Prelude.{◌≡◌, length};
 ghost use Rattle.format.specs.Answers.{told, filled};
 ghost use Rattle.integers.specs.Calls.{writing, writing_of};

@@ -1,5 +1,7 @@
 // The judging (document 01, "Reader"): the steps of the reading one after another. A step that is not read ends it,
 // with the number of the rule that is broken.
+#![tactic(auto)]
+
 ghost use Rattle.std.specs.Prelude.{◌≡◌};
 ghost use Rattle.verdict.specs.Items.{not};
 ghost use Rattle.verdict.specs.Judge.{judge as verdict, judging};

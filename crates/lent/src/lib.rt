@@ -1,4 +1,6 @@
 // A part of lent bytes: that part itself, and no copy.
+#![tactic(auto)]
+
 ghost use Rattle.lent.specs.Part.{IsPart};
 
 // `size` bytes of `bytes` from a place on, as far as they are there.

@@ -1,4 +1,6 @@
 // Building text in a lent buffer: each function puts its bytes down from a place on, as far as there is room, and gives the next place.
+#![tactic(auto)]
+
 ghost use Rattle.std.specs.Prelude.{[], ◌∷◌};
 ghost use Rattle.lines.specs.Line.{Put, decimal_of};
 

@@ -1,5 +1,7 @@
 // The listing program (document 01, "A whole seal and its listing"): a seal on standard input, its listing on standard output.
 // What it prints is what `listing::list` promises.
+#![tactic(auto)]
+
 use input::Input;
 use libc::{STDERR_FILENO, STDOUT_FILENO};
 use listing::{READ, ROOM};

@@ -1,5 +1,7 @@
 // The lines of a listing (document 01, "A whole seal and its listing") that say what the header holds, and the line of a refusal. Each
 // function puts its lines down from a place on, as far as there is room, and gives the next place.
+#![tactic(auto)]
+
 ghost use Rattle.lines.specs.Line.{Put};
 ghost use Rattle.list_lines.specs.ListLine.{name_lines, date_lines, refusal};
 

@@ -1,4 +1,6 @@
 // The listing of a seal (document 01, "A whole seal and its listing"), put as text into a lent buffer.
+#![tactic(auto)]
+
 ghost use Rattle.std.specs.Prelude.{◌≡◌, ◌≤◌, length};
 ghost use Rattle.format.specs.Answers.{done, filled};
 ghost use Rattle.verdict.specs.Judge.{judge};

@@ -1,5 +1,7 @@
 // What the layers' code shares on bytes: a byte as a number to reckon with, a number's last byte, its threes and its
 // tens, a number in bytes, hexadecimal digits, bytes copied into a lent buffer.
+#![tactic(auto)]
+
 ghost use Rattle.std.specs.Prelude.{◌≡◌, ◌/◌, ◌%◌, min, length};
 ghost use Rattle.format.specs.Hex.{hex_digit, hex_value};
 ghost use Rattle.format.specs.BigEndian.{val};

@@ -1,5 +1,7 @@
 // Words that stand in a page of text, a line a code: two digits, a space, the words. Each table of words is one such page, and here is
 // what finds the words of a code in it and puts them down.
+#![tactic(auto)]
+
 ghost use Rattle.std.specs.Prelude.{◌≡◌, ◌+◌, ◌-◌, ◌<◌, drop, get_or};
 ghost use Rattle.pages.specs.Page.{line_size, line_for};
 ghost use Rattle.pages.specs.Calls.{AllOrNone};

@@ -1,4 +1,6 @@
 // One pair of C40 bytes (document 01, C40; Doc 9303-13, 2.6): the chart, what a pair may carry, and the number of characters as a pair.
+#![tactic(auto)]
+
 mod chart;
 mod decode;
 mod encode;

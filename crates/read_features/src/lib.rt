@@ -1,4 +1,6 @@
 // The features, judged up to FF (document 01, Layout, "A repeated tag is judged at the tag").
+#![tactic(auto)]
+
 ghost use Rattle.std.specs.Prelude.{◌≡◌, [], length};
 ghost use Rattle.read_items.specs.Meaning.{through};
 ghost use Rattle.verdict.specs.Judge.{features as featuresFrom};

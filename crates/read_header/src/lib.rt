@@ -1,4 +1,6 @@
 // The header, item by item from the left, in two steps (document 01, Layout; Doc 9303-13, 2.2, Table 1).
+#![tactic(auto)]
+
 ghost use Rattle.std.specs.Prelude.{[], ◌≡◌};
 ghost use Rattle.read_items.specs.Meaning.{why_of, through, value_or};
 ghost use Rattle.read_names.specs.Meaning.{names_of, text_over};

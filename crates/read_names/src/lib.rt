@@ -1,4 +1,6 @@
 // The items that are C40 text: country, signer and reference, each put into a lent buffer of its size (document 01, Layout).
+#![tactic(auto)]
+
 ghost use Rattle.std.specs.Prelude.{◌≡◌, length};
 ghost use Rattle.verdict.specs.Items as read;
 ghost use Rattle.read_items.specs.Meaning.{step_of, through, value_or};

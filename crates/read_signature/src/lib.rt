@@ -1,4 +1,6 @@
 // The signature after FF (document 01, Layout): its length, which is a DER length in both versions, and its bytes, with nothing after them.
+#![tactic(auto)]
+
 ghost use Rattle.std.specs.Prelude.{◌≡◌};
 ghost use Rattle.verdict.specs.Judge.{signature as signature_at};
 ghost use Rattle.read_signature.specs.Meaning.{signature_of};

@@ -1,4 +1,6 @@
 // The reader (document 01): the verdict on every byte string, and for a good seal what it says.
+#![tactic(auto)]
+
 ghost use Rattle.std.specs.Prelude.{◌≡◌, length};
 ghost use Rattle.verdict.specs.Judge.{judge as verdict};
 ghost use Rattle.reading.specs.Calls.{answer_of, reading, rows_in, text_in, then};

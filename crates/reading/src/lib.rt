@@ -1,4 +1,6 @@
 // What a reading answers (document 01, "On 0 the reader gives"): its struct and what its fields say, and what the lent table and text hold.
+#![tactic(auto)]
+
 ghost use Rattle.std.specs.Prelude.{◌≡◌};
 ghost use Rattle.verdict.specs.Judge.{refused as refusedBy};
 ghost use Rattle.reading.specs.Calls.{answer_of};

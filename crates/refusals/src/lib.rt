@@ -1,4 +1,6 @@
 // Why an item was not read, under the item's name. What was read has no cause: its answer is that of no refusal, and no caller asks for it.
+#![tactic(auto)]
+
 ghost use Rattle.std.specs.Prelude.{◌≡◌};
 ghost use Rattle.read_items.specs.Meaning.{step_of, number_of, edition_of, day_of, refused};
 

@@ -1,5 +1,7 @@
 // A row of a table of features (document 02, Ticket 10): how many numbers it has, and in what order they stand. A row is known by the
 // place of its first number, and a walk over a table goes from place to place by WIDTH, so that no index is multiplied.
+#![tactic(auto)]
+
 ghost use Rattle.std.specs.Prelude.{◌≡◌, ◌*◌};
 ghost use Rattle.rows.specs.Rows.{width, found_at, row_put};
 

@@ -1,5 +1,7 @@
 // The program that tells why a seal is refused (document 02, Ticket 11): a seal on standard input, the text on standard output.
 // What it prints is what `why_lines::tell` promises.
+#![tactic(auto)]
+
 use input::Input;
 use libc::{STDERR_FILENO, STDOUT_FILENO};
 use why_lines::{READ, ROOM};

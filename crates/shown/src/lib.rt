@@ -1,5 +1,7 @@
 // The value of a tag in a main seal and its extension (document 02, Ticket 2): out of the extension if it has that feature, otherwise out
 // of the main seal.
+#![tactic(auto)]
+
 ghost use Rattle.std.specs.Prelude.{◌≡◌};
 ghost use Rattle.shown.specs.Where.{where_is, IsShown};
 ghost use Rattle.shown.specs.Found.{HasValue, IsFirst};

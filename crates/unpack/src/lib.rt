@@ -1,4 +1,6 @@
 // What a pair of C40 bytes carries (document 01, C40; Doc 9303-13, 2.6.2).
+#![tactic(auto)]
+
 ghost use Rattle.std.specs.Prelude.{◌≡◌, false, ◌+◌, ◌*◌, ◌<◌, eqb, length};
 ghost use Rattle.pairs.specs.Chart.{the_chart};
 ghost use Rattle.pairs.specs.Pairs.{pair_of, chars_of, first, second, third};

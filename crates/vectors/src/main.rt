@@ -1,4 +1,6 @@
 // Runs the cases of data/ through the compiled calls, and writes a line for each: what was answered, and what stands in the lent memory.
+#![tactic(auto)]
+
 ghost use Rattle.case_file.specs.Line.{Within, Counts};
 
 use libc::STDOUT_FILENO;

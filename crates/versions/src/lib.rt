@@ -1,5 +1,7 @@
 // The versions of a seal (document 01, Layout): version 3 and version 4, and no other. They are told apart where the
 // version is read, so that no other number goes on from there.
+#![tactic(auto)]
+
 ghost use Rattle.std.specs.Prelude.{◌≡◌};
 ghost use Rattle.versions.specs.Versions.{version_number, version_byte, version_of, version_of_byte, stated_of};
 

@@ -1,5 +1,7 @@
 // The walk over the features of a seal (document 02, Ticket 2): a reader opened on one seal and asked for its features one after another,
 // without a table. Each function takes the walk apart and calls one of `walk_steps` on the slice and the place.
+#![tactic(auto)]
+
 ghost use Rattle.std.specs.Prelude.{◌≡◌};
 ghost use Rattle.lent.specs.Part.{IsPart};
 ghost use Rattle.verdict.specs.Judge.{judge};

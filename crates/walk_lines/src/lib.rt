@@ -1,4 +1,6 @@
 // The text of a walk over the features of a seal (document 02, Ticket 2), put into a lent buffer: a line a feature, or a refusal's line.
+#![tactic(auto)]
+
 ghost use Rattle.std.specs.Prelude.{◌≡◌, ◌≤◌, ◌++◌, length};
 ghost use Rattle.format.specs.Answers.{done, filled};
 ghost use Rattle.verdict.specs.Judge.{judge};

@@ -1,4 +1,6 @@
 // The steps of a walk over the features of a seal (document 02, Ticket 2): where the first one is made, and what one finds at a place.
+#![tactic(auto)]
+
 ghost use Rattle.std.specs.Prelude.{◌≡◌};
 ghost use Rattle.verdict.specs.Judge.{judge};
 ghost use Rattle.rows.specs.Rows.{row_of};

@@ -1,4 +1,6 @@
 // Why a seal is refused (document 02, Ticket 11): the item, the rule that it breaks and the bytes judged, by the reader's own judging.
+#![tactic(auto)]
+
 ghost use Rattle.std.specs.Prelude.{◌≡◌, ◌-◌, length};
 ghost use Rattle.verdict.specs.Items.{not};
 ghost use Rattle.rules.specs.Rules.{der_size};

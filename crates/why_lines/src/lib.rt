@@ -1,4 +1,6 @@
 // The text that tells why a seal is refused (document 02, Ticket 11) and how far it is good (Ticket 12), put into a lent buffer.
+#![tactic(auto)]
+
 ghost use Rattle.std.specs.Prelude.{◌≡◌, ◌≤◌, length};
 ghost use Rattle.format.specs.Answers.{done, filled};
 ghost use Rattle.lines.specs.Line.{Put};

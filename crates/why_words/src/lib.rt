@@ -1,5 +1,7 @@
 // The names of the items of a seal and the words of the rules that they keep (document 02, Ticket 11), for programs that tell people why a
 // seal is refused.
+#![tactic(auto)]
+
 ghost use Rattle.std.specs.Prelude.{◌≡◌, length};
 ghost use Rattle.format.specs.Answers.{told, filled};
 ghost use Rattle.pages.specs.Calls.{placed_of};

@@ -1,4 +1,6 @@
 // The words of the numbers that a call answers (document 01, "The numbers a call answers"), for programs that tell them to people.
+#![tactic(auto)]
+
 ghost use Rattle.std.specs.Prelude.{◌≡◌, length};
 ghost use Rattle.format.specs.Answers.{told, filled};
 ghost use Rattle.pages.specs.Calls.{placed_of};

@@ -1,5 +1,7 @@
 // What the writer is given, judged (document 01, numbers 21 to 23): header and text. 20 is `Version::from_number`, 24 and 25 are in
 // `write_rows`, 26 is `fields::is_signature`.
+#![tactic(auto)]
+
 ghost use Rattle.std.specs.Prelude.{◌≡◌};
 ghost use Rattle.write_given.specs.Tests as test;
 ghost use Rattle.write_given.specs.Tests.Laws.{is_text};

@@ -1,4 +1,6 @@
 // What the writer is given, judged in order (document 01, numbers 20 to 28), before a byte is written.
+#![tactic(auto)]
+
 ghost use Rattle.std.specs.Prelude.{◌≡◌};
 ghost use Rattle.format.specs.Answers.{told};
 ghost use Rattle.write_given.specs.Given.{given};

@@ -1,4 +1,6 @@
 // The rows that the writer is given, judged (document 01, numbers 24 and 25), each by the place of its first number.
+#![tactic(auto)]
+
 ghost use Rattle.std.specs.Prelude.{◌≡◌, ◌+◌, leb};
 ghost use Rattle.write_rows.specs.Tests.{is_table, are_values};
 

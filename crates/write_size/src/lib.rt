@@ -1,4 +1,6 @@
 // The size of a seal before it is written (document 01, number 27): a sum that stops at 4,097, so that it never wraps.
+#![tactic(auto)]
+
 ghost use Rattle.std.specs.Prelude.{◌≡◌, min, ◌+◌, ◌≤◌, length};
 ghost use Rattle.grammar.specs.Publish.{length_of};
 ghost use Rattle.rows.specs.Rows.{rows_of};

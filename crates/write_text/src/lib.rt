@@ -1,4 +1,6 @@
 // Text put down in C40 (document 01, C40 and Layout) for the writer, which has judged its characters: none is judged again.
+#![tactic(auto)]
+
 ghost use Rattle.std.specs.Prelude.{◌≡◌, ◌+◌, ◌<◌, ◌≤◌, length};
 ghost use Rattle.format.specs.BigEndian.{be};
 ghost use Rattle.format.specs.Buffer.{over};

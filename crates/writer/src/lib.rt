@@ -1,4 +1,6 @@
 // The writer (document 01): a seal from its header, text, rows over a values buffer, and raw signature.
+#![tactic(auto)]
+
 ghost use Rattle.std.specs.Prelude.{◌≡◌, length};
 ghost use Rattle.format.specs.Answers.{told, filled};
 ghost use Rattle.write_given.specs.Given.{given};
