@@ -4,7 +4,7 @@
 use pairs::Fault;
 
 // What reading C40 bytes answers; `reading_of` of specs/Calls.antt gives each case its number and place.
-#[derive(Drop)]
+#[derive(Clone, Copy)]
 pub enum Reading {
     // 0: the count of characters written
     Done(usize),
@@ -19,7 +19,7 @@ pub enum Reading {
 }
 
 // What writing text in C40 answers; `writing_of` of specs/Calls.antt gives each case its number and place.
-#[derive(Drop)]
+#[derive(Clone, Copy)]
 pub enum Writing {
     // 0: the count of bytes written
     Done(usize),
@@ -32,7 +32,7 @@ pub enum Writing {
 }
 
 // What all pairs together carry: so many characters, or the fault of the first pair that is wrongly coded, and its place.
-#[derive(Drop)]
+#[derive(Clone, Copy)]
 pub enum Judged {
     Text(usize),
     Wrong(Fault, usize),

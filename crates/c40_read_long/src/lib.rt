@@ -12,7 +12,7 @@ use c40::Reading;
 use octets::{low, wide};
 
 // Text that was read into memory of its own.
-#[derive(Drop)]
+#[derive(Clone, Copy)]
 pub enum Laid {
     // so many characters
     Text(usize),

@@ -9,14 +9,14 @@ use lines::put;
 use octets::wide;
 
 // A decimal number, and the place after its last digit.
-#[derive(Drop)]
+#[derive(Clone, Copy)]
 pub struct Decimal {
     pub value: usize,
     pub next: usize,
 }
 
 // How far a run was taken: the next place of the line, and the next of the buffer.
-#[derive(Drop)]
+#[derive(Clone, Copy)]
 struct Taken {
     next: usize,
     to: usize,

@@ -6,7 +6,7 @@ use case_file::put_answer;
 use walk::Step;
 
 // How far a walk was put down: the place that its last answer gave, and the next place of the buffer.
-#[derive(Drop)]
+#[derive(Clone, Copy)]
 struct Walked {
     at: usize,
     to: usize,

@@ -8,7 +8,7 @@ ghost use Rattle.dates.specs.Calls.{taken_of, numbered_of, from_number, to_numbe
 
 mod calendar;
 
-#[derive(Drop)]
+#[derive(Clone, Copy)]
 pub struct Date {
     pub month: usize,
     pub day: usize,
@@ -16,7 +16,7 @@ pub struct Date {
 }
 
 // What a number answers; `taken_of` of specs/Calls.antt gives each case its number and value.
-#[derive(Drop)]
+#[derive(Clone, Copy)]
 pub enum Taken {
     // 0
     Day(Date),
@@ -25,7 +25,7 @@ pub enum Taken {
 }
 
 // What a date answers whose number is asked for; its fields are public, so any may come.
-#[derive(Drop)]
+#[derive(Clone, Copy)]
 pub enum Numbered {
     // 0
     Number(usize),
@@ -50,14 +50,14 @@ impl Date {
     // FIRST and LAST under a promise. The second clause asks the constant itself: its value is settled whatever a body does.
     pub fn first() -> Date
         ensures value { result ≡ first_day }
-        ensures* dated_value { do ⌜ dated (← (⟦Date::FIRST.month⟧).entry) (← (⟦Date::FIRST.day⟧).entry) (← (⟦Date::FIRST.year⟧).entry) ≡ first_day ⌝ }
+        ensures dated_value { dated Date.FIRST.month Date.FIRST.day Date.FIRST.year ≡ first_day }
     {
         Date::FIRST
     }
 
     pub fn last() -> Date
         ensures value { result ≡ last_day }
-        ensures* dated_value { do ⌜ dated (← (⟦Date::LAST.month⟧).entry) (← (⟦Date::LAST.day⟧).entry) (← (⟦Date::LAST.year⟧).entry) ≡ last_day ⌝ }
+        ensures dated_value { dated Date.LAST.month Date.LAST.day Date.LAST.year ≡ last_day }
     {
         Date::LAST
     }

@@ -8,7 +8,7 @@ ghost use Rattle.der.specs.Content.{redundant};
 use octets::{low, wide};
 
 // Why there is no DER length at the head of a byte string.
-#[derive(Drop)]
+#[derive(Clone, Copy)]
 pub enum Fault {
     // there is no byte at all
     NoByte,
@@ -21,7 +21,7 @@ pub enum Fault {
 }
 
 // A DER length at the head of a byte string.
-#[derive(Drop)]
+#[derive(Clone, Copy)]
 pub enum Length {
     // the length, and the width of its form
     Is(usize, usize),
@@ -29,7 +29,7 @@ pub enum Length {
 }
 
 // A DER length as it is written: its bytes.
-#[derive(Drop)]
+#[derive(Clone, Copy)]
 pub enum Form {
     // below 128
     One(u8),
@@ -42,7 +42,7 @@ pub enum Form {
 }
 
 // An element at the head of a byte string.
-#[derive(Drop)]
+#[derive(Clone, Copy)]
 pub enum Element {
     // where its body starts, and one past its end
     Body(usize, usize),

@@ -7,7 +7,7 @@ ghost use Rattle.ecdsa.specs.Signature.{is_size};
 ghost use Rattle.ecdsa.specs.Calls.{hash_for, hash_of};
 
 // What a raw signature answers that is asked for its DER form; `to_der_of` of specs/Calls.antt gives each case its number.
-#[derive(Drop)]
+#[derive(Clone, Copy)]
 pub enum ToDer {
     // 0: the count of bytes written
     Done(usize),
@@ -20,7 +20,7 @@ pub enum ToDer {
 }
 
 // What a DER signature answers that is asked for its raw form; `to_raw_of` of specs/Calls.antt gives each case its number.
-#[derive(Drop)]
+#[derive(Clone, Copy)]
 pub enum ToRaw {
     // 0: the count of bytes written
     Done(usize),
@@ -33,7 +33,7 @@ pub enum ToRaw {
 }
 
 // The INTEGER at the head of a byte string.
-#[derive(Drop)]
+#[derive(Clone, Copy)]
 pub enum Number {
     // where its digits start, and one past its end
     Digits(usize, usize),
@@ -42,7 +42,7 @@ pub enum Number {
 }
 
 // The hash that goes with n.
-#[derive(Drop)]
+#[derive(Clone, Copy)]
 pub enum Hash {
     Sha224,
     Sha256,

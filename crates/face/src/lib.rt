@@ -4,12 +4,12 @@
 
 ghost use Rattle.std.specs.Prelude.{◌≡◌};
 ghost use Rattle.face.specs.Face.{date_of, filled_with, hashed_of, inner_date};
-ghost use Rattle.format.specs.Answers.{result};
+ghost use Rattle.format.specs.Answers.{result as plain_result};
 
 use dates::Date;
 
 #[repr(C)]
-#[derive(Drop)]
+#[derive(Clone, Copy)]
 pub struct FrDate {
     pub month: usize,
     pub day: usize,
@@ -18,7 +18,7 @@ pub struct FrDate {
 
 // What a call answers that fills a buffer: `count` is how many bytes it wrote.
 #[repr(C)]
-#[derive(Drop)]
+#[derive(Clone, Copy)]
 pub struct FrFilled {
     pub number: usize,
     pub place: usize,
@@ -27,7 +27,7 @@ pub struct FrFilled {
 
 // What a number answers that is asked for its date.
 #[repr(C)]
-#[derive(Drop)]
+#[derive(Clone, Copy)]
 pub struct FrDated {
     pub number: usize,
     pub place: usize,
@@ -36,7 +36,7 @@ pub struct FrDated {
 
 // What a date answers that is asked for its number, `value`.
 #[repr(C)]
-#[derive(Drop)]
+#[derive(Clone, Copy)]
 pub struct FrNumbered {
     pub number: usize,
     pub place: usize,
@@ -45,7 +45,7 @@ pub struct FrNumbered {
 
 // What an INTEGER answers that is read.
 #[repr(C)]
-#[derive(Drop)]
+#[derive(Clone, Copy)]
 pub struct FrInteger {
     pub number: usize,
     pub place: usize,
@@ -54,7 +54,7 @@ pub struct FrInteger {
 
 // The hash that goes with a size, by its bits: 224, 256, 384 or 512, and 0 on a refusal.
 #[repr(C)]
-#[derive(Drop)]
+#[derive(Clone, Copy)]
 pub struct FrHashed {
     pub number: usize,
     pub place: usize,
@@ -64,7 +64,7 @@ pub struct FrHashed {
 impl FrDate {
     // A date, as the face gives it.
     pub fn of(date: Date) -> FrDate
-        ensures* { λ r. ⌜ r ≡ date_of date ⌝ }
+        ensures { result ≡ date_of date }
     {
         FrDate {
             month: date.month,
@@ -75,7 +75,7 @@ impl FrDate {
 
     // The date that it says, as the layers beneath take it.
     pub fn inner(self) -> Date
-        ensures* { λ r. ⌜ r ≡ inner_date self ⌝ }
+        ensures { result ≡ inner_date self }
     {
         Date {
             month: self.month,
@@ -88,7 +88,7 @@ impl FrDate {
 impl FrFilled {
     // So many bytes were written.
     pub fn done(count: usize) -> FrFilled
-        ensures* { λ r. ⌜ r ≡ filled_with 0 0 count ⌝ }
+        ensures { result ≡ filled_with 0 0 count }
     {
         FrFilled {
             number: 0,
@@ -99,7 +99,7 @@ impl FrFilled {
 
     // Nothing was written, for the reason of this number, at this place.
     pub fn refused(number: usize, place: usize) -> FrFilled
-        ensures* { λ r. ⌜ r ≡ filled_with number place 0 ⌝ }
+        ensures { result ≡ filled_with number place 0 }
     {
         FrFilled {
             number,
@@ -112,7 +112,7 @@ impl FrFilled {
 impl FrHashed {
     // The hash of so many bits.
     pub fn of_bits(bits: usize) -> FrHashed
-        ensures* { λ r. ⌜ r ≡ hashed_of (result bits) ⌝ }
+        ensures { result ≡ hashed_of (plain_result bits) }
     {
         FrHashed {
             number: 0,

@@ -10,7 +10,7 @@ use reading::{Ends, Header, Part, Reading};
 
 // The reader gives it and the writer takes it; `length` is the reference's.
 #[repr(C)]
-#[derive(Drop)]
+#[derive(Clone, Copy)]
 pub struct FrHeader {
     pub version: usize,
     pub country: [u8; 3],
@@ -23,7 +23,7 @@ pub struct FrHeader {
 
 // The ends of the three zones, each one past the zone's last byte.
 #[repr(C)]
-#[derive(Drop)]
+#[derive(Clone, Copy)]
 pub struct FrEnds {
     pub header: usize,
     pub message: usize,
@@ -32,7 +32,7 @@ pub struct FrEnds {
 
 // A part of the seal.
 #[repr(C)]
-#[derive(Drop)]
+#[derive(Clone, Copy)]
 pub struct FrPart {
     pub place: usize,
     pub length: usize,
@@ -40,7 +40,7 @@ pub struct FrPart {
 
 // What a reading answers; `front` is the length of the longest front part of the input with which some accepted seal begins.
 #[repr(C)]
-#[derive(Drop)]
+#[derive(Clone, Copy)]
 pub struct FrReading {
     pub number: usize,
     pub place: usize,

@@ -12,7 +12,7 @@ use walk_steps::{Start, Step};
 
 // What opening a walk answers.
 #[repr(C)]
-#[derive(Drop)]
+#[derive(Clone, Copy)]
 pub struct FrStart {
     pub number: usize,
     pub place: usize,
@@ -21,7 +21,7 @@ pub struct FrStart {
 
 // What a step of a walk answers.
 #[repr(C)]
-#[derive(Drop)]
+#[derive(Clone, Copy)]
 pub struct FrStep {
     pub number: usize,
     pub place: usize,
@@ -33,7 +33,7 @@ pub struct FrStep {
 
 // What a look-up answers.
 #[repr(C)]
-#[derive(Drop)]
+#[derive(Clone, Copy)]
 pub struct FrWhere {
     pub number: usize,
     pub place: usize,

@@ -9,7 +9,7 @@ use why::Reason;
 
 // Why a seal is refused; every field is 0 for an accepted seal.
 #[repr(C)]
-#[derive(Drop)]
+#[derive(Clone, Copy)]
 pub struct FrReason {
     pub number: usize,
     pub place: usize,

@@ -12,7 +12,7 @@ pub use signature::is_signature;
 
 // The header of a seal, as the reader gives it and the writer takes it: the version's number, 3 or 4, the country with fillers as `<`, and
 // the reference's length L.
-#[derive(Drop)]
+#[derive(Clone, Copy)]
 pub struct Header {
     pub version: usize,
     pub country: [u8; 3],

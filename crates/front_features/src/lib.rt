@@ -13,7 +13,7 @@ use octets::wide;
 use versions::Version;
 
 // A feature's length.
-#[derive(Drop)]
+#[derive(Clone, Copy)]
 pub enum Counted {
     // what it says, and the place after it
     Is(usize, usize),

@@ -15,7 +15,7 @@ use tests::{both, either, within};
 use unpack::split;
 
 // The pairs of a header, by what their characters may be.
-#[derive(Drop)]
+#[derive(Clone, Copy)]
 pub enum Kind {
     // the country: a letter, then letters, then fillers
     Country,

@@ -9,7 +9,7 @@ ghost use Rattle.front_reading.specs.Fronted.{fronted};
 pub use reading::Reading;
 
 // What a reading answers, and beside it the length of the longest front part of the input with which some accepted seal begins.
-#[derive(Drop)]
+#[derive(Clone, Copy)]
 pub struct Fronted {
     pub reading: Reading,
     pub front: usize,

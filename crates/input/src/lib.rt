@@ -6,7 +6,7 @@ ghost use Rattle.input.specs.Input.{Given};
 use libc::STDIN_FILENO;
 
 // What standard input gave.
-#[derive(Drop)]
+#[derive(Clone, Copy)]
 pub enum Input {
     // so many bytes, at the start of the buffer
     Bytes(usize),

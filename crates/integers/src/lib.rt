@@ -3,7 +3,7 @@
 #![tactic(auto)]
 
 // What reading one whole INTEGER answers; `reading_of` of specs/Calls.antt gives each case its number.
-#[derive(Drop)]
+#[derive(Clone, Copy)]
 pub enum Reading {
     // 0
     Value(i64),
@@ -12,7 +12,7 @@ pub enum Reading {
 }
 
 // What writing an INTEGER answers; `writing_of` of specs/Calls.antt gives each case its number.
-#[derive(Drop)]
+#[derive(Clone, Copy)]
 pub enum Writing {
     // 0: the count of bytes written
     Done(usize),

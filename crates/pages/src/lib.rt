@@ -9,7 +9,7 @@ ghost use Rattle.pages.specs.Calls.{AllOrNone};
 use octets::wide;
 
 // What putting words down answers; `placed_of` of specs/Calls.antt gives each case its number, no room that of whoever calls.
-#[derive(Drop)]
+#[derive(Clone, Copy)]
 pub enum Placed {
     // all of them: how many bytes
     All(usize),

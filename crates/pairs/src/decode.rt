@@ -1,6 +1,6 @@
 // What a pair of bytes may carry; `unpack` tells which.
 // What is wrong with a pair of bytes, one kind for each number; Faults.antt says of each when it is told.
-#[derive(Drop)]
+#[derive(Clone, Copy)]
 pub enum Fault {
     // 41: its number is 0 or over 64,000, and it does not begin with FE
     OutOfRange,
@@ -11,7 +11,7 @@ pub enum Fault {
 }
 
 // What a pair of bytes carries.
-#[derive(Drop)]
+#[derive(Clone, Copy)]
 pub enum Pair {
     Three(u8, u8, u8),
     // two characters, which only the last pair may carry
@@ -23,7 +23,7 @@ pub enum Pair {
 }
 
 // Three values; below 40 where the number is at most 64,000.
-#[derive(Drop)]
+#[derive(Clone, Copy)]
 pub struct Values {
     pub a: usize,
     pub b: usize,

@@ -11,7 +11,7 @@ use octets::wide;
 use read_items::{Byte, Cursor, Number, Refusal, Whole};
 use versions::Version;
 
-#[derive(Drop)]
+#[derive(Clone, Copy)]
 pub enum Features {
     // how many there are, and the place of FF
     Are(usize, Cursor),

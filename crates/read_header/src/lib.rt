@@ -13,7 +13,7 @@ use read_names::Names;
 use versions::Version;
 
 // The items up to the reference; country and names are in lent buffers.
-#[derive(Drop)]
+#[derive(Clone, Copy)]
 pub enum Front {
     // the version, and the reference's length
     Is(Version, usize, Cursor),
@@ -21,7 +21,7 @@ pub enum Front {
 }
 
 // The items from the dates on.
-#[derive(Drop)]
+#[derive(Clone, Copy)]
 pub enum Rest {
     // issued, signed, definition, category
     Is(Date, Date, usize, usize, Cursor),

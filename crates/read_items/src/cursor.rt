@@ -10,20 +10,20 @@ use octets::wide;
 use versions::{Stated, Version};
 
 // A place in the seal.
-#[derive(Drop)]
+#[derive(Clone, Copy)]
 pub struct Cursor {
     pub place: usize,
 }
 
 // Why a reading ends: the item that is not read, the rule that it breaks, and the place.
-#[derive(Drop)]
+#[derive(Clone, Copy)]
 pub struct Refusal {
     pub why: Why,
     pub place: usize,
 }
 
 // One byte.
-#[derive(Drop)]
+#[derive(Clone, Copy)]
 pub enum Byte {
     Is(usize, Cursor),
     // there is none
@@ -31,7 +31,7 @@ pub enum Byte {
 }
 
 // An item of so many bytes, with nothing asked of them.
-#[derive(Drop)]
+#[derive(Clone, Copy)]
 pub enum Whole {
     Past(Cursor),
     // they are not all there
@@ -39,7 +39,7 @@ pub enum Whole {
 }
 
 // An item that says nothing by itself, or whose text is put into a lent buffer.
-#[derive(Drop)]
+#[derive(Clone, Copy)]
 pub enum Step {
     Past(Cursor),
     // the rule that it breaks, and the place that is told
@@ -47,7 +47,7 @@ pub enum Step {
 }
 
 // An item that is a number.
-#[derive(Drop)]
+#[derive(Clone, Copy)]
 pub enum Number {
     Is(usize, Cursor),
     // the rule that it breaks, and the place that is told
@@ -55,7 +55,7 @@ pub enum Number {
 }
 
 // The version.
-#[derive(Drop)]
+#[derive(Clone, Copy)]
 pub enum Edition {
     Is(Version, Cursor),
     // the rule that it breaks, and the place that is told
@@ -63,7 +63,7 @@ pub enum Edition {
 }
 
 // An item that is a date.
-#[derive(Drop)]
+#[derive(Clone, Copy)]
 pub enum Day {
     Is(Date, Cursor),
     // the rule that it breaks, and the place that is told

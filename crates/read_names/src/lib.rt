@@ -15,7 +15,7 @@ use rules::Kind;
 use versions::Version;
 
 // Signer and reference.
-#[derive(Drop)]
+#[derive(Clone, Copy)]
 pub enum Names {
     // the reference's length, L
     Are(usize, Cursor),

@@ -6,7 +6,7 @@ ghost use Rattle.read_names.specs.Meaning.{Fits, kept_of, rules_of};
 use causes::Rule;
 
 // The texts of a header.
-#[derive(Drop)]
+#[derive(Clone, Copy)]
 pub enum Kind {
     Country,
     // version 3: signer and reference
@@ -17,7 +17,7 @@ pub enum Kind {
 }
 
 // Whether a text keeps its rules, and else the first that it breaks.
-#[derive(Drop)]
+#[derive(Clone, Copy)]
 pub enum Kept {
     All,
     Not(Rule),

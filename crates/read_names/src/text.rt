@@ -11,7 +11,7 @@ use causes::Rule;
 use read_items::{Cursor, Step, Whole};
 
 // Whether bytes are C40 of exactly as many characters as a text has room for.
-#[derive(Drop)]
+#[derive(Clone, Copy)]
 pub enum Filled {
     Exactly,
     // the place in the bytes of the first pair that is wrongly coded, or of the last if it does not fit the number of characters

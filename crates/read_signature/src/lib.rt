@@ -8,7 +8,7 @@ ghost use Rattle.read_signature.specs.Meaning.{signature_of};
 use causes::{Item, Rule};
 use read_items::{Cursor, Number, Refusal, Whole};
 
-#[derive(Drop)]
+#[derive(Clone, Copy)]
 pub enum Signature {
     // its length, and where it starts
     Is(usize, Cursor),

@@ -11,7 +11,7 @@ use read_items::Refusal;
 use versions::Version;
 
 // The ends of the three zones, each one past the zone's last byte.
-#[derive(Drop)]
+#[derive(Clone, Copy)]
 pub struct Ends {
     pub header: usize,
     pub message: usize,
@@ -19,7 +19,7 @@ pub struct Ends {
 }
 
 // A part of the seal.
-#[derive(Drop)]
+#[derive(Clone, Copy)]
 pub struct Part {
     pub place: usize,
     pub length: usize,
@@ -27,7 +27,7 @@ pub struct Part {
 
 // What a reading answers: the number and its place, and on 0 the header, the zone ends, the raw signature's part and
 // the count of features. On any other number every other field is 0.
-#[derive(Drop)]
+#[derive(Clone, Copy)]
 pub struct Reading {
     pub number: usize,
     pub place: usize,
@@ -38,7 +38,7 @@ pub struct Reading {
 }
 
 // What a judging came to.
-#[derive(Drop)]
+#[derive(Clone, Copy)]
 pub enum Outcome {
     // the seal is good: its version, by which its rows are walked again
     Good(Version),
@@ -47,7 +47,7 @@ pub enum Outcome {
 }
 
 // What the judging gives: the answer, and beside it what it came to.
-#[derive(Drop)]
+#[derive(Clone, Copy)]
 pub struct Judgement {
     pub reading: Reading,
     pub outcome: Outcome,

@@ -7,7 +7,7 @@ ghost use Rattle.rows.specs.Rows.{width, found_at, row_put};
 
 // A feature in a seal: its tag, where it starts, which is its tag's place, and its value's place and length. A writer goes by the
 // tag and the value alone.
-#[derive(Drop)]
+#[derive(Clone, Copy)]
 pub struct Row {
     pub tag: usize,
     pub start: usize,
@@ -16,7 +16,7 @@ pub struct Row {
 }
 
 // What stands at a place of a table.
-#[derive(Drop)]
+#[derive(Clone, Copy)]
 pub enum Found {
     // a row
     Is(Row),

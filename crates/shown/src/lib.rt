@@ -10,7 +10,7 @@ use lent::part;
 pub use reading::Part;
 
 // Where the value of a tag stands.
-#[derive(Drop)]
+#[derive(Clone, Copy)]
 pub enum Where {
     // in the extension, at this place, so long
     Extension(Part),
@@ -25,7 +25,7 @@ pub enum Where {
 }
 
 // The value of a tag in one seal.
-#[derive(Drop)]
+#[derive(Clone, Copy)]
 enum Value {
     Is(Part),
     NoValue,

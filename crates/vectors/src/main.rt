@@ -6,7 +6,7 @@ ghost use Rattle.case_file.specs.Line.{Within, Counts};
 use libc::STDOUT_FILENO;
 
 // Which calls a file has cases of.
-#[derive(Drop)]
+#[derive(Clone, Copy)]
 enum Calls {
     C40,
     Numbers,

@@ -5,14 +5,14 @@
 ghost use Rattle.std.specs.Prelude.{◌≡◌};
 ghost use Rattle.versions.specs.Versions.{version_number, version_byte, version_of, version_of_byte, stated_of};
 
-#[derive(Drop)]
+#[derive(Clone, Copy)]
 pub enum Version {
     Three,
     Four,
 }
 
 // What a number or a byte says; `stated_of` of specs/Versions.antt gives the meaning of each case.
-#[derive(Drop)]
+#[derive(Clone, Copy)]
 pub enum Stated {
     Is(Version),
     NoSuchVersion,

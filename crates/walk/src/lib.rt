@@ -13,21 +13,21 @@ pub use walk_steps::{Row, Start, Step};
 use walk_steps::{quick_step, start_of};
 
 // A walk: the lent seal, and the place of the next step. One that has ended, or was never opened, is at place 0.
-#[derive(Drop)]
+#[derive(Clone, Copy)]
 pub struct Walk<'a> {
     seal: &'a [u8],
     at: usize,
 }
 
 // A walk that is opened.
-#[derive(Drop)]
+#[derive(Clone, Copy)]
 pub struct Opened<'a> {
     pub start: Start,
     pub walk: Walk<'a>,
 }
 
 // What a walk found, and the walk after it.
-#[derive(Drop)]
+#[derive(Clone, Copy)]
 pub struct Found<'a> {
     pub step: Step,
     pub walk: Walk<'a>,

@@ -12,7 +12,7 @@ pub use rows::Row;
 use versions::Version;
 
 // What opening a walk answers: number and place are the judge's, and on 0 the first step is made at `at`. On any other number that is 0.
-#[derive(Drop)]
+#[derive(Clone, Copy)]
 pub struct Start {
     pub number: usize,
     pub place: usize,
@@ -20,7 +20,7 @@ pub struct Start {
 }
 
 // What a step answers: 0, a feature's row, and where the next step is made; or 51, and every other field is 0.
-#[derive(Drop)]
+#[derive(Clone, Copy)]
 pub struct Step {
     pub number: usize,
     pub place: usize,
@@ -29,7 +29,7 @@ pub struct Step {
 }
 
 // A step that finds a feature with a short length, or whatever else it finds.
-#[derive(Drop)]
+#[derive(Clone, Copy)]
 enum Short {
     Is(Step),
     Other,

@@ -15,7 +15,7 @@ pub use reading::Part;
 
 // Why a seal is refused: number and place are the judge's, item and rule are told by their codes, and the bytes judged are a part of
 // the seal. For an accepted seal every field is 0.
-#[derive(Drop)]
+#[derive(Clone, Copy)]
 pub struct Reason {
     pub number: usize,
     pub place: usize,

@@ -59,7 +59,7 @@ const RULES: [u8; 714] = *b"\
 ";
 
 // What telling a name or words answers; `told_of` of specs/Calls.antt gives each case its number.
-#[derive(Drop)]
+#[derive(Clone, Copy)]
 pub enum Told {
     // 0: the count of bytes written
     Done(usize),

@@ -53,7 +53,7 @@ const PAGE: [u8; 1416] = *b"\
 ";
 
 // What telling a number's words answers; `told_of` of specs/Calls.antt gives each case its number.
-#[derive(Drop)]
+#[derive(Clone, Copy)]
 pub enum Told {
     // 0: the count of bytes written
     Done(usize),

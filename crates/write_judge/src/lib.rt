@@ -10,7 +10,7 @@ use fields::Header;
 use versions::{Stated, Version};
 
 // What a writing answers; `writing_of` of specs/Calls.antt gives each case its number.
-#[derive(Drop)]
+#[derive(Clone, Copy)]
 pub enum Writing {
     // 0: the count of bytes written
     Done(usize),

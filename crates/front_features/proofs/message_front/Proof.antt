@@ -1,9 +1,6 @@
 -- `message_front` meets its contract. The loop's invariant: the whole goes on from the place with the tags used before it,
 -- and the marks are those of these tags.
 -- Assumes nothing.
-mod Fits
-mod Marks
-mod Turn
 use borrow.Author.Rules.{rules}
 use native.Mathlib.Omega.{arith}
 use mathlib.Core.Path.{◌≡◌, ◌∙◌, sym}
@@ -15,8 +12,8 @@ use Rattle.grammar.specs.Content.{Version}
 use Rattle.front_message.specs.Message.{length_front}
 use Rattle.front_features.specs.declared.Counted.TheVariants as counted
 use Rattle.front_features.specs.Meaning.{counted_of}
-use Rattle.front_features.proofs.message_front.Proof.Turn.{Kept, kept_start, kept_end, kept_mark, kept_cramped, kept_used}
-use Rattle.front_features.proofs.message_front.Proof.Turn.{New, new_ends, new_past, new_within, new_room, new_short, new_more}
+use Rattle.front_features.proofs.Turn.{Kept, kept_start, kept_end, kept_mark, kept_cramped, kept_used}
+use Rattle.front_features.proofs.Turn.{New, new_ends, new_past, new_within, new_room, new_short, new_more}
 use Rattle.front_features.proofs.message_front.Statement.{statement}
 use Rattle.front_features.proofs.message_front.Tie as tie
 

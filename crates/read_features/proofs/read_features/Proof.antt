@@ -2,7 +2,6 @@
 -- stands from the place on, and the rows' tags stand at the start of the array, with the bit of each set in the marks.
 -- The inner loop's: none of the tags before is this one.
 -- Assumes nothing.
-mod Turn
 use borrow.Author.Rules.{rules}
 use native.Mathlib.Omega.{arith}
 use mathlib.Core.Path.{◌≡◌, ◌∙◌, refl, ap, sym}
@@ -18,9 +17,9 @@ use Rattle.verdict.specs.Items.{is, byte, plain_in, feature_length}
 use Rattle.causes.specs.declared.Item.TheVariants as item
 use Rattle.read_items.specs.Meaning.{byte_of, whole_of, number_of, refused}
 use Rattle.read_items.specs.Meaning.Laws.{says}
-use Rattle.read_features.proofs.read_features.Proof.Turn.{Kept, kept_start, kept_cut, kept_end, kept_again, kept_most, New}
-use Rattle.read_features.proofs.read_features.Proof.Turn.{byte_small, Marked, marked_start, marked_none, marked_more}
-use Rattle.read_features.proofs.read_features.Proof.Turn.{new_unsized, new_small, new_room, new_short, new_more}
+use Rattle.read_features.proofs.Turn.{Kept, kept_start, kept_cut, kept_end, kept_again, kept_most, New}
+use Rattle.read_features.proofs.Turn.{byte_small, Marked, marked_start, marked_none, marked_more}
+use Rattle.read_features.proofs.Turn.{new_unsized, new_small, new_room, new_short, new_more}
 use Rattle.read_features.proofs.read_features.Statement.{statement}
 use Rattle.read_features.proofs.read_features.Tie as tie
 

@@ -1,0 +1,3 @@
+pub mod Fits
+pub mod Marks
+pub mod Turn

@@ -1,0 +1,16 @@
+-- `lines::put_text` meets its contract. The loop's invariant: the text up to `i` is put down.
+use borrow.Author.Rules.{rules}
+use native.Mathlib.Omega.{arith}
+use mathlib.Core.Path.{◌≡◌, refl, ◌∙◌}
+use Prim.Native.Nat.{◌-◌, ◌≤◌}
+use lib.ListN.{length, take}
+use lib.Seq.{take_all}
+use Rattle.lines.specs.Line.{Put}
+use Rattle.lines.specs.Line.Laws.{put_none, text_turn}
+use Rattle.lines.proofs.put_text.Given as goal
+
+abbrev pub invariant-loop-i : goal.invariant-loop-i
+invariant-loop-i l = (l.i ≤ length l.text) × (length l.out ≡ length l.initial.out) × Put l.initial.out l.at (take l.i l.text) l.out l.o
+
+abbrev pub decreases-loop-i : goal.decreases-loop-i
+decreases-loop-i l = length l.text - l.i

@@ -1,0 +1,25 @@
+-- `row_at` meets its contract: each number of the row stands at its place.
+-- Assumes nothing.
+use borrow.Author.Rules.{rules}
+use native.Mathlib.Omega.{arith}
+use Rattle.rows.specs.Rows.{row_at}
+use Rattle.rows.specs.Rows.Laws.{no_row, one_row}
+use Rattle.rows.proofs.row_at.Goals as goal
+
+pub returns-then-n-lt-WIDTH : goal.returns-then-n-lt-WIDTH
+returns-then-n-lt-WIDTH c = let a = c.args in no_row a.table.now a.at (omega arith)
+
+pub returns-then-n-at : goal.returns-then-n-at
+returns-then-n-at c = let a = c.args in no_row a.table.now a.at (omega arith)
+
+-- GONE overflow-mul-t5
+
+-- GONE overflow-mul-t9
+
+-- GONE overflow-mul-t13
+
+-- GONE overflow-mul-t17
+
+pub returns : goal.returns
+unfolding row_at
+returns c = let a = c.args in one_row a.table.now a.at (omega arith)
