@@ -3,29 +3,41 @@
 #![tactic(auto)]
 
 use input::Input;
-use libc::{STDERR_FILENO, STDOUT_FILENO};
+use std::env::{Env, FillError};
+use std::io::Print;
 use walk_lines::{READ, ROOM};
 
+// Whether the program was given arguments: argument 0 is its name.
+fn has_arguments(rt: &HostRuntime) -> bool {
+    let mut first = [0u8; 1];
+    match rt.arg(1, &mut first) {
+        Err(FillError::NotPresent) => false,
+        Ok(_) | Err(FillError::TooLong) => true,
+    }
+}
+
+// Says on standard error what is wrong. Where that cannot be written, there is nothing left to say it on.
+fn say(rt: &HostRuntime, fault: &[u8]) {
+    let _ = rt.stderr().write_all(fault);
+}
+
 // Reads, tells and writes; it takes no arguments.
-fn main() {
-    if 1 < os::arg_count() {
-        io::write_all(STDERR_FILENO, b"usage: fenderrope-features <seal\n");
+fn main(rt: HostRuntime) {
+    if has_arguments(&rt) {
+        say(&rt, b"usage: fenderrope-features <seal\n");
         return;
     }
     let mut seal = [0u8; READ];
-    let input = input::read_input(&mut seal);
+    let input = input::read_input(&rt, &mut seal);
     let Input::Bytes(size) = input else {
-        io::write_all(
-            STDERR_FILENO,
-            b"fenderrope-features: standard input cannot be read\n",
-        );
+        say(&rt, b"fenderrope-features: standard input cannot be read\n");
         return;
     };
     let mut out = [0u8; ROOM];
     let count = walk_lines::tell(&seal[..size], &mut out);
-    if !io::write_all(STDOUT_FILENO, &out[..count]) {
-        io::write_all(
-            STDERR_FILENO,
+    if rt.write_all(&out[..count]).is_err() {
+        say(
+            &rt,
             b"fenderrope-features: standard output cannot be written\n",
         );
     }

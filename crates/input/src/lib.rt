@@ -3,7 +3,7 @@
 
 ghost use Rattle.input.specs.Input.{Given};
 
-use libc::STDIN_FILENO;
+use std::io::Read;
 
 // What standard input gave.
 #[derive(Clone, Copy)]
@@ -15,16 +15,15 @@ pub enum Input {
 }
 
 // Reads standard input until it ends or the buffer is full.
-pub fn read_input(buffer: &mut [u8]) -> Input
+pub fn read_input(rt: &HostRuntime, buffer: &mut [u8]) -> Input
     ensures { Given result buffer.new }
 {
+    let mut stdin = rt.stdin();
     let mut n: usize = 0;
     while n < buffer.len() {
-        let got = libc::read(STDIN_FILENO, &mut buffer[n..]);
-        if got < 0 {
+        let Ok(more) = stdin.read(&mut buffer[n..]) else {
             return Input::Failed;
-        }
-        let more = io::count(got, &buffer[n..]);
+        };
         if more == 0 {
             return Input::Bytes(n);
         }

@@ -1,6 +1,5 @@
 -- `lines::put` meets its contract: there is room for the byte, or there is none.
 -- Assumes nothing.
-use borrow.Author.Rules.{rules}
 use Rattle.lines.specs.Line.Laws.{put_one, put_full}
 use Rattle.lines.proofs.put.Goals as goal
 

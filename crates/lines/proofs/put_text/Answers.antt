@@ -1,12 +1,10 @@
 -- `lines::put_text` meets its contract. The loop's invariant: the text up to `i` is put down.
 -- Assumes nothing.
-use borrow.Author.Rules.{rules}
 use native.Mathlib.Omega.{arith}
-use mathlib.Core.Path.{◌≡◌, refl, ◌∙◌}
-use Prim.Native.Nat.{◌-◌, ◌≤◌}
-use lib.ListN.{length, take}
+use mathlib.Core.Path.{refl, ◌∙◌}
+use Prim.Native.Nat.{◌≤◌}
+use lib.ListN.{length}
 use lib.Seq.{take_all}
-use Rattle.lines.specs.Line.{Put}
 use Rattle.lines.specs.Line.Laws.{put_none, text_turn}
 use Rattle.lines.proofs.put_text.Goals as goal
 
@@ -29,3 +27,10 @@ pub returns : goal.returns
 returns c =
     let h : length c.args.text.now ≤ c.loop-i.i = omega arith in
     rw take_all at c.loop-i.invariant.2
+
+pub loop-i-preserved : goal.loop-i-preserved
+loop-i-preserved c = (
+  omega arith,
+  c.put-o.auto.out ∙ c.loop-i.invariant.1,
+  text_turn c.args.text.now _ _ c.loop-i.i (omega arith) _ _ c.loop-i.invariant.1 _ _ c.loop-i.invariant.2 c.put-o.ensures,
+)

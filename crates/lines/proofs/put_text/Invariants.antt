@@ -1,12 +1,8 @@
 -- `lines::put_text` meets its contract. The loop's invariant: the text up to `i` is put down.
-use borrow.Author.Rules.{rules}
-use native.Mathlib.Omega.{arith}
-use mathlib.Core.Path.{◌≡◌, refl, ◌∙◌}
+use mathlib.Core.Path.{◌≡◌}
 use Prim.Native.Nat.{◌-◌, ◌≤◌}
 use lib.ListN.{length, take}
-use lib.Seq.{take_all}
 use Rattle.lines.specs.Line.{Put}
-use Rattle.lines.specs.Line.Laws.{put_none, text_turn}
 use Rattle.lines.proofs.put_text.Given as goal
 
 abbrev pub invariant-loop-i : goal.invariant-loop-i

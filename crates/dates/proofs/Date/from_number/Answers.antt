@@ -47,3 +47,13 @@ module _ (n : ℕ) (high : n ≤ 99999999) where
 
 pub returns-then-number-gt99999999 : goal.returns-then-number-gt99999999
 returns-then-number-gt99999999 c = sym (from_none _ (too_long_lem _ c.if-number-gt99999999.true))
+
+pub returns-then-is_day : goal.returns-then-is_day
+returns-then-is_day c =
+    let e = split _ c.if-number-gt99999999.false in
+    ap result e ∙ sym (from_day _ (sym (ap is_day e) ∙ sym c.is_day.ensures ∙ c.if-is_day.true))
+
+pub returns : goal.returns
+returns c =
+    let e = split _ c.if-number-gt99999999.false in
+    sym (from_none _ (sym (ap is_day e) ∙ sym c.is_day.ensures ∙ c.if-is_day.false))

@@ -21,6 +21,9 @@ returns-then-last-self-2 c = no_day _ (λ b. omega arith)
 pub returns-then-self-first-3 : goal.returns-then-self-first-3
 returns-then-self-first-3 c = no_day _ (λ b. omega arith)
 
+pub days_in-requires : goal.days_in-requires
+days_in-requires c = (omega arith, omega arith, omega arith)
+
 pub returns : goal.returns
 returns c =
     ap (leb _) c.days_in.ensures ∙ last_test _ (omega arith) (omega arith) (omega arith) (omega arith) (omega arith)

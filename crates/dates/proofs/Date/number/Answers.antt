@@ -11,7 +11,22 @@ use Rattle.dates.proofs.Date.number.Goals.{Then-is_day}
 
 -- the test was passed
 day : (c : Then-is_day) → Day c.args.self
-day c = sym c.is_day_lem.ensures ∙ c.if-is_day.true
+day c = sym c.is_day.ensures ∙ c.if-is_day.true
+
+pub overflow_mul-result : goal.overflow_mul-result
+overflow_mul-result c = omega (arith, number_below _ (day (goal.at.overflow_mul-result c).Then-is_day))
+
+pub overflow_mul-result-then-is_day : goal.overflow_mul-result-then-is_day
+overflow_mul-result-then-is_day c = omega (arith, number_below _ (day (goal.at.overflow_mul-result-then-is_day c).Then-is_day))
+
+pub overflow_add-result : goal.overflow_add-result
+overflow_add-result c = omega (arith, number_below _ (day (goal.at.overflow_add-result c).Then-is_day))
+
+pub overflow_add-result-then-is_day : goal.overflow_add-result-then-is_day
+overflow_add-result-then-is_day c = omega (arith, number_below _ (day (goal.at.overflow_add-result-then-is_day c).Then-is_day))
 
 pub returns-then-is_day : goal.returns-then-is_day
 returns-then-is_day c = sym (to_day _ (day (goal.at.returns-then-is_day c).Then-is_day))
+
+pub returns : goal.returns
+returns c = sym (to_none _ (sym c.is_day.ensures ∙ c.if-is_day.false))

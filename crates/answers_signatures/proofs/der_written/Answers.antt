@@ -1,0 +1,24 @@
+-- `der_written` meets its contract, case by case.
+-- Assumes nothing.
+use borrow.Author.Rules.{rules}
+use Rattle.ecdsa.specs.Calls.{to_der_of}
+use Rattle.ecdsa.specs.declared.ToDer.{ToDer}
+use Rattle.face.specs.declared.FrFilled.{FrFilled}
+use Rattle.face.specs.Face.{filled_of}
+use Rattle.face.specs.Told.{told_by}
+use Rattle.answers_signatures.proofs.der_written.Goals as goal
+
+abbrev told : ToDer → FrFilled
+told a = filled_of (to_der_of a)
+
+pub returns-in-Done : goal.returns-in-Done
+returns-in-Done c = told_by told c.done.ensures c.in-Done.is
+
+pub returns-in-NoSize : goal.returns-in-NoSize
+returns-in-NoSize c = told_by told c.refused.ensures c.in-NoSize.is
+
+pub returns-in-WrongLength : goal.returns-in-WrongLength
+returns-in-WrongLength c = told_by told c.refused-in-WrongLength.ensures c.in-WrongLength.is
+
+pub returns-in-NoRoom : goal.returns-in-NoRoom
+returns-in-NoRoom c = told_by told c.refused-in-NoRoom.ensures c.in-NoRoom.is

@@ -1,0 +1,91 @@
+-- `decode::judge` meets its contract: where the pairs before the last stop to be full, the pair that stands there decides.
+-- Assumes nothing.
+use borrow.Author.Rules.{rules}
+use native.Mathlib.Omega.{arith}
+use mathlib.Core.Path.{◌≡◌, ◌∙◌, ap, sym}
+use mathlib.Core.Logic.{inl, inr}
+use Prim.Native.Nat.{ℕ, ◌+◌, ◌*◌, ◌-◌, ◌/◌, ◌%◌, ◌<◌, ◌≤◌}
+use mathlib.Core.List.{List, [], ◌∷◌}
+use types.Run.{OneOf}
+use denote.Enum.Declared.{tag_of}
+use lib.Dec.{eqb}
+use lib.ListN.{length, get_or}
+use Rattle.pairs.specs.Chart.{the_chart}
+use Rattle.pairs.specs.Pairs.{pair_of, chars_of}
+use Rattle.pairs.specs.Pairs.Laws.{chars_most, by_chart}
+use Rattle.pairs.specs.declared.decode.Pair.{Pair}
+use Rattle.pairs.specs.declared.decode.Pair.TheVariants.{Three, Two, One, Wrong}
+use Rattle.pairs.specs.contracts.decode.Pair.{the_type}
+use Rattle.c40.specs.Decode.{judged_of}
+use Rattle.c40.specs.Decode.Laws.{sofar_start, sofar_end}
+use Rattle.c40.specs.declared.Judged.TheVariants.{Text}
+use Rattle.c40_read.specs.Full.Laws.{Whole, stopped_wrong, stopped_whole}
+use Rattle.c40_read.proofs.decode.judge.Goals as goal
+use Rattle.c40_read.proofs.decode.judge.Goals.{After-pair_of-pair, Else-n-eq0, In_default}
+
+abbrev bytes : After-pair_of-pair → List ℕ
+bytes c = c.args.bytes.now
+
+-- where there is a byte, there is a pair, and the last one's place is even
+at_least : (n : ℕ) → n % 2 ≡ 0 → (n ≡ 0 → ⊥) → 2 ≤ n
+at_least n e h = omega (arith, h)
+
+two : (c : Else-n-eq0) → 2 ≤ length c.args.bytes.now
+two c = at_least _ c.requires.even c.if-n-eq0.false
+
+last_even : (n : ℕ) → n % 2 ≡ 0 → (n - 2) % 2 ≡ 0
+last_even n e = omega arith
+
+pub returns-then-n-eq0 : goal.returns-then-n-eq0
+returns-then-n-eq0 c = ap judged_of (sym (sofar_end _ 0 [] (sofar_start _) (omega arith)))
+
+pub overflow_sub-last : goal.overflow_sub-last
+overflow_sub-last c = two c
+
+pub full-at-requires : goal.full-at-requires
+full-at-requires c = (last_even _ c.requires.even, omega arith)
+
+pub bounds-bytes-at : goal.bounds-bytes-at
+bounds-bytes-at c = omega (arith, two (goal.at.bounds-bytes-at c).Else-n-eq0, c.full-at.ensures.inside)
+
+pub bounds-bytes-at-2 : goal.bounds-bytes-at-2
+bounds-bytes-at-2 c = omega (arith, two (goal.at.bounds-bytes-at-2 c).Else-n-eq0, c.full-at.ensures.inside)
+
+-- what the pair that was found carries, by the chart
+abbrev at_of : After-pair_of-pair → ℕ
+at_of c = c.full-at.result
+
+told_pair : (c : After-pair_of-pair)
+    → let s = bytes c in
+    c.pair_of-pair.result ≡ pair_of the_chart (eqb (at_of c) (length s - 2)) (get_or s (at_of c) 0) (get_or s (at_of c + 1) 0)
+told_pair c = by_chart _ _ _ c.requires.is_chart c.pair_of-pair.ensures
+
+ends : (c : After-pair_of-pair) → length (bytes c) - 2 + 2 ≡ length (bytes c)
+ends c = omega (arith, two (goal.at.After-pair_of-pair c).Else-n-eq0)
+
+pub returns-in-Wrong : goal.returns-in-Wrong
+returns-in-Wrong c =
+    ap judged_of (sym (stopped_wrong _ _ _ (ends (goal.at.returns-in-Wrong c).After-pair_of-pair) c.full-at.ensures _ (told_pair (goal.at.returns-in-Wrong c).After-pair_of-pair) _ c.in-Wrong.is))
+
+-- a pair that is not wrong carries characters; then it is the last one, and the bytes are text
+carries : (p : Pair) → OneOf (0 ∷ 1 ∷ 2 ∷ []) (tag_of the_type p) → 0 < length (chars_of p)
+carries (Three a b c) k = omega arith
+carries (Two a b) k = omega arith
+carries (One a) k = omega arith
+carries (Wrong fault) (inl e) = absurd (omega arith)
+carries (Wrong fault) (inr (inl e)) = absurd (omega arith)
+carries (Wrong fault) (inr (inr e)) = absurd (omega arith)
+
+whole : (c : In_default) → Whole (bytes c) (length (bytes c) - 2) c.pair_of-pair.result
+whole c =
+    stopped_whole _ _ _ (ends (goal.at.In_default c).After-pair_of-pair) c.full-at.ensures _ (told_pair (goal.at.In_default c).After-pair_of-pair)
+    (carries c.pair_of-pair.result c.in_default.keys2)
+
+pub overflow_add-result : goal.overflow_add-result
+overflow_add-result c = omega (arith, chars_most c.pair_of-pair.result, c.carried.ensures)
+
+pub returns : goal.returns
+returns c =
+    let w = whole (goal.at.returns c).In_default in
+    let many = ap (λ k. (length (bytes (goal.at.returns c).After-pair_of-pair) - 2) / 2 * 3 + k) c.carried.ensures ∙ sym w.size in
+    ap Text many ∙ ap judged_of (sym w.is_text_lem)

@@ -1,0 +1,18 @@
+-- `decode::put` meets its contract. The loop's invariant: these characters stand in `out`, and the rest is still to be decoded.
+use native.Mathlib.Omega.{arith}
+use mathlib.Core.Path.{◌≡◌, ◌∙◌, refl, ap, sym, subst}
+use Prim.Native.Nat.{ℕ, ◌+◌, ◌-◌, ◌%◌, ◌≤◌}
+use mathlib.Core.List.{List, [], ◌++◌}
+use lib.ListN.{length}
+use Rattle.format.specs.Buffer.{over}
+use Rattle.format.specs.Buffer.Laws.{Held, held_start, held_more, held_length}
+use Rattle.pairs.specs.Pairs.{chars_of}
+use Rattle.c40.specs.Decode.{text_of, decode}
+use Rattle.c40.specs.Decode.Laws.{Sofar, Inner, Last, sofar_start, sofar_inner, sofar_last, sofar_end}
+use Rattle.c40_read.proofs.decode.put.Given as goal
+
+abbrev pub invariant-loop-i : goal.invariant-loop-i
+invariant-loop-i l = (l.i ≤ length l.bytes) × (l.i % 2 ≡ 0) × (l.at ≤ length l.initial.out) × (before : List ℕ) × Sofar l.bytes l.i before × Held l.initial.out l.out l.at before
+
+abbrev pub decreases-loop-i : goal.decreases-loop-i
+decreases-loop-i l = length l.bytes - l.i

@@ -1,0 +1,26 @@
+-- `c40_read_long::put_full` meets its contract: two look-ups and three stores are the pair's three characters.
+-- Assumes nothing.
+use borrow.Author.Rules.{rules}
+use native.Mathlib.Omega.{arith}
+use mathlib.Core.Path.{refl}
+use Rattle.pairs.specs.Pairs.Laws.{apart}
+use Rattle.c40_read_long.specs.Laid.Laws.{tail_fits, full_put}
+use Rattle.c40_read_long.proofs.put_full.Goals as goal
+
+pub returns-then-head-eq0 : goal.returns-then-head-eq0
+returns-then-head-eq0 c e = absurd (apart refl e)
+
+-- GONE overflow-mul-tail-2
+
+pub overflow_cast-tail : goal.overflow_cast-tail
+overflow_cast-tail c =
+    record { fits = tail_fits c.args.tails.now c.requires.1.0 _ (omega arith) }
+
+pub returns-then-tail-eq0 : goal.returns-then-tail-eq0
+returns-then-tail-eq0 c e = absurd (apart refl e)
+
+pub returns : goal.returns
+returns c =
+    let a = c.args in
+    full_put a.heads.now a.tails.now c.requires.0 c.requires.1.0 a.x a.y _ (omega arith) (omega arith) (omega arith)
+    a.text.now a.at _ _ (omega arith) (omega arith) (omega arith) c.low.ensures c.low-2.ensures

@@ -1,0 +1,19 @@
+-- `encode::put_number` meets its contract: two stores in a row are the number's two bytes.
+-- Assumes nothing.
+use borrow.Author.Rules.{rules}
+use native.Mathlib.Omega.{arith}
+use mathlib.Core.Path.{◌∙◌, ap}
+use lib.ListN.{length-set}
+use Rattle.format.specs.BigEndian.Laws.{be_two_low}
+use Rattle.format.specs.Buffer.{over}
+use Rattle.format.specs.Buffer.Laws.{over_two}
+use Rattle.c40_write.proofs.encode.put_number.Goals as goal
+
+pub bounds-out-at-2 : goal.bounds-out-at-2
+bounds-out-at-2 c = simp length-set (omega arith)
+
+pub returns : goal.returns
+returns c =
+    let a = c.args in
+    over_two a.out.now a.at _ _ (omega arith)
+    ∙ ap (over a.out.now a.at) (be_two_low a.number _ _ c.low.ensures c.low-2.ensures)

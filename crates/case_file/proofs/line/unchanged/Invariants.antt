@@ -1,0 +1,15 @@
+-- `case_file::line::unchanged` meets its contract. The loop's invariant: the answer is that for the bytes from `i` on.
+use native.Mathlib.Omega.{arith}
+use native.Mathlib.Numerals.{add-one}
+use mathlib.Core.Path.{◌≡◌, refl, sym, ◌∙◌}
+use Prim.Native.Nat.{◌-◌}
+use lib.ListN.{length, drop}
+use Rattle.case_file.specs.Fill.{all_are}
+use Rattle.case_file.specs.Fill.Laws.{all_turn, all_not, all_end}
+use Rattle.case_file.proofs.line.unchanged.Given as goal
+
+abbrev pub invariant-loop-i : goal.invariant-loop-i
+invariant-loop-i l = all_are l.filling (drop l.from l.buffer) ≡ all_are l.filling (drop l.i l.buffer)
+
+abbrev pub decreases-loop-i : goal.decreases-loop-i
+decreases-loop-i l = length l.buffer - l.i

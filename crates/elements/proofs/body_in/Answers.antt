@@ -1,0 +1,12 @@
+-- `elements::body_in` meets its contract.
+-- Assumes nothing.
+use borrow.Author.Rules.{rules}
+use native.Mathlib.Omega.{arith}
+use Rattle.der.specs.Element.Laws.{body_not, body_is}
+use Rattle.elements.proofs.body_in.Goals as goal
+
+pub returns-then-room-width : goal.returns-then-room-width
+returns-then-room-width c = let a = c.args in body_not a.room a.size a.width (omega arith)
+
+pub returns : goal.returns
+returns c = let a = c.args in body_is a.room a.size a.width (omega arith)

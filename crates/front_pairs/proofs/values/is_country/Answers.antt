@@ -1,0 +1,7 @@
+-- `values::is_country` meets its contract.
+-- Assumes nothing.
+use borrow.Author.Rules.{rules}
+use Rattle.front_pairs.proofs.values.is_country.Goals as goal
+
+pub returns : goal.returns
+returns c = cc

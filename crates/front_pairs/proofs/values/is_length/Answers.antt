@@ -1,0 +1,7 @@
+-- `values::is_length` meets its contract.
+-- Assumes nothing.
+use borrow.Author.Rules.{rules}
+use Rattle.front_pairs.proofs.values.is_length.Goals as goal
+
+pub returns : goal.returns
+returns c = cc

@@ -1,0 +1,18 @@
+-- `hex_bytes::put_hex` meets its contract. The loop's invariant: the bytes up to `i` are put down.
+use borrow.Author.Rules.{rules}
+use native.Mathlib.Omega.{arith}
+use mathlib.Core.Path.{◌≡◌, refl, ◌∙◌}
+use Prim.Native.Nat.{◌-◌, ◌≤◌}
+use lib.ListN.{length, take}
+use lib.Seq.{take_all}
+use Rattle.lines.specs.Line.{Put}
+use Rattle.lines.specs.Line.Laws.{put_none}
+use Rattle.hex_bytes.specs.Shown.{hex_bytes}
+use Rattle.hex_bytes.specs.Shown.Laws.{hex_turn}
+use Rattle.hex_bytes.proofs.put_hex.Given as goal
+
+abbrev pub invariant-loop-i : goal.invariant-loop-i
+invariant-loop-i l = (l.i ≤ length l.bytes) × (length l.out ≡ length l.initial.out) × Put l.initial.out l.at (hex_bytes (take l.i l.bytes)) l.out l.o
+
+abbrev pub decreases-loop-i : goal.decreases-loop-i
+decreases-loop-i l = length l.bytes - l.i

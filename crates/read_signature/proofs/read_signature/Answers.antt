@@ -1,0 +1,70 @@
+-- `read_signature` meets its contract: the length, the size, the bytes, and nothing after them.
+-- Assumes nothing.
+use borrow.Author.Rules.{rules}
+use native.Mathlib.Omega.{arith}
+use mathlib.Core.Path.{◌≡◌, ◌∙◌, refl, ap, sym}
+use mathlib.Core.Bool.{Bool, true, false, not}
+use Prim.Native.Nat.{ℕ}
+use Rattle.causes.specs.declared.Item.TheVariants as item
+use Rattle.verdict.specs.Items.{is, der_length}
+use Rattle.read_items.specs.Meaning.{number_of, whole_of, refused}
+use Rattle.read_items.specs.Meaning.Laws.{Past, past_whole, whole_none}
+use Rattle.verdict.specs.Judge.{raw_in}
+use Rattle.fields.specs.Signature.{is_signature}
+use Rattle.read_signature.specs.Meaning.Laws.{signature_length_lem, signature_size_lem, signature_cut, signature_more, signature_is}
+use Rattle.read_items.specs.Meaning.Laws.{says}
+use Rattle.read_signature.proofs.read_signature.Goals as goal
+use Rattle.read_signature.proofs.read_signature.Goals.{Else-not-is_signature, In-Is, In-Past}
+
+abbrev size : In-Is → ℕ
+size c = c.in-Is.size
+
+abbrev starts_at : In-Is → ℕ
+starts_at c = c.in-Is.start.place
+
+read_length : (c : In-Is) → is (size c) (starts_at c) ≡ der_length (start c).args.at.place (start c).args.seal.now
+read_length c = sym (ap number_of c.in-Is.is) ∙ c.der_length-length.ensures
+
+not_not : (b : Bool) → not (not b) ≡ b
+not_not true = refl
+not_not false = refl
+
+flipped : (b : Bool) → not b ≡ true → b ≡ false
+flipped b e = sym (not_not b) ∙ ap not e
+
+kept : (b : Bool) → not b ≡ false → b ≡ true
+kept b e = sym (not_not b) ∙ ap not e
+
+sized : (c : Else-not-is_signature) → is_signature (size (on-length c)) ≡ true
+sized c = sym c.is_signature.ensures ∙ kept _ c.if-not-is_signature.false
+
+there : (c : In-Past) →
+    let on = on-length (on-size c) in
+    Past (size on) (starts_at on) (start on).args.seal.now c.in-Past.end.place
+there c = past_whole _ _ _ _ (sym (ap (whole_of _) c.in-Past.is) ∙ c.skip.ensures)
+
+pub returns-in_default : goal.returns-in_default
+returns-in_default c =
+    says _ _ _ _ (c.of_number.ensures ∙ ap (λ r. refused item.SignatureLength (number_of r)) c.in_default.is)
+    (signature_length_lem _ _ _ _ (sym (ap number_of c.in_default.is) ∙ c.der_length-length.ensures))
+
+pub returns-then-not-is_signature : goal.returns-then-not-is_signature
+returns-then-not-is_signature c =
+    says _ _ _ _ c.of.ensures
+    (signature_size_lem _ _ _ _ (read_length (goal.at.returns-then-not-is_signature c).In-Is) (sym c.is_signature.ensures ∙ flipped _ c.if-not-is_signature.true))
+
+pub returns-in_default-skip : goal.returns-in_default-skip
+returns-in_default-skip c =
+    let n = size (goal.at.returns-in_default-skip c).In-Is in
+    says _ _ _ _ c.of-in_default-skip.ensures
+    (signature_cut _ _ _ _ (read_length (goal.at.returns-in_default-skip c).In-Is) (sized (goal.at.returns-in_default-skip c).Else-not-is_signature)
+    (whole_none n (starts_at (goal.at.returns-in_default-skip c).In-Is) c.args.seal.now (raw_in n (starts_at (goal.at.returns-in_default-skip c).In-Is))
+    (sym (ap (whole_of (starts_at (goal.at.returns-in_default-skip c).In-Is)) c.in_default-skip.is) ∙ c.skip.ensures)))
+
+pub returns-then-end-seal : goal.returns-then-end-seal
+returns-then-end-seal c =
+    says _ _ _ _ c.of-then-end-seal.ensures (signature_more _ _ _ _ (read_length (goal.at.returns-then-end-seal c).In-Is) (sized (goal.at.returns-then-end-seal c).Else-not-is_signature) _ (there (goal.at.returns-then-end-seal c).In-Past) (omega arith))
+
+pub returns : goal.returns
+returns c =
+    signature_is _ _ _ _ (read_length (goal.at.returns c).In-Is) (sized (goal.at.returns c).Else-not-is_signature) _ (there (goal.at.returns c).In-Past) (omega arith)

@@ -1,0 +1,16 @@
+-- `walk_steps::short_step` meets its contract: what it finds is what a step finds, as a length below 128 is one byte in both versions.
+-- Assumes nothing.
+use borrow.Author.Rules.{rules}
+use native.Mathlib.Omega.{arith}
+use mathlib.Core.Path.{ap, sym, ◌∙◌}
+use Rattle.read_items.specs.Meaning.{edition_of, byte_of, whole_of}
+use Rattle.walk_steps.specs.Steps.Laws.{short_feature}
+use Rattle.walk_steps.proofs.short_step.Goals as goal
+
+pub returns : goal.returns
+returns c on =
+    c.found.ensures
+    ∙ short_feature _ _ on _ _ (sym (ap edition_of c.in-Is.is) ∙ c.version.ensures)
+    _ _ (sym (ap (byte_of _) c.in-Is-byte.is) ∙ c.byte.ensures) c.if-tag-eq255.false
+    _ _ (sym (ap (byte_of _) c.in-Is-byte-2.is) ∙ c.byte-2.ensures) (omega (arith, c.if-size-gt127.false))
+    _ (sym (ap (whole_of _) c.in-Past.is) ∙ c.skip.ensures)
