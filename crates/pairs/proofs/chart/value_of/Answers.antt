@@ -13,8 +13,8 @@ low : (c : Joined-n-ge48) → c.wide-n.result < 65 → c.if-n-ge48.value ≡ val
 low c h =
     let n = c.wide-n.ensures in
     elim c.if-n-ge48.branch [
-      then-n-ge48 w ↦ w.value-is ∙ ap (λ k. k - 44) n ∙ value_digit _ (omega (arith, w.if-n-ge48.true)) (omega arith)
-    | else-n-ge48 w ↦ w.value-is ∙ value_space _ (omega (arith, w.if-n-ge48.false))
+      | then-n-ge48 w ↦ w.value-is ∙ ap (λ k. k - 44) n ∙ value_digit _ (omega (arith, w.if-n-ge48.true)) (omega arith)
+      | else-n-ge48 w ↦ w.value-is ∙ value_space _ (omega (arith, w.if-n-ge48.false))
     ]
 
 -- past the second: below what comes after the letters
@@ -22,8 +22,8 @@ below : (c : Joined-n-ge65) → c.wide-n.result < 91 → c.if-n-ge65.value ≡ v
 below c h =
     let n = c.wide-n.ensures in
     elim c.if-n-ge65.branch [
-      then-n-ge65 w ↦ w.value-is ∙ ap (λ k. k - 51) n ∙ value_letter _ (omega (arith, w.if-n-ge65.true)) (omega arith)
-    | else-n-ge65 w ↦ w.value-is ∙ low (goal.at.Joined-n-ge65 c).Joined-n-ge48 w.if-n-ge65.false
+      | then-n-ge65 w ↦ w.value-is ∙ ap (λ k. k - 51) n ∙ value_letter _ (omega (arith, w.if-n-ge65.true)) (omega arith)
+      | else-n-ge65 w ↦ w.value-is ∙ low (goal.at.Joined-n-ge65 c).Joined-n-ge48 w.if-n-ge65.false
     ]
 
 pub returns-then-n-ge91 : goal.returns-then-n-ge91
