@@ -21,9 +21,9 @@
 # make uninstall  remove what make install put there
 # make clean  remove what was made
 # What rt prints stands in target/log/make-*: its last line is shown, and all of it where it fails. The gate's rt ci
-# prints as it goes.
-# All that is built is for x86-64. What stands after tests/x86 is run on another machine too, by a toolchain that is
-# laid there once, or is named as not run.
+# prints as it goes. What rt makes itself stands in crates/NAME/out, and is copied from there to target.
+# All that is built is for x86-64, and so is the kit. What stands after tests/x86 is run on another machine too, by a
+# toolchain that is laid there once, or is named as not run.
 
 VERSION := 0.8.0
 PREFIX ?= /usr/local
@@ -48,38 +48,44 @@ logged = mkdir -p target/log && echo "$(2): what it prints is in target/log/make
 	{ $(2) >target/log/make-$(1) 2>&1 || { status=$$?; cat target/log/make-$(1) >&2; exit $$status; }; } && \
 	tail -n 1 target/log/make-$(1)
 
-# Whether no source is younger than the library, and the kit is the one that it was made with.
-unchanged = test -f $(LIB) && rt version | cmp -s - $(MADE) && \
-	test -z "$$(find crates/*/src crates/*/specs crates/*/proofs crates.txt -newer $(MADE) | head -n 1)"
+# Whether a file stands, no source is younger than it, and the kit is the one that it was made with; its stamp says the
+# last two: $(call unchanged,FILE,STAMP)
+unchanged = test -f $(1) && rt version | cmp -s - $(2) && \
+	test -z "$$(find crates/*/src crates/*/specs crates/*/proofs crates.txt -newer $(2) | head -n 1)"
+
+# Makes a file by a command of the kit, unless it is unchanged. The stamp is as old as the beginning of the work, so that
+# a source that changes meanwhile is younger: $(call built,NAME,FILE,STAMP,COMMAND,WHAT IT MAKES)
+built = { $(call unchanged,$(2),$(3)); } || { mkdir -p $(dir $(2)) && rt version >$(3).new && $(call logged,$(1),$(4)) && \
+	{ cmp -s $(5) $(2) || cp $(5) $(2); } && mv $(3).new $(3); }
+
+# Proves and builds a program and runs it on its own input, and it must print what it must: $(call program,NAME,FILE,CRATE)
+program = $(call built,$(1),$(2),$(2).made,(cd crates/$(3) && rt run <stdin | cmp - stdout),crates/$(3)/out/$(3))
 
 .PHONY: all base list seal-a why features lib checker test face rust difference peers fuzz fmt bench vectors
 .PHONY: install uninstall clean kit native $(CHECKER)
 .NOTPARALLEL:
 
 all: kit
-	@$(call logged,all,rt check)
-	@$(MAKE) --no-print-directory checker
+	@$(call logged,all,rt all check)
+	@$(MAKE) --no-print-directory base checker
 
-# What the gate's tests stand on, proved at once.
-base: kit
-	@$(call logged,base,rt check list say_why features capi)
+# What the gate's tests stand on.
+base: list why features lib
 
 list: kit
-	@$(call logged,list,rt check list)
+	@$(call program,list,$(LIST),list)
 
 seal-a: list
 	@tests/x86 sh -c '$${FR_RUN:+"$$FR_RUN"} $(LIST)' <examples/seal-a
 
 why: kit
-	@$(call logged,why,rt check say_why)
+	@$(call program,why,$(WHY),say_why)
 
 features: kit
-	@$(call logged,features,rt check features)
+	@$(call program,features,$(FEATURES),features)
 
-# The stamp is as old as the beginning of the work, so that a source that changes meanwhile is younger.
 lib: kit
-	@$(unchanged) || { mkdir -p target/lib && rt version >$(MADE).new && $(call logged,lib,rt staticlib capi) && \
-		{ cmp -s target/staticlib/libcapi.a $(LIB) || cp target/staticlib/libcapi.a $(LIB); } && mv $(MADE).new $(MADE); }
+	@$(call built,lib,$(LIB),$(MADE),(cd crates/capi_c && rt lib),crates/capi_c/out/libcapi_c.a)
 
 checker: lib
 	@mkdir -p target/bin
@@ -109,7 +115,7 @@ fuzz: native lib
 	@FUZZ_SECONDS=$(FUZZ_SECONDS) fuzz/run
 
 fmt: kit
-	@rt fmt
+	@for crate in crates/*/; do (cd "$$crate" && rt fmt) || exit; done
 
 bench: native lib
 	@bench/run
@@ -154,7 +160,7 @@ uninstall:
 	rm -rf "$(DOC)"
 
 clean:
-	@rm -rf target
+	@rm -rf target crates/*/out
 
 kit:
 	@test -n "$(RT)" || \

@@ -9,32 +9,28 @@ use dates::Date;
 use face::{FrDate, FrDated, FrFilled, FrInteger, FrNumbered};
 
 // The date whose number MMDDYYYY this is: `Date::from_number`.
-#[unsafe(no_mangle)]
-pub extern "C" fn fr_date_from_number(number: usize) -> FrDated
+pub fn fr_date_from_number(number: usize) -> FrDated
     ensures { result ≡ dated_of (from_number number) }
 {
     answers_numbers::date_taken(Date::from_number(number))
 }
 
 // The date's number MMDDYYYY: `Date::number`.
-#[unsafe(no_mangle)]
-pub extern "C" fn fr_date_to_number(date: FrDate) -> FrNumbered
+pub fn fr_date_to_number(date: FrDate) -> FrNumbered
     ensures { result ≡ numbered_of (to_number (inner_date date)) }
 {
     answers_numbers::date_numbered(date.inner().number())
 }
 
 // Reads one whole INTEGER, 1 to 8 bytes of content: `integers_read::read`.
-#[unsafe(no_mangle)]
-pub extern "C" fn fr_integer_read(bytes: &[u8]) -> FrInteger
+pub fn fr_integer_read(bytes: &[u8]) -> FrInteger
     ensures { result ≡ integer_of (reading bytes.now) }
 {
     answers_numbers::integer_read(integers_read::read(bytes))
 }
 
 // Writes a number as an INTEGER from the start of `out`: `integers_write::write`.
-#[unsafe(no_mangle)]
-pub extern "C" fn fr_integer_write(value: i64, out: &mut [u8]) -> FrFilled
+pub fn fr_integer_write(value: i64, out: &mut [u8]) -> FrFilled
     ensures answer { result ≡ filled_of (told (writing value (length out.old))) }
     ensures buffer { out.new ≡ filled (writing value (length out.old)) out.old }
 {

@@ -17,8 +17,7 @@ use face_why::FrReason;
 
 // Reads a seal: `front_reading::read`. On 0 a row for each feature stands in `table`, and signer and reference in `text`; on any
 // other number both stay, and every field but number, place and front is 0.
-#[unsafe(no_mangle)]
-pub extern "C" fn fr_read(seal: &[u8], table: &mut [usize], text: &mut [u8]) -> FrReading
+pub fn fr_read(seal: &[u8], table: &mut [usize], text: &mut [u8]) -> FrReading
     ensures answer { result
         ≡ reading_of (answer_of (reading seal.now (length table.old) (length text.old)))
         (front seal.now) }
@@ -32,8 +31,7 @@ pub extern "C" fn fr_read(seal: &[u8], table: &mut [usize], text: &mut [u8]) -> 
 }
 
 // The verdict on a seal, with nothing lent: `front_reading::judge`.
-#[unsafe(no_mangle)]
-pub extern "C" fn fr_judge(seal: &[u8]) -> FrReading
+pub fn fr_judge(seal: &[u8]) -> FrReading
     ensures { result ≡ reading_of (answer_of (judge seal.now)) (front seal.now) }
 {
     let judged = front_reading::judge(seal);
@@ -41,16 +39,14 @@ pub extern "C" fn fr_judge(seal: &[u8]) -> FrReading
 }
 
 // Why a seal is refused, and every field 0 for an accepted one: `why::why`.
-#[unsafe(no_mangle)]
-pub extern "C" fn fr_why(seal: &[u8]) -> FrReason
+pub fn fr_why(seal: &[u8]) -> FrReason
     ensures { result ≡ reason_of (reason seal.now) }
 {
     FrReason::of(why::why(seal))
 }
 
 // Writes a seal from the start of `out`: `writer::write`. The rows are the reader's, over `values`; a refusal leaves `out` as it was.
-#[unsafe(no_mangle)]
-pub extern "C" fn fr_write(
+pub fn fr_write(
     header: FrHeader,
     text: &[u8],
     rows: &[usize],

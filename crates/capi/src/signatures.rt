@@ -7,8 +7,7 @@ ghost use Rattle.face.specs.Face.{filled_of, hashed_of};
 use face::{FrFilled, FrHashed};
 
 // Writes the DER form of a raw signature from the start of `out`: `ecdsa_to_der::to_der`.
-#[unsafe(no_mangle)]
-pub extern "C" fn fr_signature_to_der(n: usize, raw: &[u8], out: &mut [u8]) -> FrFilled
+pub fn fr_signature_to_der(n: usize, raw: &[u8], out: &mut [u8]) -> FrFilled
     ensures answer { result ≡ filled_of (told (to_der n raw.now (length out.old))) }
     ensures buffer { out.new ≡ filled (to_der n raw.now (length out.old)) out.old }
 {
@@ -16,8 +15,7 @@ pub extern "C" fn fr_signature_to_der(n: usize, raw: &[u8], out: &mut [u8]) -> F
 }
 
 // Writes the raw form of a DER signature from the start of `out`, r then s, n bytes each: `ecdsa_to_raw::to_raw`.
-#[unsafe(no_mangle)]
-pub extern "C" fn fr_signature_to_raw(n: usize, der: &[u8], out: &mut [u8]) -> FrFilled
+pub fn fr_signature_to_raw(n: usize, der: &[u8], out: &mut [u8]) -> FrFilled
     ensures answer { result ≡ filled_of (told (to_raw n der.now (length out.old))) }
     ensures buffer { out.new ≡ filled (to_raw n der.now (length out.old)) out.old }
 {
@@ -25,8 +23,7 @@ pub extern "C" fn fr_signature_to_raw(n: usize, der: &[u8], out: &mut [u8]) -> F
 }
 
 // The hash by n: `ecdsa::hash_for`.
-#[unsafe(no_mangle)]
-pub extern "C" fn fr_hash(n: usize) -> FrHashed
+pub fn fr_hash(n: usize) -> FrHashed
     ensures { result ≡ hashed_of (hash_for n) }
 {
     answers_signatures::hash_named(ecdsa::hash_for(n))

@@ -8,8 +8,7 @@ ghost use Rattle.face.specs.Face.{filled_of};
 use face::FrFilled;
 
 // Puts the words of a number down from the start of `out`: `words::put_words`.
-#[unsafe(no_mangle)]
-pub extern "C" fn fr_words(number: usize, out: &mut [u8]) -> FrFilled
+pub fn fr_words(number: usize, out: &mut [u8]) -> FrFilled
     ensures answer { result ≡ filled_of (told (saying number (length out.old))) }
     ensures buffer { out.new ≡ filled (saying number (length out.old)) out.old }
 {
@@ -17,8 +16,7 @@ pub extern "C" fn fr_words(number: usize, out: &mut [u8]) -> FrFilled
 }
 
 // Puts the name of an item down from the start of `out`: `why_words::put_item_name`.
-#[unsafe(no_mangle)]
-pub extern "C" fn fr_item_name(item: usize, out: &mut [u8]) -> FrFilled
+pub fn fr_item_name(item: usize, out: &mut [u8]) -> FrFilled
     ensures answer { result ≡ filled_of (told (naming item (length out.old))) }
     ensures buffer { out.new ≡ filled (naming item (length out.old)) out.old }
 {
@@ -26,8 +24,7 @@ pub extern "C" fn fr_item_name(item: usize, out: &mut [u8]) -> FrFilled
 }
 
 // Puts the words of a rule down from the start of `out`: `why_words::put_rule_words`.
-#[unsafe(no_mangle)]
-pub extern "C" fn fr_rule_words(rule: usize, out: &mut [u8]) -> FrFilled
+pub fn fr_rule_words(rule: usize, out: &mut [u8]) -> FrFilled
     ensures answer { result ≡ filled_of (told (wording rule (length out.old))) }
     ensures buffer { out.new ≡ filled (wording rule (length out.old)) out.old }
 {

@@ -7,8 +7,7 @@ ghost use Rattle.face.specs.Face.{filled_of};
 use face::FrFilled;
 
 // Reads C40 bytes into `out` as text: `c40_read_long::read`.
-#[unsafe(no_mangle)]
-pub extern "C" fn fr_c40_read(bytes: &[u8], out: &mut [u8]) -> FrFilled
+pub fn fr_c40_read(bytes: &[u8], out: &mut [u8]) -> FrFilled
     ensures answer { result ≡ filled_of (told (reading bytes.now (length out.old))) }
     ensures buffer { out.new ≡ filled (reading bytes.now (length out.old)) out.old }
 {
@@ -16,8 +15,7 @@ pub extern "C" fn fr_c40_read(bytes: &[u8], out: &mut [u8]) -> FrFilled
 }
 
 // Writes text into `out` as C40 bytes: `c40_write_long::write`.
-#[unsafe(no_mangle)]
-pub extern "C" fn fr_c40_write(text: &[u8], out: &mut [u8]) -> FrFilled
+pub fn fr_c40_write(text: &[u8], out: &mut [u8]) -> FrFilled
     ensures answer { result ≡ filled_of (told (writing text.now (length out.old))) }
     ensures buffer { out.new ≡ filled (writing text.now (length out.old)) out.old }
 {

@@ -8,24 +8,21 @@ ghost use Rattle.face_walk.specs.Face.{start_of as startIs, step_of, where_of};
 use face_walk::{FrStart, FrStep, FrWhere};
 
 // Opens a walk over the features of a seal: `walk::start_at`.
-#[unsafe(no_mangle)]
-pub extern "C" fn fr_walk_open(seal: &[u8]) -> FrStart
+pub fn fr_walk_open(seal: &[u8]) -> FrStart
     ensures { result ≡ startIs (start_of (judge seal.now)) }
 {
     FrStart::of(walk::start_at(seal))
 }
 
 // The next feature of a walk that is at a place: `walk::next_at`.
-#[unsafe(no_mangle)]
-pub extern "C" fn fr_walk_next(seal: &[u8], at: usize) -> FrStep
+pub fn fr_walk_next(seal: &[u8], at: usize) -> FrStep
     ensures { result ≡ step_of (step_at seal.now at) }
 {
     FrStep::of(walk::next_at(seal, at))
 }
 
 // Where the value of a tag stands, in the extension or else in the main seal: `shown::where_is`.
-#[unsafe(no_mangle)]
-pub extern "C" fn fr_shown(main_seal: &[u8], extension: &[u8], tag: usize) -> FrWhere
+pub fn fr_shown(main_seal: &[u8], extension: &[u8], tag: usize) -> FrWhere
     ensures { result ≡ where_of (answer_of (where_is main_seal.now extension.now tag)) }
 {
     FrWhere::of(shown::where_is(main_seal, extension, tag))

@@ -175,7 +175,7 @@ fn der_front(seal: &[u8], at: usize, first: usize) -> Counted
 }
 
 // A feature's length: one plain byte in version 3, a DER length in version 4.
-fn length_front_lem(seal: &[u8], at: usize, version: Version) -> Counted
+fn length_front(seal: &[u8], at: usize, version: Version) -> Counted
     requires { at ≤ 4096 }
     ensures { result ≡ counted_of at (length_front version (4096 - at) (drop at seal.now)) }
 {
@@ -213,7 +213,7 @@ fn message_front(seal: &[u8], start: usize, version: Version) -> usize
         if (marks[word] >> bit) & 1 == 1 {
             return at;
         }
-        let length = length_front_lem(seal, at + 1, version);
+        let length = length_front(seal, at + 1, version);
         match length {
             Counted::Ends(place) => return place,
             Counted::Is(size, value) => {

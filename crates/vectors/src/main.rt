@@ -1,9 +1,13 @@
 // Runs the cases of data/ through the compiled calls, and writes a line for each: what was answered, and what stands in the lent memory.
 #![tactic(auto)]
 
+ghost use Rattle.std.specs.Prelude.{◌≤◌, length, IfOk};
 ghost use Rattle.case_file.specs.Line.{Within, Counts};
 
-use libc::STDOUT_FILENO;
+use std::fmt::Write;
+use std::fs::File;
+use std::io::{Print, Read};
+use std::{fmt, io};
 
 // Which calls a file has cases of.
 #[derive(Clone, Copy)]
@@ -53,33 +57,110 @@ fn run_all(calls: Calls, cases: &[u8], out: &mut [u8]) -> usize
 }
 
 // Writes what is wrong with a file, after its name.
-fn tell(path: &[u8], fault: &[u8]) {
-    io::write_all(STDOUT_FILENO, path);
-    io::write_all(STDOUT_FILENO, fault);
+fn tell(rt: &HostRuntime, path: &[u8], fault: &[u8]) {
+    let _ = rt.write_all(path);
+    let _ = rt.write_all(fault);
+}
+
+// The text of an error, as far as there is room.
+#[derive(Drop)]
+struct Words {
+    bytes: [u8; 256],
+    count: usize,
+}
+
+impl fmt::Write for Words {
+    fn write_str(&mut self, text: &str) -> fmt::Result {
+        for byte in text.as_bytes() {
+            if self.count >= 256 {
+                return Err(fmt::Error);
+            }
+            self.bytes[self.count] = *byte;
+            self.count += 1;
+        }
+        Ok(())
+    }
+}
+
+// How many bytes of an error's text are the system's words: those before the last bracket, which has the error's number.
+fn before_number(text: &[u8]) -> usize
+    ensures { result ≤ length text.now }
+{
+    let mut end = text.len();
+    while 0 < end {
+        end -= 1;
+        if text[end] == b'(' {
+            return end.saturating_sub(1);
+        }
+    }
+    text.len()
+}
+
+// Says on standard error why a file cannot be opened: its name, and the system's words.
+fn fail(rt: &HostRuntime, path: &[u8], error: io::Error) {
+    let mut words = Words {
+        bytes: [0u8; 256],
+        count: 0,
+    };
+    let _ = write!(words, "{error}");
+    let text = &words.bytes[..words.count.min(256)];
+    let stderr = rt.stderr();
+    let _ = stderr.write_all(path);
+    let _ = stderr.write_all(b": ");
+    let _ = stderr.write_all(&text[..before_number(text)]);
+    let _ = stderr.write_all(b"\n");
+}
+
+// Reads until the buffer is full, the file ends or a read fails, and gives how many bytes stand at the start of the buffer.
+fn read_full(file: &mut File, buffer: &mut [u8]) -> usize
+    ensures { Counts result buffer.new }
+{
+    let mut n: usize = 0;
+    while n < buffer.len() {
+        let Ok(more) = file.read(&mut buffer[n..]) else {
+            return n;
+        };
+        if more == 0 {
+            return n;
+        }
+        n += more;
+    }
+    n
+}
+
+// Opens a file and reads it from its start, as `read_full` does. A name that is no text is one that no file has.
+fn read_file(rt: &HostRuntime, path: &[u8], buffer: &mut [u8]) -> io::Result<usize>
+    ensures { IfOk result (λ n. Counts n buffer.new) }
+{
+    let Ok(name) = str::from_utf8(path) else {
+        return Err(io::Error::from(io::ErrorKind::InvalidFilename));
+    };
+    let mut file = File::open(rt, name)?;
+    Ok(read_full(&mut file, buffer))
 }
 
 // Reads the cases of a file, runs them, and writes all lines in one go.
-fn run_file(calls: Calls, path: &[u8]) {
-    let file = os::open_read(path);
-    if file < 0 {
-        os::fail(path);
-        return;
-    }
-    let mut cases = io::large_buffer();
-    let size = io::read_full(file, &mut cases);
-    libc::close(file);
+fn run_file(rt: &HostRuntime, calls: Calls, path: &[u8]) {
+    let mut cases = [0u8; 65536];
+    let size = match read_file(rt, path, &mut cases) {
+        Ok(size) => size,
+        Err(error) => {
+            fail(rt, path, error);
+            return;
+        }
+    };
     // a full buffer may have cut what belongs in it
     if size == 65536 {
-        tell(path, b": the file of cases is too long\n");
+        tell(rt, path, b": the file of cases is too long\n");
         return;
     }
-    let mut out = io::large_buffer();
+    let mut out = [0u8; 65536];
     let n = run_all(calls, &cases[..size], &mut out);
     if n == 65536 {
-        tell(path, b": the output is too long\n");
+        tell(rt, path, b": the output is too long\n");
         return;
     }
-    io::write_all(STDOUT_FILENO, &out[..n]);
+    let _ = rt.write_all(&out[..n]);
 }
 
 // Which calls a letter stands for in the list of files.
@@ -99,38 +180,38 @@ fn calls_of(letter: u8) -> Calls {
 }
 
 // A line of the list of files: `= NAME` puts the name down, for the answers under it, and `LETTER PATH` runs a file.
-fn run_listed(line: &[u8]) {
+fn run_listed(rt: &HostRuntime, line: &[u8]) {
     if line.len() < 3 {
         return;
     }
     let letter = line[0];
     if letter == b'=' {
-        io::write_all(STDOUT_FILENO, &line[2..]);
-        io::write_all(STDOUT_FILENO, b"\n");
+        let _ = rt.write_all(&line[2..]);
+        let _ = rt.write_all(b"\n");
         return;
     }
-    run_file(calls_of(letter), &line[2..]);
+    run_file(rt, calls_of(letter), &line[2..]);
 }
 
 // Runs every file of the list, in its order.
-fn run_list(list: &[u8]) {
+fn run_list(rt: &HostRuntime, list: &[u8]) {
     let mut from: usize = 0;
     while from < list.len() {
         let end = case_file::line_end(list, from);
-        run_listed(&list[from..end]);
+        run_listed(rt, &list[from..end]);
         from = end + 1;
     }
 }
 
 // The files of cases are those that `files` lists.
-fn main() {
-    let file = os::open_read(b"files");
-    if file < 0 {
-        os::fail(b"files");
-        return;
-    }
-    let mut list = io::large_buffer();
-    let size = io::read_full(file, &mut list);
-    libc::close(file);
-    run_list(&list[..size]);
+fn main(rt: HostRuntime) {
+    let mut list = [0u8; 65536];
+    let size = match read_file(&rt, b"files", &mut list) {
+        Ok(size) => size,
+        Err(error) => {
+            fail(&rt, b"files", error);
+            return;
+        }
+    };
+    run_list(&rt, &list[..size]);
 }

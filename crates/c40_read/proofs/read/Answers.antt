@@ -12,58 +12,69 @@ use Rattle.c40.specs.Decode.{decode, wrong, text, text_of}
 use Rattle.c40.specs.Decode.Laws.{judged_wrong, judged_text}
 use Rattle.c40.specs.Calls.Laws.{reading_long, reading_odd, reading_wrong, reading_no_room, reading_done}
 use Rattle.c40_read.proofs.read.Goals as goal
-use Rattle.c40_read.proofs.read.Goals.{After-judge-judged, Else-n-eq1, In-Text, In-Wrong}
-
-abbrev bytes : After-judge-judged → List ℕ
-bytes c = c.args.bytes.now
+use Rattle.c40_read.proofs.read.Goals.{Else-n-eq1, In-Text, In-Wrong}
 
 -- the low bit tells whether their number is odd
-is_even : (c : Else-n-eq1) → length (start c).args.bytes.now % 2 ≡ 1 → ⊥
+is_even : (c : Else-n-eq1) → length c.args.bytes.now % 2 ≡ 1 → ⊥
 is_even c odd = c.if-n-eq1.false (and_mask (length c.args.bytes.now) 1 ∙ odd)
 
 -- the bytes decode as the judge said
 is-wrong : (c : In-Wrong)
-    → decode 0 (bytes (from_wrong c)) ≡ wrong c.in-Wrong.fault c.in-Wrong.at
+    → decode 0 (c.args.bytes.now) ≡ wrong c.in-Wrong.fault c.in-Wrong.at
 is-wrong c = judged_wrong _ _ _ (sym c.judge-judged.ensures ∙ c.in-Wrong.is)
 
 is_text_lem : (c : In-Text)
-    → let d = decode 0 (bytes (from_text c)) in (d ≡ text (text_of d)) × (length (text_of d) ≡ c.in-Text.count)
+    → let d = decode 0 (c.args.bytes.now) in (d ≡ text (text_of d)) × (length (text_of d) ≡ c.in-Text.count)
 is_text_lem c = judged_text _ _ (sym c.judge-judged.ensures ∙ c.in-Text.is)
 
 pub returns-then-n-gt4096 : goal.returns-then-n-gt4096
-returns-then-n-gt4096 c = refuses _ 45 0 _ (reading_long _ _ (omega arith))
-    -- LOOK record answer buffer
+returns-then-n-gt4096 c =
+    let out = c.args.out.now in
+    let e = refuses _ 45 0 out (reading_long c.args.bytes.now (length out) (omega arith)) in
+    record { answer = e.0; buffer = e.1 }
 
 pub returns-then-n-eq1 : goal.returns-then-n-eq1
-returns-then-n-eq1 c = refuses _ 40 _ _ (reading_odd _ _ (omega arith) (sym (and_mask _ 1) ∙ c.if-n-eq1.true))
-    -- LOOK record answer buffer
+returns-then-n-eq1 c =
+    let out = c.args.out.now in
+    let s = c.args.bytes.now in
+    let e = refuses _ 40 (length s) out (reading_odd s (length out) (omega arith) (sym (and_mask (length s) 1) ∙ c.if-n-eq1.true)) in
+    record { answer = e.0; buffer = e.1 }
 
 pub judge-judged-requires : goal.judge-judged-requires
 judge-judged-requires c =
     record { is_chart = c.the_chart-chart.ensures; even = omega (arith, is_even (goal.at.judge-judged-requires c).Else-n-eq1); size = omega arith }
 
+pub returns-in-Wrong : goal.returns-in-Wrong
+returns-in-Wrong c =
+    let out = c.args.out.now in
+    let even = is_even (goal.at.returns-in-Wrong c).Else-n-eq1 in
+    let e = refuses _ _ c.in-Wrong.at out (reading_wrong c.args.bytes.now (length out) (omega arith) even _ _ (is-wrong c)) in
+    record { answer = e.0; buffer = e.1 }
+
 pub returns-then-out-count : goal.returns-then-out-count
 returns-then-out-count c =
-    refuses _ 42 0 _
-    (reading_no_room _ _ (omega arith) (is_even (goal.at.returns-then-out-count c).Else-n-eq1) _ (is_text_lem (goal.at.returns-then-out-count c).In-Text).0 (omega (arith, (is_text_lem (goal.at.returns-then-out-count c).In-Text).1)))
-    -- LOOK record answer buffer
+    let out = c.args.out.now in
+    let even = is_even (goal.at.returns-then-out-count c).Else-n-eq1 in
+    let t = is_text_lem (goal.at.returns-then-out-count c).In-Text in
+    let e = refuses _ 42 0 out (reading_no_room c.args.bytes.now (length out) (omega arith) even _ t.0 (omega (arith, t.1))) in
+    record { answer = e.0; buffer = e.1 }
 
 pub put-requires : goal.put-requires
 put-requires c =
+    let t = is_text_lem (goal.at.put-requires c).In-Text in
     record {
       is_chart = c.the_chart-chart.ensures;
       even = omega (arith, is_even (goal.at.put-requires c).Else-n-eq1);
-      is_text_lem = (is_text_lem (goal.at.put-requires c).In-Text).0;
-      room = omega (arith, (is_text_lem (goal.at.put-requires c).In-Text).1);
+      is_text_lem = t.0;
+      room = omega (arith, t.1);
     }
-
-pub returns-in-Wrong : goal.returns-in-Wrong
-returns-in-Wrong c = refuses _ _ _ _ (reading_wrong _ _ (omega arith) (is_even (goal.at.returns-in-Wrong c).Else-n-eq1) _ _ (is-wrong c))
-    -- LOOK record answer buffer
 
 pub returns-else-out-count : goal.returns-else-out-count
 returns-else-out-count c =
-    gives _ _ _ _ _
-    (reading_done _ _ (omega arith) (is_even (goal.at.returns-else-out-count c).Else-n-eq1) _ (is_text_lem (goal.at.returns-else-out-count c).In-Text).0 (omega (arith, (is_text_lem (goal.at.returns-else-out-count c).In-Text).1)))
-    (sym (is_text_lem (goal.at.returns-else-out-count c).In-Text).1) c.put.ensures
-    -- LOOK record answer buffer
+    let out = c.args.out.now in
+    let even = is_even (goal.at.returns-else-out-count c).Else-n-eq1 in
+    let t = is_text_lem (goal.at.returns-else-out-count c).In-Text in
+    let e =
+    gives _ _ c.in-Text.count out c.put.new.out
+    (reading_done c.args.bytes.now (length out) (omega arith) even _ t.0 (omega (arith, t.1))) (sym t.1) c.put.ensures in
+    record { answer = e.0; buffer = e.1 }

@@ -9,18 +9,16 @@ use Rattle.pairs.specs.Chart.Laws.{entry}
 use Rattle.c40_read_long.specs.Laid.{Tails, TailAt}
 use Rattle.c40_read_long.specs.Laid.Laws.{char_small, sound_set, tail_right}
 use Rattle.c40_read_long.proofs.lay_row.Goals as goal
-use Rattle.c40_read_long.proofs.lay_row.Goals.{After-tails-1, Start}
+use Rattle.c40_read_long.proofs.lay_row.Goals.{In-loop-c, Start}
 
 -- the characters of the second value and of the third, by the chart: neither is over 90
 by_chart : (c : Start) (v : ℕ) → 3 ≤ v → v < 40 → get_or c.args.chart.now v 0 < 91
 by_chart c v h k = omega (arith, entry _ v v c.requires.0 refl, char_small v h k)
 
-small : (c : After-tails-1)
-    → let on = c in
-    let start = on in
-    (get_or start.args.chart.now on.loop-c.c 0 < 91) × (get_or start.args.chart.now start.args.b 0 < 91)
+small : (c : In-loop-c)
+    → (get_or c.args.chart.now c.loop-c.c 0 < 91) × (get_or c.args.chart.now c.args.b 0 < 91)
 small c =
-    (by_chart (goal.at.After-tails-1 c).Start _ (omega arith) (omega arith), by_chart (goal.at.After-tails-1 c).Start _ (omega arith) (omega arith))
+    (by_chart (goal.at.In-loop-c c).Start _ (omega arith) (omega arith), by_chart (goal.at.In-loop-c c).Start _ (omega arith) (omega arith))
 
 pub bounds-chart-b : goal.bounds-chart-b
 bounds-chart-b c = omega arith
@@ -41,21 +39,16 @@ pub bounds-chart-c : goal.bounds-chart-c
 bounds-chart-c c = omega arith
 
 pub overflow_cast-tails : goal.overflow_cast-tails
-overflow_cast-tails c = omega (arith, small c)
+overflow_cast-tails c = omega (arith, small (goal.at.overflow_cast-tails c).In-loop-c)
 
 pub overflow_mul-tails : goal.overflow_mul-tails
-overflow_mul-tails c = omega (arith, small c)
+overflow_mul-tails c = omega (arith, small (goal.at.overflow_mul-tails c).In-loop-c)
 
 pub overflow_add-tails : goal.overflow_add-tails
-overflow_add-tails c = omega (arith, small c)
+overflow_add-tails c = omega (arith, small (goal.at.overflow_add-tails c).In-loop-c)
 
 pub overflow_add-tails-in-loop-c : goal.overflow_add-tails-in-loop-c
 overflow_add-tails-in-loop-c c = omega arith
-
--- GONE overflow-mul-tails-2
-
-pub MISSING-overflow-mul-tails-2 : goal.MISSING-overflow-mul-tails-2
-MISSING-overflow-mul-tails-2 c = omega arith
 
 pub bounds-tails-from : goal.bounds-tails-from
 bounds-tails-from c = omega arith

@@ -1,7 +1,6 @@
 -- `c40_read_long::lay_text` meets its contract: all pairs before the last are put down, and then the last.
 -- Assumes nothing.
 use borrow.Author.Rules.{rules}
-use borrow.Author.Tests.{not-false}
 use mathlib.Core.Path.{refl}
 use mathlib.Core.List.{List}
 use Prim.Native.Nat.{ℕ, ◌*◌, ◌-◌, ◌/◌}
@@ -16,7 +15,7 @@ bytes c = c.args.bytes.now
 
 -- and what is known there
 come : (c : Else-not-put_front) → Come (bytes c) (length (bytes c) - 2) c.put_front.new.text ((length (bytes c) - 2) / 2 * 3)
-come c = c.put_front.ensures (not-false _ c.if-not-put_front.false)
+come c = c.put_front.ensures c.if-not-put_front.false
 
 pub lay_heads-requires : goal.lay_heads-requires
 lay_heads-requires c = (c.the_chart-chart.ensures, sound_blank HeadAt 41 _ refl)

@@ -2,7 +2,6 @@
 -- last are an even number.
 -- Assumes nothing.
 use native.Mathlib.Omega.{arith}
-use borrow.Author.Tests.{not-false}
 use mathlib.Core.Path.{◌≡◌, refl, sym}
 use mathlib.Core.Logic.{⊎_elim}
 use Prim.Native.Nat.{ℕ, ◌+◌, ◌-◌, ◌%◌, ◌≤◌}
@@ -12,14 +11,14 @@ use Rattle.pairs.specs.Pairs.Laws.{apart}
 use Rattle.c40_read_long.specs.Laid.{Come}
 use Rattle.c40_read_long.specs.Laid.Laws.{come_start, come_same, come_more, bit_set, bit_clear}
 use Rattle.c40_read_long.proofs.put_front.Goals as goal
-use Rattle.c40_read_long.proofs.put_front.Goals.{At-loop-i, Else-not-put_full-2, Else-not-put_full-3, In-loop-i}
+use Rattle.c40_read_long.proofs.put_front.Goals.{then-last-eq2+else-not-put_full, else-last-eq2, At-loop-i, Else-not-put_full-2, Else-not-put_full-3, In-loop-i}
 
 abbrev bytes : At-loop-i → List ℕ
 bytes c = c.args.bytes.now
 
 -- in a turn there are two pairs before the last, and room for them
 turn : (c : In-loop-i)
-    → let on = c in (on.loop-i.i + 4 + 2 ≤ length (bytes on)) × (on.loop-i.at + 6 ≤ 6144)
+    → let on = (goal.at.In-loop-i c).At-loop-i in (on.loop-i.i + 4 + 2 ≤ length (bytes on)) × (on.loop-i.at + 6 ≤ 6144)
 turn c =
     let long = c.requires.1.1 in
     let inside : c.loop-i.i + 4 + 2 ≤ length (bytes (goal.at.In-loop-i c).At-loop-i) = omega arith in
@@ -27,20 +26,20 @@ turn c =
 
 -- the first pair is put down, and the second
 one_more : (c : Else-not-put_full-2)
-    → let on = (from_first c) in
+    → let on = (goal.at.Else-not-put_full-2 c).At-loop-i in
     Come (bytes on) (on.loop-i.i + 2) c.put_full-in-loop-i.new.text (on.loop-i.at + 3)
 one_more c =
     let h = turn (goal.at.Else-not-put_full-2 c).In-loop-i in
     come_more _ _ _ _ c.loop-i.invariant.2 _ _ refl (omega arith) (omega arith)
-    (c.put_full-in-loop-i.ensures (not-false _ c.if-not-put_full-2.false))
+    (c.put_full-in-loop-i.ensures c.if-not-put_full-2.false)
 
 two-more : (c : Else-not-put_full-3)
-    → let on = (from_first (from_second c)) in
+    → let on = (goal.at.Else-not-put_full-3 c).At-loop-i in
     Come (bytes on) (on.loop-i.i + 2 + 2) c.put_full-in-loop-i-2.new.text (on.loop-i.at + 3 + 3)
 two-more c =
     let h = turn (goal.at.Else-not-put_full-3 c).In-loop-i in
     come_more _ _ _ _ (one_more (goal.at.Else-not-put_full-3 c).Else-not-put_full-2) _ (c.loop-i.i + 3) (omega arith) (omega arith) (omega arith)
-    (c.put_full-in-loop-i-2.ensures (not-false _ c.if-not-put_full-3.false))
+    (c.put_full-in-loop-i-2.ensures c.if-not-put_full-3.false)
 
 pub overflow_sub-last : goal.overflow_sub-last
 overflow_sub-last c = omega arith
@@ -64,16 +63,16 @@ loop-i-init c =
     let s = c.args.bytes.now in
     let long = c.requires.1.1 in
     let even : (length s - 2) % 2 ≡ 0 = omega (arith, long.some, long.even) in
-    ⊎_elim
-    (λ way.
-    let odd = bit_set (length s - 2) even way.0.taken in
-    let full = way.4.ensures (not-false _ way.5.left) in
-    let first = come_more _ _ _ _ (come_start s _ long.whole) _ 1 refl (omega arith) (omega arith) full in
-    (omega (arith, way.7), omega (arith, way.7), come_same (sym way.6) (sym way.7) (sym way.8) first))
-    (λ way.
-    let none = bit_clear (length s - 2) even way.0.left in
-    (omega (arith, way.2), omega (arith, way.2), come_same (sym way.1) (sym way.2) (sym way.3) (come_start s _ long.whole)))
-    c.if-last-eq2.branch
+    elim c.if-last-eq2.branch [
+      | then-last-eq2+else-not-put_full w ↦
+          let odd = bit_set (length s - 2) even w.if-last-eq2.true in
+          let full = w.put_full.ensures w.if-not-put_full.false in
+          let first = come_more _ _ _ _ (come_start s _ long.whole) _ 1 refl (omega arith) (omega arith) full in
+          (omega (arith, w.i-is), omega (arith, w.i-is), come_same (sym w.text-is) (sym w.i-is) (sym w.at-is) first)
+      | else-last-eq2 w ↦
+          let none = bit_clear (length s - 2) even w.if-last-eq2.false in
+          (omega (arith, w.i-is), omega (arith, w.i-is), come_same (sym w.text-is) (sym w.i-is) (sym w.at-is) (come_start s _ long.whole))
+    ]
 
 pub bounds-bytes-i : goal.bounds-bytes-i
 bounds-bytes-i c = omega arith

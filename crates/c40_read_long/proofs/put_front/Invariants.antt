@@ -1,4 +1,5 @@
 -- `c40_read_long::put_front` meets its contract. The loop's invariant: the pairs before the place are put down, and those up to the
+-- last are an even number.
 use native.Mathlib.Omega.{arith}
 use borrow.Author.Tests.{not-false}
 use mathlib.Core.Path.{◌≡◌, refl, sym}

@@ -10,8 +10,6 @@ use Rattle.c40_read_long.proofs.put_full.Goals as goal
 pub returns-then-head-eq0 : goal.returns-then-head-eq0
 returns-then-head-eq0 c e = absurd (apart refl e)
 
--- GONE overflow-mul-tail-2
-
 pub overflow_cast-tail : goal.overflow_cast-tail
 overflow_cast-tail c =
     record { fits = tail_fits c.args.tails.now c.requires.1.0 _ (omega arith) }

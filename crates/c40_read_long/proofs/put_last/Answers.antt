@@ -25,33 +25,21 @@ abbrev lent : After-read-read → List ℕ
 lent c = let text = c.args.text.now in take (length text - at c) (drop (at c) text)
 
 -- what was read there
-is_read : (c : In-Done) → Read (pair (called c)) (length (lent (called c))) c.in-Done.more
+is_read : (c : In-Done) → Read (pair (goal.at.In-Done c).After-read-read) (length (lent (goal.at.In-Done c).After-read-read)) c.in-Done.more
 is_read c =
     let two = last_two (bytes (goal.at.In-Done c).After-read-read) c.requires.0.some in
     read_done (pair (goal.at.In-Done c).After-read-read) (length (lent (goal.at.In-Done c).After-read-read)) _ (omega arith) (λ odd. omega arith)
     (sym (ap reading_of c.in-Done.is) ∙ c.read-read.ensures.answer)
 
 -- the place is in the text
-inside : (c : After-read-read) → at c ≤ length (start c).args.text.now
+inside : (c : After-read-read) → at c ≤ length c.args.text.now
 inside c = let long = c.requires.0 in omega (arith, long.size, long.whole)
-
--- GONE overflow-sub-read
-
--- GONE slice-bounds-read-start
-
--- GONE slice-bounds-read-end
-
--- GONE overflow-sub-read-2
-
--- GONE slice-bounds-read-start-2
-
--- GONE slice-bounds-read-end-2
 
 pub overflow_add-result : goal.overflow_add-result
 overflow_add-result c =
     let text = c.args.text.now in
     let long = c.requires.0 in
-    omega (arith, (is_read c).ranges, length-take (length text - at (goal.at.overflow_add-result c).After-read-read) (drop (at (goal.at.overflow_add-result c).After-read-read) text), long.size, long.whole)
+    omega (arith, (is_read c).fits, length-take (length text - at (goal.at.overflow_add-result c).After-read-read) (drop (at (goal.at.overflow_add-result c).After-read-read) text), long.size, long.whole)
 
 pub returns : goal.returns
 returns c =

@@ -25,7 +25,7 @@ abbrev count : In-Text → ℕ
 count c = c.in-Text.count
 
 -- the low bit tells whether their number is odd
-is_even : (c : Else-n-eq1) → length (start c).args.bytes.now % 2 ≡ 1 → ⊥
+is_even : (c : Else-n-eq1) → length c.args.bytes.now % 2 ≡ 1 → ⊥
 is_even c odd = c.if-n-eq1.false (and_mask (length c.args.bytes.now) 1 ∙ odd)
 
 -- the bytes decode as what was put down
@@ -33,12 +33,17 @@ is_text_lem : (c : In-Text) → Decodes (bytes c) (laid c) (count c)
 is_text_lem c = subst (λ r. Told r (bytes c) (laid c)) c.in-Text.is c.lay_text-laid.ensures
 
 pub returns-then-n-gt4096 : goal.returns-then-n-gt4096
-returns-then-n-gt4096 c = refuses _ 45 0 _ (reading_long _ _ (omega arith))
-    -- LOOK record answer buffer
+returns-then-n-gt4096 c =
+    let out = c.args.out.now in
+    let e = refuses _ 45 0 out (reading_long c.args.bytes.now (length out) (omega arith)) in
+    record { answer = e.0; buffer = e.1 }
 
 pub returns-then-n-eq1 : goal.returns-then-n-eq1
-returns-then-n-eq1 c = refuses _ 40 _ _ (reading_odd _ _ (omega arith) (sym (and_mask _ 1) ∙ c.if-n-eq1.true))
-    -- LOOK record answer buffer
+returns-then-n-eq1 c =
+    let out = c.args.out.now in
+    let s = c.args.bytes.now in
+    let e = refuses _ 40 (length s) out (reading_odd s (length out) (omega arith) (sym (and_mask (length s) 1) ∙ c.if-n-eq1.true)) in
+    record { answer = e.0; buffer = e.1 }
 
 pub lay_text-laid-requires : goal.lay_text-laid-requires
 lay_text-laid-requires c =
@@ -47,9 +52,12 @@ lay_text-laid-requires c =
 
 pub returns-then-out-count : goal.returns-then-out-count
 returns-then-out-count c =
-    refuses _ 42 0 _
-    (reading_no_room _ _ (omega arith) (is_even (goal.at.returns-then-out-count c).Else-n-eq1) _ (is_text_lem (goal.at.returns-then-out-count c).In-Text).is_text_lem (omega (arith, decodes_many (is_text_lem (goal.at.returns-then-out-count c).In-Text))))
-    -- LOOK record answer buffer
+    let out = c.args.out.now in
+    let even = is_even (goal.at.returns-then-out-count c).Else-n-eq1 in
+    let t = is_text_lem (goal.at.returns-then-out-count c).In-Text in
+    let many = decodes_many t in
+    let e = refuses _ 42 0 out (reading_no_room c.args.bytes.now (length out) (omega arith) even _ t.is_text_lem (omega (arith, many))) in
+    record { answer = e.0; buffer = e.1 }
 
 pub slice_bounds-text-end : goal.slice_bounds-text-end
 slice_bounds-text-end c = (is_text_lem (goal.at.slice_bounds-text-end c).In-Text).room
@@ -59,7 +67,12 @@ slice_bounds-copy-end c = sym (decodes_many (is_text_lem (goal.at.slice_bounds-c
 
 pub returns : goal.returns
 returns c =
-    let many = decodes_many (is_text_lem (goal.at.returns c).In-Text) in
-    gives _ _ _ _ _ (reading_done _ _ (omega arith) (is_even (goal.at.returns c).Else-n-eq1) _ (is_text_lem (goal.at.returns c).In-Text).is_text_lem (omega (arith, many))) (sym many)
-    (c.copy.ensures.buffer ∙ sym (copied_all _ _ 0 (omega (arith, many))))
-    -- LOOK record answer buffer
+    let out = c.args.out.now in
+    let even = is_even (goal.at.returns c).Else-n-eq1 in
+    let t = is_text_lem (goal.at.returns c).In-Text in
+    let many = decodes_many t in
+    let put = c.copy.ensures.buffer ∙ sym (copied_all _ _ 0 (omega (arith, many))) in
+    let e =
+    gives _ _ c.in-Text.count out c.copy.new.out
+    (reading_done c.args.bytes.now (length out) (omega arith) even _ t.is_text_lem (omega (arith, many))) (sym many) put in
+    record { answer = e.0; buffer = e.1 }

@@ -1,10 +1,10 @@
 -- `c40_write::write` meets its contract: each `return` is one case of the definition, with the tests that led there.
 -- Assumes nothing.
 use borrow.Author.Rules.{rules}
-use borrow.Author.Tests.{leb-true, leb-false, not-true, not-false}
+use borrow.Author.Tests.{leb-true, leb-false}
 use native.Mathlib.Omega.{arith}
 use mathlib.Core.Path.{◌∙◌, sym, ap}
-use Prim.Native.Nat.{ℕ, ◌<◌, ◌≤◌}
+use Prim.Native.Nat.{ℕ, ◌*◌, ◌<◌, ◌≤◌}
 use mathlib.Core.List.{List}
 use lib.ListN.{length}
 use Rattle.format.specs.Answers.{refused}
@@ -13,39 +13,47 @@ use Rattle.c40.specs.Text.Laws.{length_publish}
 use Rattle.c40.specs.Calls.{known}
 use Rattle.c40.specs.Calls.Laws.{known_text, writing_long, writing_stranger, writing_no_room, writing_done}
 use Rattle.c40_write.proofs.write.Goals as goal
-use Rattle.c40_write.proofs.write.Goals.{After-all_known, Else-not-all_known, Then-not-all_known}
-
-abbrev text : After-all_known → List ℕ
-text c = c.args.text.now
+use Rattle.c40_write.proofs.write.Goals.{Else-not-all_known, Then-not-all_known}
 
 -- one is a stranger, or all are known
-stranger : (c : Then-not-all_known) → known (text c) < length (text c)
-stranger c = leb-false _ _ (sym c.all_Known.ensures ∙ not-true _ c.if-not-all_known.true)
+stranger : (c : Then-not-all_known) → known c.args.text.now < length c.args.text.now
+stranger c = leb-false _ _ (sym c.all_known.ensures ∙ c.if-not-all_known.true)
 
-good : (c : Else-not-all_known) → length (text c) ≤ known (text c)
-good c = leb-true _ _ (sym c.all_Known.ensures ∙ not-false _ c.if-not-all_known.false)
+good : (c : Else-not-all_known) → length c.args.text.now ≤ known c.args.text.now
+good c = leb-true _ _ (sym c.all_known.ensures ∙ c.if-not-all_known.false)
 
 pub returns-then-n-gt6144 : goal.returns-then-n-gt6144
-returns-then-n-gt6144 c = refuses _ 45 0 _ (writing_long _ _ (omega arith))
-    -- LOOK record answer buffer
+returns-then-n-gt6144 c =
+    let out = c.args.out.now in
+    let e = refuses _ 45 0 out (writing_long c.args.text.now (length out) (omega arith)) in
+    record { answer = e.0; buffer = e.1 }
 
 pub returns-then-not-all_known : goal.returns-then-not-all_known
 returns-then-not-all_known c =
-    let e = c.known.ensures in
-    refuses _ 43 _ _ (writing_stranger _ _ (omega arith) (stranger (goal.at.returns-then-not-all_known c).Then-not-all_known) ∙ ap (refused 43) (sym e))
-    -- LOOK record answer buffer
+    let out = c.args.out.now in
+    let h = stranger (goal.at.returns-then-not-all_known c).Then-not-all_known in
+    let e =
+    refuses _ 43 c.known.result out
+    (writing_stranger c.args.text.now (length out) (omega arith) h ∙ ap (refused 43) (sym c.known.ensures)) in
+    record { answer = e.0; buffer = e.1 }
 
 pub returns-then-out-size : goal.returns-then-out-size
-returns-then-out-size c = refuses _ 44 0 _ (writing_no_room _ _ (omega arith) (good (goal.at.returns-then-out-size c).Else-not-all_known) (omega arith))
-    -- LOOK record answer buffer
+returns-then-out-size c =
+    let out = c.args.out.now in
+    let h = good (goal.at.returns-then-out-size c).Else-not-all_known in
+    let e = refuses _ 44 0 out (writing_no_room c.args.text.now (length out) (omega arith) h (omega arith)) in
+    record { answer = e.0; buffer = e.1 }
 
 pub put-requires : goal.put-requires
 put-requires c =
-    (c.turned_chart-values.ensures, known_text (text (goal.at.put-requires c).After-all_known) (good (goal.at.put-requires c).Else-not-all_known), omega arith)
+    (c.turned_chart-values.ensures, known_text c.args.text.now (good (goal.at.put-requires c).Else-not-all_known), omega arith)
 
 pub returns : goal.returns
 returns c =
-    let t = text (goal.at.returns c).After-all_known in
-    gives _ _ _ _ _ (writing_done t _ (omega arith) (good (goal.at.returns c).Else-not-all_known) (omega arith)) (omega (arith, length_publish t))
-    c.put.ensures
-    -- LOOK record answer buffer
+    let t = c.args.text.now in
+    let out = c.args.out.now in
+    let h = good (goal.at.returns c).Else-not-all_known in
+    let e =
+    gives _ _ (c.threes-size.result * 2) out c.put.new.out (writing_done t (length out) (omega arith) h (omega arith))
+    (omega (arith, length_publish t)) c.put.ensures in
+    record { answer = e.0; buffer = e.1 }

@@ -28,10 +28,10 @@ abbrev entry : At-loop-i → List ℕ
 entry c = c.args.bytes.now
 
 all : (c : At-loop-i) → Bytes (text c)
-all c i = (c.shared_slice_known-1.given i).fits
+all c i = (c.type_inv.text i).fits
 
 fits : (c : At-loop-i) → width (length (text c)) ≤ length (entry c)
-fits c = omega (arith, c.requires.1)
+fits c = omega (arith, c.requires.room)
 
 -- an entry of the table, by what was looked up
 module _ (c : At-loop-i) where
@@ -39,34 +39,32 @@ module _ (c : At-loop-i) where
   value code = get_or c.args.values.now code 0
 
   found : (i code : ℕ) → code ≡ get_or (text c) i 0 → value code ≡ get_or turned (get_or (text c) i 0) 0
-  found i code e = looked _ _ _ c.requires.0 e
+  found i code e = looked _ _ _ c.requires.table e
 
   most : (i code : ℕ) → code ≡ get_or (text c) i 0 → (x : ℕ) → x ≡ value code → x < 129
   most i code e x f = omega (arith, found_most _ _ (all c i) (found i code e))
 
 most-first : (c : After-wide-in-loop-i-3) → c.wide-in-loop-i-3.result < 129
 most-first c =
-    let first = ((c)) in
-    most ((c)) _ _ first.wide.ensures c.wide-in-loop-i-3.result c.wide-in-loop-i-3.ensures
+    most (goal.at.After-wide-in-loop-i-3 c).At-loop-i _ _ c.wide.ensures c.wide-in-loop-i-3.result c.wide-in-loop-i-3.ensures
 
 most-second : (c : After-wide-in-loop-i-4) → c.wide-in-loop-i-4.result < 129
 most-second c =
-    most (c) _ _ c.wide-in-loop-i.ensures c.wide-in-loop-i-4.result c.wide-in-loop-i-4.ensures
+    most (goal.at.After-wide-in-loop-i-4 c).At-loop-i _ _ c.wide-in-loop-i.ensures c.wide-in-loop-i-4.result c.wide-in-loop-i-4.ensures
 
 most-third : (c : After-wide-in-loop-i-5) → c.wide-in-loop-i-5.result < 129
 most-third c =
-    most (c) _ _ c.wide-in-loop-i-2.ensures c.wide-in-loop-i-5.result c.wide-in-loop-i-5.ensures
+    most (goal.at.After-wide-in-loop-i-5 c).At-loop-i _ _ c.wide-in-loop-i-2.ensures c.wide-in-loop-i-5.result c.wide-in-loop-i-5.ensures
 
 -- the number that is put down
 packs :
     (c : After-wide-in-loop-i-5) →
-    let third = three c in
-    let on = from_three third in
+    let on = (goal.at.After-wide-in-loop-i-5 c).At-loop-i in
     1600 * c.wide-in-loop-i-3.result + 40 * c.wide-in-loop-i-4.result + c.wide-in-loop-i-5.result + 1
     ≡ packed_of
-    (value on (on_second (on_third third)).wide.result)
-    (value on (on_third third).wide-in-loop-i.result)
-    (value on third.wide-in-loop-i-2.result)
+    (value on c.wide.result)
+    (value on c.wide-in-loop-i.result)
+    (value on c.wide-in-loop-i-2.result)
 packs c = omega (arith, c.wide-in-loop-i-3.ensures, c.wide-in-loop-i-4.ensures, c.wide-in-loop-i-5.ensures)
 
 pub loop-i-init : goal.loop-i-init
@@ -88,7 +86,7 @@ pub bounds-text-i-in-loop-i : goal.bounds-text-i-in-loop-i
 bounds-text-i-in-loop-i c = omega arith
 
 pub bounds-values-wide-in-loop-i : goal.bounds-values-wide-in-loop-i
-bounds-values-wide-in-loop-i c = let on = (c) in omega (arith, all (goal.at.bounds-values-wide-in-loop-i c).At-loop-i (on.loop-i.i + 1))
+bounds-values-wide-in-loop-i c = let on = (goal.at.bounds-values-wide-in-loop-i c).At-loop-i in omega (arith, all (goal.at.bounds-values-wide-in-loop-i c).At-loop-i (on.loop-i.i + 1))
 
 pub overflow_add-i-in-loop-i-2 : goal.overflow_add-i-in-loop-i-2
 overflow_add-i-in-loop-i-2 c = omega arith
@@ -97,7 +95,7 @@ pub bounds-text-i-in-loop-i-2 : goal.bounds-text-i-in-loop-i-2
 bounds-text-i-in-loop-i-2 c = omega arith
 
 pub bounds-values-wide-in-loop-i-2 : goal.bounds-values-wide-in-loop-i-2
-bounds-values-wide-in-loop-i-2 c = let on = ((c)) in omega (arith, all (goal.at.bounds-values-wide-in-loop-i-2 c).At-loop-i (on.loop-i.i + 2))
+bounds-values-wide-in-loop-i-2 c = let on = (goal.at.bounds-values-wide-in-loop-i-2 c).At-loop-i in omega (arith, all (goal.at.bounds-values-wide-in-loop-i-2 c).At-loop-i (on.loop-i.i + 2))
 
 pub overflow_mul-wide : goal.overflow_mul-wide
 overflow_mul-wide c = omega (arith, most-first c)
@@ -116,9 +114,9 @@ overflow_add-wide-in-loop-i-2 c = omega (arith, most-first (goal.at.overflow_add
 
 pub put_number-requires : goal.put_number-requires
 put_number-requires c =
-    let on = (c) in
+    let on = (goal.at.put_number-requires c).At-loop-i in
     let room = passed_room on.loop-i.invariant (fits (goal.at.put_number-requires c).At-loop-i) (omega arith) in
-    (passed_kept on.loop-i.invariant (fits (goal.at.put_number-requires c).At-loop-i) ∙ on.requires.1.0, omega (arith, on.requires.1))
+    (passed_kept on.loop-i.invariant (fits (goal.at.put_number-requires c).At-loop-i) ∙ on.requires.room.0, omega (arith, on.requires.room))
 
 pub overflow_add-i-in-loop-i-3 : goal.overflow_add-i-in-loop-i-3
 overflow_add-i-in-loop-i-3 c = omega arith
@@ -132,31 +130,16 @@ loop-i-smaller c = omega arith
 pub loop-i-preserved : goal.loop-i-preserved
 loop-i-preserved c =
     passed_more c.loop-i.invariant (all (goal.at.loop-i-preserved c).At-loop-i) (omega arith) _ _ _
-    (found c _ _ c.wide.ensures) (found c _ _ c.wide-in-loop-i.ensures) (found c _ _ c.wide-in-loop-i-2.ensures)
+    (found (goal.at.loop-i-preserved c).At-loop-i _ _ c.wide.ensures) (found (goal.at.loop-i-preserved c).At-loop-i _ _ c.wide-in-loop-i.ensures) (found (goal.at.loop-i-preserved c).At-loop-i _ _ c.wide-in-loop-i-2.ensures)
     _ (c.put_number.ensures ∙ ap (λ n. over c.loop-i.bytes c.loop-i.at (be 2 n)) (packs (goal.at.loop-i-preserved c).After-wide-in-loop-i-5))
     (passed_room c.loop-i.invariant (fits (goal.at.loop-i-preserved c).At-loop-i) (omega arith))
 
 pub returns-then-marks-ge128 : goal.returns-then-marks-ge128
 returns-then-marks-ge128 c = record { good = λ e. absurd (not_true e); put = λ e. absurd (not_true e) }
 
--- GONE overflow-sub-put-left
-
-pub MISSING-overflow-sub-put-left : goal.MISSING-overflow-sub-put-left
-MISSING-overflow-sub-put-left c = c.loop-i.invariant.inside
-
--- GONE slice-bounds-put-left-start
-
-pub MISSING-slice-bounds-put-left-start : goal.MISSING-slice-bounds-put-left-start
-MISSING-slice-bounds-put-left-start c = c.loop-i.invariant.inside
-
--- GONE slice-bounds-put-left-end
-
-pub MISSING-slice-bounds-put-left-end : goal.MISSING-slice-bounds-put-left-end
-MISSING-slice-bounds-put-left-end c = omega arith
-
 pub put_left-requires : goal.put_left-requires
 put_left-requires c =
-    let left = passed_left c.loop-i.invariant (fits (goal.at.put_left-requires c).At-loop-i) (omega arith) _ (to_end (text (goal.at.put_left-requires c).At-loop-i) c.loop-i.i) in record { table = c.requires.0; room = (passed_kept c.loop-i.invariant (fits (goal.at.put_left-requires c).At-loop-i) ∙ c.requires.1.0, left.0, omega (arith, c.requires.1)) }
+    let left = passed_left c.loop-i.invariant (fits (goal.at.put_left-requires c).At-loop-i) (omega arith) _ (to_end (text (goal.at.put_left-requires c).At-loop-i) c.loop-i.i) in record { table = c.requires.table; room = (passed_kept c.loop-i.invariant (fits (goal.at.put_left-requires c).At-loop-i) ∙ c.requires.room.0, left.0, omega (arith, c.requires.room)) }
 
 pub returns : goal.returns
 returns c =

@@ -1,4 +1,5 @@
 -- `put_text` meets its contract. The loop's invariant: the characters passed are judged by their marks together, and with no mark their
+-- form stands in `bytes`.
 use borrow.Author.Rules.{rules}
 use native.Mathlib.Omega.{arith}
 use mathlib.Core.Path.{◌≡◌, ap, ◌∙◌}

@@ -2,7 +2,6 @@
 -- that led there.
 -- Assumes nothing.
 use borrow.Author.Rules.{rules}
-use borrow.Author.Tests.{not-false}
 use native.Mathlib.Omega.{arith}
 use mathlib.Core.Path.{◌≡◌, ◌∙◌, sym, ap}
 use Prim.Native.Nat.{ℕ, ◌*◌, ◌≤◌}
@@ -34,25 +33,30 @@ abbrev bytes : After-put_text → List ℕ
 bytes c = c.put_text.new.bytes
 
 -- all is known, and its form stands in the memory
-good : (c : Else-not-put_text) → length (text c) ≤ known (text c)
-good c = omega (arith, text_known (text (goal.at.Else-not-put_text c).After-put_text) (c.put_text.ensures.good (not-false _ c.if-not-put_text.false)))
+good : (c : Else-not-put_text) → length c.args.text.now ≤ known c.args.text.now
+good c = omega (arith, text_known (text (goal.at.Else-not-put_text c).After-put_text) (c.put_text.ensures.good c.if-not-put_text.false))
 
-put : (c : Else-not-put_text) → bytes c ≡ over blank 0 (publish (text c))
-put c = c.put_text.ensures.put (not-false _ c.if-not-put_text.false)
+put : (c : Else-not-put_text) → c.put_text.new.bytes ≡ over blank 0 (publish c.args.text.now)
+put c = c.put_text.ensures.put c.if-not-put_text.false
 
-fits : (c : Else-not-put_text) → width (length (text c)) ≤ length blank
+fits : (c : Else-not-put_text) → width (length c.args.text.now) ≤ length blank
 fits c = omega (arith, length-replicate {A = ℕ} 4096 0)
 
-kept : (c : Else-not-put_text) → length (bytes c) ≡ 4096
+kept : (c : Else-not-put_text) → length c.put_text.new.bytes ≡ 4096
 kept c = whole_kept (text (goal.at.Else-not-put_text c).After-put_text) blank (bytes (goal.at.Else-not-put_text c).After-put_text) (fits c) (put c) ∙ length-replicate {A = ℕ} 4096 0
 
 pub returns-then-n-gt6144 : goal.returns-then-n-gt6144
-returns-then-n-gt6144 c = refuses _ 45 0 _ (writing_long _ _ (omega arith))
-    -- LOOK record answer buffer
+returns-then-n-gt6144 c =
+    let room = c.args.out.now in
+    let e = refuses _ 45 0 room (writing_long c.args.text.now (length room) (omega arith)) in
+    record { answer = e.0; buffer = e.1 }
 
 pub returns-then-out-size : goal.returns-then-out-size
-returns-then-out-size c = refuses _ 44 0 _ (writing_no_room _ _ (omega arith) (good (goal.at.returns-then-out-size c).Else-not-put_text) (omega arith))
-    -- LOOK record answer buffer
+returns-then-out-size c =
+    let room = c.args.out.now in
+    let h = good (goal.at.returns-then-out-size c).Else-not-put_text in
+    let e = refuses _ 44 0 room (writing_no_room c.args.text.now (length room) (omega arith) h (omega arith)) in
+    record { answer = e.0; buffer = e.1 }
 
 pub slice_bounds-bytes-end : goal.slice_bounds-bytes-end
 slice_bounds-bytes-end c = omega (arith, kept (goal.at.slice_bounds-bytes-end c).Else-not-put_text)
@@ -68,8 +72,11 @@ returns c =
     let t = text (goal.at.returns c).After-put_text in
     let size = c.threes-size.result * 2 in
     let form = whole_form t blank (bytes (goal.at.returns c).After-put_text) (fits (goal.at.returns c).Else-not-put_text) (put (goal.at.returns c).Else-not-put_text) size (omega arith) in
-    gives _ (publish t) size _ _ (writing_done t _ (omega arith) (good (goal.at.returns c).Else-not-put_text) (omega arith)) (omega (arith, length_publish t))
-    (c.copy.ensures.buffer
-    ∙ ap (λ s. copied s (out (goal.at.returns c).After-put_text) 0) form
-    ∙ sym (copied_all (publish t) (out (goal.at.returns c).After-put_text) 0 (omega (arith, length_publish t))))
-    -- LOOK record answer buffer
+    let to = c.args.out.now in
+    let h = good (goal.at.returns c).Else-not-put_text in
+    let many = length_publish t in
+    let put =
+    c.copy.ensures.buffer ∙ ap (λ s. copied s to 0) form ∙ sym (copied_all (publish t) to 0 (omega (arith, many))) in
+    let e =
+    gives _ (publish t) size to c.copy.new.out (writing_done t (length to) (omega arith) h (omega arith)) (omega (arith, many)) put in
+    record { answer = e.0; buffer = e.1 }

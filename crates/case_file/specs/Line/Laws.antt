@@ -1,6 +1,6 @@
 -- What numbers and bytes are put down as, in the turns of the loops that do it.
 -- Assumes nothing.
-use Rattle.std.specs.Prelude.{ℕ, suc, ◌+◌, ◌*◌, ◌-◌, ◌/◌, ◌%◌, ◌<◌, ◌≡◌, refl, List, [], ◌∷◌, ◌++◌, length, get_or, take, drop}
+use Rattle.std.specs.Prelude.{ℕ, suc, ◌+◌, ◌*◌, ◌/◌, ◌%◌, ◌<◌, ◌≡◌, refl, List, [], ◌∷◌, ◌++◌, length, get_or, take, drop}
 use Rattle.std.proofs.Common.{arith, suc-mul, ap, append_assoc, append-nil, add-one, take-suc, drop-cons}
 pub use Rattle.lines.specs.Line.Laws.{within_more, counts, put_none, put_more}
 use Rattle.format.specs.Hex.{hex_digit}

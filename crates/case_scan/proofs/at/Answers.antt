@@ -1,6 +1,5 @@
 -- `case_scan::at` meets its contract.
 -- Assumes nothing.
-use borrow.Author.Rules.{rules}
 use mathlib.Core.Path.{sym}
 use lib.ListN.{get_or-eq_default}
 use Rattle.case_scan.specs.Scan.Laws.{there}

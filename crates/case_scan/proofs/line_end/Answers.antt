@@ -2,10 +2,9 @@
 -- Assumes nothing.
 use native.Mathlib.Omega.{arith}
 use mathlib.Core.Path.{◌≡◌}
-use Prim.Native.Nat.{ℕ, ◌-◌, ◌≤◌, ◌<◌}
+use Prim.Native.Nat.{◌≤◌}
 use borrow.Author.Count.{below_more}
-use lib.ListN.{length, get_or}
-use Rattle.lines.specs.Line.{Within}
+use lib.ListN.{get_or}
 use Rattle.case_scan.proofs.line_end.Goals as goal
 
 pub loop-i-init : goal.loop-i-init

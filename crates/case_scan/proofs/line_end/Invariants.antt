@@ -1,8 +1,6 @@
 -- `case_scan::line_end` meets its contract. The loop's invariant: no newline stands before `i`.
-use native.Mathlib.Omega.{arith}
 use mathlib.Core.Path.{◌≡◌}
 use Prim.Native.Nat.{ℕ, ◌-◌, ◌≤◌, ◌<◌}
-use borrow.Author.Count.{below_more}
 use lib.ListN.{length, get_or}
 use Rattle.lines.specs.Line.{Within}
 use Rattle.case_scan.proofs.line_end.Given as goal

@@ -1,12 +1,9 @@
 -- `case_scan::number` meets its contract. The loop's invariant: the digits before `i` stand for `value`.
 -- Assumes nothing.
-use borrow.Author.Rules.{rules}
 use native.Mathlib.Omega.{arith}
-use Prim.Native.Nat.{ℕ, ◌-◌, ◌<◌}
+use Prim.Native.Nat.{ℕ}
 use mathlib.Core.List.{List}
-use lib.ListN.{length}
-use Rattle.case_scan.specs.Scan.{Numeral}
-use Rattle.case_scan.specs.Scan.Laws.{NumberTo, numeral_none, numeral_more, number_start, number_past, number_low, number_high}
+use Rattle.case_scan.specs.Scan.Laws.{numeral_none, numeral_more, number_start, number_past, number_low, number_high}
 use Rattle.case_scan.specs.Scan.Laws.{number_large, number_go}
 use Rattle.case_scan.proofs.number.Goals as goal
 use Rattle.case_scan.proofs.number.Goals.{At-loop-i}

@@ -1,13 +1,9 @@
 -- `case_scan::repeat` meets its contract. The loop's invariant: the pairs are put down k - 1 times.
 -- Assumes nothing.
-use borrow.Author.Rules.{rules}
 use native.Mathlib.Omega.{arith}
-use mathlib.Core.Path.{◌≡◌, refl, ◌∙◌}
-use Prim.Native.Nat.{◌-◌, ◌≤◌}
-use lib.ListN.{length}
-use Rattle.lines.specs.Line.{Put}
+use mathlib.Core.Path.{refl, ◌∙◌}
 use Rattle.lines.specs.Line.Laws.{put_none}
-use Rattle.case_scan.specs.Scan.{times, pairs_at}
+use Rattle.case_scan.specs.Scan.{times}
 use Rattle.case_scan.specs.Scan.Laws.{times_turn, times_done}
 use Rattle.case_scan.proofs.repeat.Goals as goal
 
@@ -21,16 +17,16 @@ overflow_add-k c = omega arith
 pub loop-k-smaller : goal.loop-k-smaller
 loop-k-smaller c = omega arith
 
-pub loop-k-preserved : goal.loop-k-preserved
-loop-k-preserved c = (
-  c.take_pairs-more.auto.1.1.0 ∙ c.loop-k.invariant.0,
-  omega arith,
-  omega arith,
-  times_turn _ c.loop-k.k c.loop-k.invariant.1 _ _ _ _ _ _ c.loop-k.invariant.3 c.loop-k.invariant.0 c.take_pairs-more.ensures.1,
-)
-
 pub shape_of-out : goal.shape_of-out
 shape_of-out c = c.loop-k.invariant.0
 
 pub returns : goal.returns
 returns c = times_done _ _ _ (omega arith) _ _ _ _ c.loop-k.invariant.3
+
+pub loop-k-preserved : goal.loop-k-preserved
+loop-k-preserved c = (
+  c.take_pairs-more.auto.out ∙ c.loop-k.invariant.0,
+  omega arith,
+  omega arith,
+  times_turn _ c.loop-k.k c.loop-k.invariant.1 _ _ _ _ _ _ c.loop-k.invariant.3 c.loop-k.invariant.0 c.take_pairs-more.ensures.1,
+)

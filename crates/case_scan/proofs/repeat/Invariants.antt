@@ -1,13 +1,9 @@
 -- `case_scan::repeat` meets its contract. The loop's invariant: the pairs are put down k - 1 times.
-use borrow.Author.Rules.{rules}
-use native.Mathlib.Omega.{arith}
-use mathlib.Core.Path.{◌≡◌, refl, ◌∙◌}
+use mathlib.Core.Path.{◌≡◌}
 use Prim.Native.Nat.{◌-◌, ◌≤◌}
 use lib.ListN.{length}
 use Rattle.lines.specs.Line.{Put}
-use Rattle.lines.specs.Line.Laws.{put_none}
 use Rattle.case_scan.specs.Scan.{times, pairs_at}
-use Rattle.case_scan.specs.Scan.Laws.{times_turn, times_done}
 use Rattle.case_scan.proofs.repeat.Given as goal
 
 abbrev pub invariant-loop-k : goal.invariant-loop-k

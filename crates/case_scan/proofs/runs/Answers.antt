@@ -1,14 +1,11 @@
 -- `case_scan::runs` meets its contract. The loop's invariant: the runs before `i` are put down.
 -- Assumes nothing.
-use borrow.Author.Rules.{rules}
 use native.Mathlib.Omega.{arith}
-use mathlib.Core.Path.{◌≡◌, refl, ◌∙◌}
-use Prim.Native.Nat.{ℕ, ◌+◌, ◌-◌, ◌≤◌}
-use mathlib.Core.List.{List, []}
-use lib.ListN.{length}
-use Rattle.lines.specs.Line.{Put}
+use mathlib.Core.Path.{refl, ◌∙◌}
+use Prim.Native.Nat.{◌+◌}
+use mathlib.Core.List.{[]}
 use Rattle.lines.specs.Line.Laws.{counts, put_none, put_more}
-use Rattle.case_scan.specs.Scan.Laws.{RunsTo, run_on, runs_start, runs_other, runs_ended, runs_go}
+use Rattle.case_scan.specs.Scan.Laws.{run_on, runs_start, runs_other, runs_ended, runs_go}
 use Rattle.case_scan.proofs.runs.Goals as goal
 
 pub loop-i-init : goal.loop-i-init
@@ -36,17 +33,6 @@ loop-i-smaller c =
     let e = c.take_run-run.ensures.0 in
     omega arith
 
-pub loop-i-preserved : goal.loop-i-preserved
-loop-i-preserved c = (
-  c.take_run-run.auto.1.1.0 ∙ c.loop-i.invariant.0,
-  omega (arith, c.take_run-run.ensures.1.within),
-  _,
-  runs_go c.args.s.now _ c.loop-i.i _ c.loop-i.invariant.3 c.args.out.now
-      0
-      (omega arith) c.if-s-i-ne32.false _ c.take_run-run.ensures.0,
-  put_more _ _ _ _ _ _ _ _ c.loop-i.invariant.4 c.loop-i.invariant.0 c.take_run-run.ensures.1,
-)
-
 pub shape_of-out : goal.shape_of-out
 shape_of-out c = c.loop-i.invariant.0
 
@@ -54,4 +40,15 @@ pub returns : goal.returns
 returns c = (
   counts _ _ (omega (arith, c.loop-i.invariant.0)),
   runs_ended c.args.s.now _ _ _ c.loop-i.invariant.3 _ _ _ _ c.loop-i.invariant.4 (omega arith),
+)
+
+pub loop-i-preserved : goal.loop-i-preserved
+loop-i-preserved c = (
+  c.take_run-run.auto.out ∙ c.loop-i.invariant.0,
+  omega (arith, c.take_run-run.ensures.1.within),
+  _,
+  runs_go c.args.s.now _ c.loop-i.i _ c.loop-i.invariant.3 c.args.out.now
+      0
+      (omega arith) c.if-s-i-ne32.false _ c.take_run-run.ensures.0,
+  put_more _ _ _ _ _ _ _ _ c.loop-i.invariant.4 c.loop-i.invariant.0 c.take_run-run.ensures.1,
 )

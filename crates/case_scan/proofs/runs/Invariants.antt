@@ -1,13 +1,10 @@
 -- `case_scan::runs` meets its contract. The loop's invariant: the runs before `i` are put down.
-use borrow.Author.Rules.{rules}
-use native.Mathlib.Omega.{arith}
-use mathlib.Core.Path.{◌≡◌, refl, ◌∙◌}
-use Prim.Native.Nat.{ℕ, ◌+◌, ◌-◌, ◌≤◌}
-use mathlib.Core.List.{List, []}
+use mathlib.Core.Path.{◌≡◌}
+use Prim.Native.Nat.{ℕ, ◌-◌, ◌≤◌}
+use mathlib.Core.List.{List}
 use lib.ListN.{length}
 use Rattle.lines.specs.Line.{Put}
-use Rattle.lines.specs.Line.Laws.{counts, put_none, put_more}
-use Rattle.case_scan.specs.Scan.Laws.{RunsTo, run_on, runs_start, runs_other, runs_ended, runs_go}
+use Rattle.case_scan.specs.Scan.Laws.{RunsTo}
 use Rattle.case_scan.proofs.runs.Given as goal
 
 abbrev pub invariant-loop-i : goal.invariant-loop-i

@@ -1,14 +1,11 @@
 -- `case_scan::take_pairs` meets its contract. The loop's invariant: the pairs before `i` are put down.
 -- Assumes nothing.
-use borrow.Author.Rules.{rules}
 use native.Mathlib.Omega.{arith}
-use mathlib.Core.Path.{◌≡◌, refl, ◌∙◌}
-use Prim.Native.Nat.{ℕ, ◌-◌, ◌<◌}
+use mathlib.Core.Path.{refl, ◌∙◌}
+use Prim.Native.Nat.{ℕ, ◌<◌}
 use mathlib.Core.List.{List, []}
-use lib.ListN.{length}
-use Rattle.lines.specs.Line.{Put}
 use Rattle.lines.specs.Line.Laws.{put_none, put_more}
-use Rattle.case_scan.specs.Scan.Laws.{PairsTo, pairs_none, pairs_past, pairs_no_high, pairs_no_low, pairs_more, pairs_turn}
+use Rattle.case_scan.specs.Scan.Laws.{pairs_none, pairs_past, pairs_no_high, pairs_no_low, pairs_more, pairs_turn}
 use Rattle.case_scan.specs.Scan.Laws.{pairs_done}
 use Rattle.case_scan.specs.Scan.Laws.{digit_small, digit_at}
 use Rattle.case_scan.proofs.take_pairs.Goals as goal
@@ -46,21 +43,12 @@ returns-then-low-eq16 c =
     _ _ _ _ c.loop-i.invariant.3
 
 -- both are digits
-small : (c : Else-low-eq16) → ((read_first c).hex_value-high.result < 16) × (c.hex_value-low.result < 16)
+small : (c : Else-low-eq16) → (c.hex_value-high.result < 16) × (c.hex_value-low.result < 16)
 small c =
     let high = c.at.result in
     let low = c.at-in-loop-i.result in
     let one = digit_small high _ c.hex_value-high.ensures c.if-high-eq16.false in
     (one, digit_small low _ c.hex_value-low.ensures c.if-low-eq16.false)
-
-pub overflow_mul-high : goal.overflow_mul-high
-overflow_mul-high c = omega (arith, small (goal.at.overflow_mul-high c).Else-low-eq16)
-
-pub overflow_add-high : goal.overflow_add-high
-overflow_add-high c = omega (arith, small (goal.at.overflow_add-high c).Else-low-eq16)
-
-pub overflow_cast-high : goal.overflow_cast-high
-overflow_cast-high c = omega (arith, small (goal.at.overflow_cast-high c).Else-low-eq16)
 
 pub overflow_add-i-in-loop-i : goal.overflow_add-i-in-loop-i
 overflow_add-i-in-loop-i c = omega arith
@@ -87,3 +75,12 @@ pub returns : goal.returns
 returns c =
     let s = text (goal.at.returns c).At-loop-i in
     pairs_done s _ c.loop-i.i _ c.loop-i.invariant.2 (pairs_past s c.loop-i.i (omega arith)) _ _ _ _ c.loop-i.invariant.3
+
+pub overflow_mul-high : goal.overflow_mul-high
+overflow_mul-high c = omega (arith, small (goal.at.overflow_mul-high c).Else-low-eq16)
+
+pub overflow_add-high : goal.overflow_add-high
+overflow_add-high c = omega (arith, small (goal.at.overflow_add-high c).Else-low-eq16)
+
+pub overflow_cast-high : goal.overflow_cast-high
+overflow_cast-high c = omega (arith, small (goal.at.overflow_cast-high c).Else-low-eq16)

@@ -1,15 +1,10 @@
 -- `case_scan::take_pairs` meets its contract. The loop's invariant: the pairs before `i` are put down.
-use borrow.Author.Rules.{rules}
-use native.Mathlib.Omega.{arith}
-use mathlib.Core.Path.{◌≡◌, refl, ◌∙◌}
-use Prim.Native.Nat.{ℕ, ◌-◌, ◌<◌}
-use mathlib.Core.List.{List, []}
+use mathlib.Core.Path.{◌≡◌}
+use Prim.Native.Nat.{ℕ, ◌-◌}
+use mathlib.Core.List.{List}
 use lib.ListN.{length}
 use Rattle.lines.specs.Line.{Put}
-use Rattle.lines.specs.Line.Laws.{put_none, put_more}
-use Rattle.case_scan.specs.Scan.Laws.{PairsTo, pairs_none, pairs_past, pairs_no_high, pairs_no_low, pairs_more, pairs_turn}
-use Rattle.case_scan.specs.Scan.Laws.{pairs_done}
-use Rattle.case_scan.specs.Scan.Laws.{digit_small, digit_at}
+use Rattle.case_scan.specs.Scan.Laws.{PairsTo}
 use Rattle.case_scan.proofs.take_pairs.Given as goal
 
 abbrev pub invariant-loop-i : goal.invariant-loop-i

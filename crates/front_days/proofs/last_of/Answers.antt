@@ -10,6 +10,3 @@ returns-in-4 c = last_thirty _ c.in-4.is
 
 pub returns-in-2 : goal.returns-in-2
 returns-in-2 c = ap last_of (sym c.in-2.is)
-
-pub returns-in_default : goal.returns-in_default
-returns-in_default c = last_other _ c.in_default.rest.0.1 c.in_default.rest.1

@@ -1,6 +1,5 @@
 -- `hex_bytes::put_byte` meets its contract: a space, the first digit, the last.
 -- Assumes nothing.
-use borrow.Author.Rules.{rules}
 use native.Mathlib.Omega.{arith}
 use mathlib.Core.Path.{◌≡◌, ap, ◌∙◌}
 use Prim.Native.Nat.{◌/◌, ◌%◌}

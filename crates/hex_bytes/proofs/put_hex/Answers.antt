@@ -1,12 +1,10 @@
 -- `hex_bytes::put_hex` meets its contract. The loop's invariant: the bytes up to `i` are put down.
 -- Assumes nothing.
-use borrow.Author.Rules.{rules}
 use native.Mathlib.Omega.{arith}
-use mathlib.Core.Path.{◌≡◌, refl, ◌∙◌}
-use Prim.Native.Nat.{◌-◌, ◌≤◌}
-use lib.ListN.{length, take}
+use mathlib.Core.Path.{refl, ◌∙◌}
+use Prim.Native.Nat.{◌≤◌}
+use lib.ListN.{length}
 use lib.Seq.{take_all}
-use Rattle.lines.specs.Line.{Put}
 use Rattle.lines.specs.Line.Laws.{put_none}
 use Rattle.hex_bytes.specs.Shown.{hex_bytes}
 use Rattle.hex_bytes.specs.Shown.Laws.{hex_turn}
@@ -26,12 +24,11 @@ pub loop-i-smaller : goal.loop-i-smaller
 loop-i-smaller c = omega arith
 
 pub loop-i-preserved : goal.loop-i-preserved
-loop-i-preserved c =
-    let call = c.put_byte-o in (
-      omega arith,
-      call.kept.0 ∙ c.loop-i.invariant.1,
-      hex_turn c.args.bytes.now _ _ c.loop-i.i (omega arith) _ _ c.loop-i.invariant.1 _ _ c.loop-i.invariant.2 call.ensures,
-    )
+loop-i-preserved c = (
+  omega arith,
+  c.put_byte-o.auto.out ∙ c.loop-i.invariant.1,
+  hex_turn c.args.bytes.now _ _ c.loop-i.i (omega arith) _ _ c.loop-i.invariant.1 _ _ c.loop-i.invariant.2 c.put_byte-o.ensures,
+)
 
 pub shape_of-out : goal.shape_of-out
 shape_of-out c = c.loop-i.invariant.1

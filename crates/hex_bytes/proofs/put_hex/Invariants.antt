@@ -1,14 +1,9 @@
 -- `hex_bytes::put_hex` meets its contract. The loop's invariant: the bytes up to `i` are put down.
-use borrow.Author.Rules.{rules}
-use native.Mathlib.Omega.{arith}
-use mathlib.Core.Path.{◌≡◌, refl, ◌∙◌}
+use mathlib.Core.Path.{◌≡◌}
 use Prim.Native.Nat.{◌-◌, ◌≤◌}
 use lib.ListN.{length, take}
-use lib.Seq.{take_all}
 use Rattle.lines.specs.Line.{Put}
-use Rattle.lines.specs.Line.Laws.{put_none}
 use Rattle.hex_bytes.specs.Shown.{hex_bytes}
-use Rattle.hex_bytes.specs.Shown.Laws.{hex_turn}
 use Rattle.hex_bytes.proofs.put_hex.Given as goal
 
 abbrev pub invariant-loop-i : goal.invariant-loop-i

@@ -1,16 +1,11 @@
 -- `hex_bytes::put_more` meets its contract: there are none, or the words are put down around their number.
 -- Assumes nothing.
-use borrow.Author.Rules.{rules}
 use Rattle.lines.specs.Line.Laws.{put_none, put_more}
 use Rattle.hex_bytes.specs.Shown.Laws.{more_none, more_some}
 use Rattle.hex_bytes.proofs.put_more.Goals as goal
 
 pub returns-then-more-eq0 : goal.returns-then-more-eq0
 returns-then-more-eq0 c = rw (more_none _ c.if-more-eq0.true) (put_none _ _)
-
--- GONE slice-aggregate-put-text
-
--- GONE slice-aggregate-put-text-2
 
 pub returns : goal.returns
 returns c =

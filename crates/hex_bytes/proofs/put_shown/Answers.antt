@@ -1,14 +1,11 @@
 -- `hex_bytes::put_shown` meets its contract: there are none, or fewer than sixteen, or as many and maybe more.
 -- Assumes nothing.
-use borrow.Author.Rules.{rules}
 use native.Mathlib.Omega.{arith}
-use mathlib.Core.Path.{◌≡◌, sym}
+use mathlib.Core.Path.{sym}
 use lib.Seq.{length-take-le}
 use Rattle.lines.specs.Line.Laws.{put_more}
 use Rattle.hex_bytes.specs.Shown.Laws.{shown_none, shown_some, shown_all}
 use Rattle.hex_bytes.proofs.put_shown.Goals as goal
-
--- GONE slice-aggregate-put-text
 
 pub returns-then-size-eq0 : goal.returns-then-size-eq0
 returns-then-size-eq0 c =

@@ -11,37 +11,23 @@ use Rattle.integers.specs.Calls.{content}
 use Rattle.integers.specs.Exact.{small_reads, not_small}
 use borrow.Author.Rules.{rules}
 use Rattle.integers_read.proofs.read.Goals as goal
-use Rattle.integers_read.proofs.read.Goals.{After-shared_slice_known-1}
-
--- the bytes of the entry
-abbrev string : After-shared_slice_known-1 → List ℕ
-string c = c.args.s.now
-
-bytes : (c : After-shared_slice_known-1) → Bytes (string c)
-bytes c i = (c.shared_slice_known-1.given i).fits
 
 pub returns-then-n-lt3 : goal.returns-then-n-lt3
-returns-then-n-lt3 c = sym (not_small _ (bytes (goal.at.returns-then-n-lt3 c).After-shared_slice_known-1) (λ z some few e. omega (arith, ap length e)))
+returns-then-n-lt3 c = sym (not_small _ (λ i. (c.type_inv.s i).fits) (λ z some few e. omega (arith, ap length e)))
 
 pub returns-then-n-gt10 : goal.returns-then-n-gt10
-returns-then-n-gt10 c = sym (not_small _ (bytes (goal.at.returns-then-n-gt10 c).After-shared_slice_known-1) (λ z some few e. omega (arith, ap length e)))
+returns-then-n-gt10 c = sym (not_small _ (λ i. (c.type_inv.s i).fits) (λ z some few e. omega (arith, ap length e)))
 
 pub returns-then-s-ne2 : goal.returns-then-s-ne2
-returns-then-s-ne2 c = sym (not_small _ (bytes (goal.at.returns-then-s-ne2 c).After-shared_slice_known-1) (λ z some few e. c.if-s-ne2.true (ap (λ t. get_or t 0 0) e)))
+returns-then-s-ne2 c = sym (not_small _ (λ i. (c.type_inv.s i).fits) (λ z some few e. c.if-s-ne2.true (ap (λ t. get_or t 0 0) e)))
 
 pub returns-then-wide-n : goal.returns-then-wide-n
 returns-then-wide-n c =
-    sym (not_small _ (bytes (goal.at.returns-then-wide-n c).After-shared_slice_known-1) (λ z some few e. omega (arith, c.wide.ensures, ap length e, ap (λ t. get_or t 1 0) e)))
-
--- GONE overflow-sub-value-of
-
--- GONE slice-bounds-value-of-start
-
--- GONE slice-bounds-value-of-end
+    sym (not_small _ (λ i. (c.type_inv.s i).fits) (λ z some few e. omega (arith, c.wide.ensures, ap length e, ap (λ t. get_or t 1 0) e)))
 
 pub returns : goal.returns
 returns c =
-    let s = string (goal.at.returns c).After-shared_slice_known-1 in
+    let s = c.args.s.now in
     c.value_of.ensures
     ∙ ap content (take_all (length s - 2) (drop 2 s) (omega (arith, length-drop 2 s)))
     ∙ sym (small_reads s (omega arith) (omega arith) (omega arith) (omega (arith, c.wide.ensures)))

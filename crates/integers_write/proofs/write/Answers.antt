@@ -16,29 +16,24 @@ use Rattle.integers_write.proofs.write.Goals.{After-start_of-start}
 -- the eight bytes, and where their shortest form starts
 from :
     (c : After-start_of-start) →
-    ((made c).bytes_of-bytes.result ≡ be 8 (word (start c).args.v))
+    (c.bytes_of-bytes.result ≡ be 8 (word c.args.v))
     × (c.start_of-start.result < 8)
-    × (shortest (made c).bytes_of-bytes.result ≡ drop c.start_of-start.result (made c).bytes_of-bytes.result)
+    × (shortest c.bytes_of-bytes.result ≡ drop c.start_of-start.result c.bytes_of-bytes.result)
 from c = (
   c.bytes_of-bytes.ensures ∙ ap (be 8) (c.word.ensures ∙ ap word (to_z-of_z c.ranges.v)),
   c.start_of-start.ensures.0,
   c.start_of-start.ensures.1,
 )
 
-pub returns-then-out-size : goal.returns-then-out-size
-returns-then-out-size c =
-    let a = c.args in
-    let f = from (goal.at.returns-then-out-size c).After-start_of-start in no_room a.v _ _ f.0 f.1 f.2 a.out.now (omega arith)
-    -- LOOK record answer buffer
-
 pub bounds-out-1 : goal.bounds-out-1
 bounds-out-1 c = simp length-set (omega arith)
 
--- GONE overflow-sub-copy
-
--- GONE slice-bounds-copy-start
-
--- GONE slice-bounds-copy-end
+pub returns-then-out-size : goal.returns-then-out-size
+returns-then-out-size c =
+    let a = c.args in
+    let f = from (goal.at.returns-then-out-size c).After-start_of-start in
+    let w = no_room a.v _ _ f.0 f.1 f.2 a.out.now (omega arith) in
+    record { answer = w.0; buffer = w.1 }
 
 pub shape_of-out : goal.shape_of-out
 shape_of-out c =
@@ -50,5 +45,5 @@ pub returns : goal.returns
 returns c =
     let a = c.args in
     let f = from (goal.at.returns c).After-start_of-start in
-    written a.v _ _ f.0 f.1 f.2 a.out.now (omega (arith, c.if-out-size.false)) _ c.copy.ensures.buffer
-    -- LOOK record answer buffer
+    let w = written a.v _ _ f.0 f.1 f.2 a.out.now (omega (arith, c.if-out-size.false)) _ c.copy.ensures.buffer in
+    record { answer = w.0; buffer = w.1 }

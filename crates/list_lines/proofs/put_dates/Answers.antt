@@ -1,17 +1,8 @@
 -- `list_lines::put_dates` meets its contract: a line for each field.
 -- Assumes nothing.
-use borrow.Author.Rules.{rules}
 use Rattle.lines.specs.Line.Laws.{put_more}
 use Rattle.list_lines.specs.ListLine.{date_lines}
 use Rattle.list_lines.proofs.put_dates.Goals as goal
-
--- GONE slice-aggregate-put-day
-
--- GONE slice-aggregate-put-day-2
-
--- GONE slice-aggregate-put-counted
-
--- GONE slice-aggregate-put-counted-2
 
 pub returns : goal.returns
 unfolding date_lines

@@ -1,6 +1,5 @@
 -- `list_lines::put_names` meets its contract: a line for each field. A country has three characters.
 -- Assumes nothing.
-use borrow.Author.Rules.{rules}
 use native.Mathlib.Omega.{arith}
 use mathlib.Core.Path.{◌≡◌}
 use Prim.Native.Nat.{◌≤◌}
@@ -10,19 +9,10 @@ use Rattle.lines.specs.Line.Laws.{put_more}
 use Rattle.list_lines.specs.ListLine.{name_lines}
 use Rattle.list_lines.proofs.put_names.Goals as goal
 
--- GONE slice-aggregate-put-counted
-
--- GONE slice-aggregate-put-named-2
-
--- GONE slice-aggregate-put-named-3
-
--- GONE slice-aggregate-put-named-4
-
 pub returns : goal.returns
 unfolding name_lines
 returns c =
-    let code = c.args.t4 in
-    let three = slice-aggregate-put-named-2 c in
+    let code = c.args.country in
     let short : length code ≤ 3 = omega arith in
     let all : take 3 code ≡ code = take_all 3 code short in
     put_more _ _ _ _ _ _ _ _ c.put_counted-o.ensures c.put_counted-o.auto.out

@@ -1,13 +1,8 @@
 -- `list_lines::put_refused` meets its contract: the name, the number, the place, a newline.
 -- Assumes nothing.
-use borrow.Author.Rules.{rules}
 use mathlib.Core.List.{append_assoc}
 use Rattle.lines.specs.Line.Laws.{put_more}
 use Rattle.list_lines.proofs.put_refused.Goals as goal
-
--- GONE slice-aggregate-put-text
-
--- GONE slice-aggregate-put-text-2
 
 pub returns : goal.returns
 returns c =

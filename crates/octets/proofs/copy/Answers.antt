@@ -62,6 +62,9 @@ shape_of-out c = kept (goal.at.shape_of-out c).At-loop-i
 
 pub returns : goal.returns
 returns c =
-    let a = c.args in record { place = reached_all a.from.now a.out.now a.at (omega arith); buffer = c.loop-i.invariant.1
+    let a = c.args in record {
+      place = reached_all a.from.now a.out.now a.at (omega arith);
+      buffer = c.loop-i.invariant.1
           ∙ ap (over a.out.now a.at) (take_all c.loop-i.i a.from.now (omega arith))
-          ∙ copied_all a.from.now a.out.now a.at (omega arith) }
+          ∙ copied_all a.from.now a.out.now a.at (omega arith);
+    }

@@ -1,6 +1,5 @@
 -- `pages::digit` meets its contract.
 -- Assumes nothing.
-use borrow.Author.Rules.{rules}
 use native.Mathlib.Omega.{arith}
 use lib.ListN.{get_or-eq_default}
 use Rattle.pages.proofs.digit.Goals as goal
@@ -15,4 +14,4 @@ returns-then-b-lt48 c = record { value = omega arith; small = omega arith }
 
 pub returns : goal.returns
 returns c =
-    record { value = omega (arith, c.wide.ensures); small = omega (arith, c.wide.ensures, c.shared_slice_known-2-1.given c.args.i) }
+    record { value = omega (arith, c.wide.ensures); small = omega (arith, c.wide.ensures, c.type_inv.line c.args.i) }

@@ -1,10 +1,6 @@
 -- `pages::line_end` meets its contract. The loop's invariant: the line ends where it ends from `i` on.
 -- Assumes nothing.
 use native.Mathlib.Omega.{arith}
-use mathlib.Core.Path.{◌≡◌}
-use Prim.Native.Nat.{◌+◌, ◌-◌}
-use lib.ListN.{length, drop}
-use Rattle.pages.specs.Page.{line_size}
 use Rattle.pages.specs.Page.Laws.{size_here, size_on, size_end}
 use Rattle.pages.proofs.line_end.Goals as goal
 

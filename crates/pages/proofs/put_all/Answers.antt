@@ -1,6 +1,5 @@
 -- `pages::put_all` meets its contract: all of the words copied, or nothing.
 -- Assumes nothing.
-use borrow.Author.Rules.{rules}
 use native.Mathlib.Omega.{arith}
 use Rattle.pages.specs.Calls.Laws.{not_said, said_all}
 use Rattle.pages.proofs.put_all.Goals as goal

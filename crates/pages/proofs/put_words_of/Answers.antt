@@ -1,6 +1,5 @@
 -- `pages::put_words_of` meets its contract: what is put down is what was found.
 -- Assumes nothing.
-use borrow.Author.Rules.{rules}
 use Rattle.pages.proofs.put_words_of.Goals as goal
 
 pub returns : goal.returns

@@ -1,12 +1,8 @@
 -- `pages::words_in` meets its contract. The loop's invariant: the words are those that are found from `at` on.
-use native.Mathlib.Omega.{arith}
-use borrow.Author.Rules.{rules}
-use mathlib.Core.Path.{◌≡◌, refl, sym, ap₂, ◌∙◌}
-use Prim.Native.Nat.{◌+◌, ◌*◌, ◌-◌}
-use lib.ListN.{length, drop, take}
-use Rattle.format.specs.Places.{past_end, to_end}
-use Rattle.pages.specs.Page.{line_for, code_of}
-use Rattle.pages.specs.Page.Laws.{Turn, turn, at_end}
+use mathlib.Core.Path.{◌≡◌}
+use Prim.Native.Nat.{◌-◌}
+use lib.ListN.{length, drop}
+use Rattle.pages.specs.Page.{line_for}
 use Rattle.pages.proofs.words_in.Given as goal
 
 abbrev pub invariant-loop-at : goal.invariant-loop-at

@@ -6,13 +6,10 @@ use borrow.Author.Rules.{rules}
 use native.Mathlib.Omega.{arith}
 use mathlib.Core.Path.{◌≡◌, ◌∙◌, refl, ap, sym}
 use Prim.Native.Nat.{ℕ, ◌-◌, ◌≤◌, ◌<◌}
-use mathlib.Core.List.{List}
-use mathlib.Core.Logic.{⊎_elim}
 use lib.Bits.{mask_lt}
 use lib.ListN.{get_or}
 use borrow.Author.Count.{below_none, below_more}
 use Rattle.format.specs.Bytes.{Bytes}
-use Rattle.grammar.specs.Content.{Version}
 use Rattle.verdict.specs.Items.{is, byte, plain_in, feature_length}
 use Rattle.causes.specs.declared.Item.TheVariants as item
 use Rattle.read_items.specs.Meaning.{byte_of, whole_of, number_of, refused}
@@ -21,13 +18,7 @@ use Rattle.read_features.proofs.Turn.{Kept, kept_start, kept_cut, kept_end, kept
 use Rattle.read_features.proofs.Turn.{byte_small, Marked, marked_start, marked_none, marked_more}
 use Rattle.read_features.proofs.Turn.{new_unsized, new_small, new_room, new_short, new_more}
 use Rattle.read_features.proofs.read_features.Goals as goal
-use Rattle.read_features.proofs.read_features.Goals.{At-rows, In-Is, In-Is-length, In-Past, Joined-marks-word-eq1}
-
-abbrev seal_at : At-rows → List ℕ
-seal_at c = c.args.seal.now
-
-abbrev version_at : At-rows → Version
-version_at c = c.args.version
+use Rattle.read_features.proofs.read_features.Goals.{In-Is, In-Is-length, Joined-marks-word-eq1, then-marks-word-eq1+else-loop-i-test, else-marks-word-eq1}
 
 abbrev tag : In-Is → ℕ
 tag c = c.in-Is.tag
@@ -37,40 +28,41 @@ next c = c.in-Is.next.place
 
 -- the tag that was read
 tag_read : (c : In-Is) →
-    let on = on_rows c in
-    is (tag c) (next c) ≡ byte on.rows.at (seal_at on) (plain_in on.rows.at)
+    is (tag c) (next c) ≡ byte c.rows.at c.args.seal.now (plain_in c.rows.at)
 tag_read c = sym (ap (byte_of _) c.in-Is.is) ∙ c.byte.ensures
 
 -- it is a byte
 small : (c : In-Is) → tag c < 256
 small c =
-    byte_small (seal_at (goal.at.In-Is c).At-rows) c.rows.at _ _ (tag_read c) (λ i. (c.shared_slice_known-1.given i).fits)
+    byte_small c.args.seal.now c.rows.at _ _ (tag_read c) (λ i. (c.type_inv.seal i).fits)
 
 -- it is new, where none of the earlier ones is the same or it has no mark
 new : (c : Joined-marks-word-eq1) →
-    let told = c in
-    let on = on_rows told in
-    New (version_at on) (seal_at on) (start on).args.start.place on.rows.tags on.rows.count on.rows.at (tag told) (next told)
+    New c.args.version c.args.seal.now c.args.start.place c.rows.tags c.rows.count c.rows.at c.in-Is.tag c.in-Is.next.place
 new c =
     record {
       kept = c.rows.invariant.0;
       read = tag_read (goal.at.Joined-marks-word-eq1 c).In-Is;
       other = c.if-tag-eq255.false;
       none = λ k h.
-          ⊎_elim (λ way. way.1.invariant.1 k (omega (arith, way.2.left))) (λ way. marked_none c.rows.invariant.1 _ way.left k h)
-          c.if-marks-word-eq1.branch;
+          elim c.if-marks-word-eq1.branch [
+            | then-marks-word-eq1+else-loop-i-test w ↦ w.loop-i.invariant.1 k (omega (arith, w.loop-i-test.false))
+            | else-marks-word-eq1 w ↦ marked_none c.rows.invariant.1 _ w.if-marks-word-eq1.false k h
+          ];
     }
 
 -- its length
 size-read : (c : In-Is-length) →
-    let told = (on_new c) in
-    let on = on_rows told in
-    is c.in-Is-length.size c.in-Is-length.value.place ≡ feature_length (version_at on) (next told) (seal_at on)
+    is c.in-Is-length.size c.in-Is-length.value.place ≡ feature_length c.args.version c.in-Is.next.place c.args.seal.now
 size-read c = sym (ap number_of c.in-Is-length.is) ∙ c.feature_length-length.ensures
 
 -- the seal's bytes
-bytes : (c : In-Past) → Bytes (seal_at (whole_rows c))
-bytes c i = (c.shared_slice_known-1.given i).fits
+bytes : (c : Joined-marks-word-eq1) → Bytes c.args.seal.now
+bytes c i = (c.type_inv.seal i).fits
+
+-- there is room for one more
+room : (c : Joined-marks-word-eq1) → c.rows.count < 255
+room c = new_room _ _ _ _ _ _ _ _ (new c) (bytes c)
 
 pub rows-init : goal.rows-init
 rows-init c = (kept_start _ _ _ _ refl, marked_start _ _ refl)
@@ -82,11 +74,6 @@ returns-in_default c =
 
 pub returns-then-tag-eq255 : goal.returns-then-tag-eq255
 returns-then-tag-eq255 c = kept_end _ _ _ _ _ _ c.rows.invariant.0 _ _ (tag_read (goal.at.returns-then-tag-eq255 c).In-Is) c.if-tag-eq255.true
-
--- GONE overflow-mul-if2
-
-pub MISSING-overflow-mul-if2 : goal.MISSING-overflow-mul-if2
-MISSING-overflow-mul-if2 c = omega (arith, small (goal.at.MISSING-overflow-mul-if2 c).In-Is)
 
 pub overflow_shr-marks : goal.overflow_shr-marks
 overflow_shr-marks c = omega (arith, mask_lt (tag (goal.at.overflow_shr-marks c).In-Is) 6)
@@ -109,10 +96,39 @@ loop-i-smaller c = omega arith
 pub loop-i-preserved : goal.loop-i-preserved
 loop-i-preserved c = (omega arith, below_more _ _ c.loop-i.invariant.1 (λ e. c.if-wide-tag.false (c.wide.ensures ∙ e)))
 
+pub bounds-marks-word-in-rows : goal.bounds-marks-word-in-rows
+bounds-marks-word-in-rows c = omega (arith, small (goal.at.bounds-marks-word-in-rows c).In-Is)
+
+pub overflow_shl-marks : goal.overflow_shl-marks
+overflow_shl-marks c = omega (arith, mask_lt (tag (goal.at.overflow_shl-marks c).In-Is) 6)
+
+pub bounds-marks-word-in-rows-2 : goal.bounds-marks-word-in-rows-2
+bounds-marks-word-in-rows-2 c = omega (arith, small (goal.at.bounds-marks-word-in-rows-2 c).In-Is)
+
+pub returns : goal.returns
+returns c =
+    says _ _ _ _ c.of-2.ensures
+    (kept_again _ _ _ _ _ _ c.rows.invariant.0 _ _ _ (tag_read (goal.at.returns c).In-Is)
+    c.loop-i-test.true (sym c.wide.ensures ∙ c.if-wide-tag.true))
+
 pub returns-in_default-length : goal.returns-in_default-length
 returns-in_default-length c =
     says _ _ _ _ (c.of_number.ensures ∙ ap (λ r. refused item.Length (number_of r)) c.in_default-length.is)
     (new_unsized _ _ _ _ _ _ _ _ (new (goal.at.returns-in_default-length c).Joined-marks-word-eq1) _ _ (sym (ap number_of c.in_default-length.is) ∙ c.feature_length-length.ensures))
+
+pub overflow_add-count : goal.overflow_add-count
+overflow_add-count c = omega (arith, room (goal.at.overflow_add-count c).Joined-marks-word-eq1)
+
+pub rows-smaller : goal.rows-smaller
+rows-smaller c = omega (arith, room (goal.at.rows-smaller c).Joined-marks-word-eq1)
+
+pub rows-preserved : goal.rows-preserved
+rows-preserved c =
+    let kept = c.rows.invariant in (
+      new_more _ _ _ _ _ _ _ _ (new (goal.at.rows-preserved c).Joined-marks-word-eq1) _ _ (size-read (goal.at.rows-preserved c).In-Is-length) _ (bytes (goal.at.rows-preserved c).Joined-marks-word-eq1)
+          (sym (ap (whole_of _) c.in-Past.is) ∙ c.skip.ensures),
+      marked_more _ _ _ _ kept.1 (small (goal.at.rows-preserved c).In-Is) (omega (arith, room (goal.at.rows-preserved c).Joined-marks-word-eq1, kept.0.size)),
+    )
 
 pub returns-in_default-skip : goal.returns-in_default-skip
 returns-in_default-skip c =
@@ -121,46 +137,7 @@ returns-in_default-skip c =
     (sym (ap (whole_of _) c.in_default-skip.is) ∙ c.skip.ensures))
 
 pub overflow_cast-tags : goal.overflow_cast-tags
-overflow_cast-tags c = omega (arith, new_small _ _ _ _ _ _ _ _ (new (goal.at.overflow_cast-tags c).Joined-marks-word-eq1) (bytes (goal.at.overflow_cast-tags c).In-Past))
+overflow_cast-tags c = omega (arith, new_small _ _ _ _ _ _ _ _ (new (goal.at.overflow_cast-tags c).Joined-marks-word-eq1) (bytes (goal.at.overflow_cast-tags c).Joined-marks-word-eq1))
 
 pub bounds-tags-count : goal.bounds-tags-count
-bounds-tags-count c = new_room _ _ _ _ _ _ _ _ (new (goal.at.bounds-tags-count c).Joined-marks-word-eq1) (bytes (goal.at.bounds-tags-count c).In-Past)
-
--- GONE overflow-mul-marks
-
-pub MISSING-overflow-mul-marks : goal.MISSING-overflow-mul-marks
-MISSING-overflow-mul-marks c = omega (arith, small (goal.at.MISSING-overflow-mul-marks c).In-Is)
-
-pub bounds-marks-word-in-rows : goal.bounds-marks-word-in-rows
-bounds-marks-word-in-rows c = omega (arith, small (goal.at.bounds-marks-word-in-rows c).In-Is)
-
-pub overflow_shl-marks : goal.overflow_shl-marks
-overflow_shl-marks c = omega (arith, mask_lt (tag (goal.at.overflow_shl-marks c).In-Is) 6)
-
--- GONE overflow-mul-marks-2
-
-pub MISSING-overflow-mul-marks-2 : goal.MISSING-overflow-mul-marks-2
-MISSING-overflow-mul-marks-2 c = omega (arith, small (goal.at.MISSING-overflow-mul-marks-2 c).In-Is)
-
-pub bounds-marks-word-in-rows-2 : goal.bounds-marks-word-in-rows-2
-bounds-marks-word-in-rows-2 c = omega (arith, small (goal.at.bounds-marks-word-in-rows-2 c).In-Is)
-
-pub overflow_add-count : goal.overflow_add-count
-overflow_add-count c = omega (arith, array-write-tags c)
-
-pub rows-smaller : goal.rows-smaller
-rows-smaller c = omega (arith, array-write-tags c)
-
-pub rows-preserved : goal.rows-preserved
-rows-preserved c =
-    let kept = c.rows.invariant in (
-      new_more _ _ _ _ _ _ _ _ (new (goal.at.rows-preserved c).Joined-marks-word-eq1) _ _ (size-read (goal.at.rows-preserved c).In-Is-length) _ (bytes c)
-          (sym (ap (whole_of _) c.in-Past.is) ∙ c.skip.ensures),
-      marked_more _ _ _ _ kept.1 (small (goal.at.rows-preserved c).In-Is) (omega (arith, array-write-tags c, kept.0.size)),
-    )
-
-pub returns : goal.returns
-returns c =
-    says _ _ _ _ c.of-2.ensures
-    (kept_again _ _ _ _ _ _ c.rows.invariant.0 _ _ _ (tag_read (goal.at.returns c).In-Is)
-    c.loop-i-test.true (sym c.wide.ensures ∙ c.if-wide-tag.true))
+bounds-tags-count c = room (goal.at.bounds-tags-count c).Joined-marks-word-eq1

@@ -1,22 +1,10 @@
--- `read_features` meets its contract. The outer loop's invariant: the features are those of the rows before and of what
-use borrow.Author.Rules.{rules}
-use native.Mathlib.Omega.{arith}
-use mathlib.Core.Path.{◌≡◌, ◌∙◌, refl, ap, sym}
+-- The outer loop's invariant: the features are those of the rows before and of what stands from the place on, and the
+-- rows' tags stand at the start of the array, with the bit of each set in the marks. The inner loop's: none of the tags
+-- before is this one.
+use mathlib.Core.Path.{◌≡◌}
 use Prim.Native.Nat.{ℕ, ◌-◌, ◌≤◌, ◌<◌}
-use mathlib.Core.List.{List}
-use mathlib.Core.Logic.{⊎_elim}
-use lib.Bits.{mask_lt}
 use lib.ListN.{get_or}
-use borrow.Author.Count.{below_none, below_more}
-use Rattle.format.specs.Bytes.{Bytes}
-use Rattle.grammar.specs.Content.{Version}
-use Rattle.verdict.specs.Items.{is, byte, plain_in, feature_length}
-use Rattle.causes.specs.declared.Item.TheVariants as item
-use Rattle.read_items.specs.Meaning.{byte_of, whole_of, number_of, refused}
-use Rattle.read_items.specs.Meaning.Laws.{says}
-use Rattle.read_features.proofs.Turn.{Kept, kept_start, kept_cut, kept_end, kept_again, kept_most, New}
-use Rattle.read_features.proofs.Turn.{byte_small, Marked, marked_start, marked_none, marked_more}
-use Rattle.read_features.proofs.Turn.{new_unsized, new_small, new_room, new_short, new_more}
+use Rattle.read_features.proofs.Turn.{Kept, Marked}
 use Rattle.read_features.proofs.read_features.Given as goal
 
 abbrev pub invariant-loop-i : goal.invariant-loop-i

@@ -27,8 +27,8 @@ returns c =
     let args = c.args in
     let out = c.field-read.new.text in
     let size : length out ≡ 3 = omega arith in
-    step_given _ args.code.now _ (country args.at.place args.seal.now)
+    let k = step_given _ args.code.now _ (country args.at.place args.seal.now)
     (country_is args.at.place c.in-Past.next.place args.seal.now out c.shown.result
     c.shown-2.result size
-    (sym (ap (step_of out) c.in-Past.is) ∙ c.field-read.ensures) c.shown.ensures c.shown-2.ensures)
-    -- LOOK record item buffer
+    (sym (ap (step_of out) c.in-Past.is) ∙ c.field-read.ensures) c.shown.ensures c.shown-2.ensures) in
+    record { item = k.0; buffer = k.1 }

@@ -16,13 +16,12 @@ use Rattle.read_names.proofs.signer_and_reference.Goals.{After-names_in-names, I
 abbrev found : After-names_in-names → List ℕ
 found c = c.names_in-names.new.text
 
-whole : (c : In-Are) → length (found (on_names c)) ≡ 259
+whole : (c : In-Are) → length (found (goal.at.In-Are c).After-names_in-names) ≡ 259
 whole c = omega arith
 
 found_in : (c : In-Are) →
-    let on = on_names c in
-    let a = (start on).args in
-    Found (found on) c.in-Are.size c.in-Are.next.place
+    let a = c.args in
+    Found (found (goal.at.In-Are c).After-names_in-names) c.in-Are.size c.in-Are.next.place
     (names a.version a.at.place a.seal.now)
 found_in c =
     found_names (found (goal.at.In-Are c).After-names_in-names) _ _ _ (sym (ap (names_of (found (goal.at.In-Are c).After-names_in-names)) c.in-Are.is) ∙ c.names_in-names.ensures)
@@ -35,10 +34,10 @@ returns-in_default c =
     record { item = ap (names_of a.text.now) c.in_default.is ∙ k.0; buffer = k.1 }
 
 pub overflow_add-end : goal.overflow_add-end
-overflow_add-end c = omega (arith, found_room _ _ _ _ (found_in c) (whole c))
+overflow_add-end c = omega (arith, found_room _ _ _ _ (found_in (goal.at.overflow_add-end c).In-Are) (whole (goal.at.overflow_add-end c).In-Are))
 
 pub slice_bounds-found-end : goal.slice_bounds-found-end
-slice_bounds-found-end c = omega (arith, found_room _ _ _ _ (found_in c) (whole c), whole c)
+slice_bounds-found-end c = omega (arith, found_room _ _ _ _ (found_in (goal.at.slice_bounds-found-end c).In-Are) (whole (goal.at.slice_bounds-found-end c).In-Are), whole (goal.at.slice_bounds-found-end c).In-Are)
 
 pub slice_bounds-copy-end : goal.slice_bounds-copy-end
 slice_bounds-copy-end c =
@@ -48,5 +47,5 @@ pub returns : goal.returns
 returns c =
     let a = c.args in
     let room : length a.text.now ≡ 259 = omega arith in
-    names_given _ _ _ _ (found_in (goal.at.returns c).In-Are) (whole (goal.at.returns c).In-Are) a.text.now _ room c.copy.ensures.buffer
-    -- LOOK record item buffer
+    let k = names_given _ _ _ _ (found_in (goal.at.returns c).In-Are) (whole (goal.at.returns c).In-Are) a.text.now _ room c.copy.ensures.buffer in
+    record { item = k.0; buffer = k.1 }

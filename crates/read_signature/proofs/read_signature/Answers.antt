@@ -2,8 +2,8 @@
 -- Assumes nothing.
 use borrow.Author.Rules.{rules}
 use native.Mathlib.Omega.{arith}
-use mathlib.Core.Path.{◌≡◌, ◌∙◌, refl, ap, sym}
-use mathlib.Core.Bool.{Bool, true, false, not}
+use mathlib.Core.Path.{◌≡◌, ◌∙◌, ap, sym}
+use mathlib.Core.Bool.{true}
 use Prim.Native.Nat.{ℕ}
 use Rattle.causes.specs.declared.Item.TheVariants as item
 use Rattle.verdict.specs.Items.{is, der_length}
@@ -22,25 +22,14 @@ size c = c.in-Is.size
 abbrev starts_at : In-Is → ℕ
 starts_at c = c.in-Is.start.place
 
-read_length : (c : In-Is) → is (size c) (starts_at c) ≡ der_length (start c).args.at.place (start c).args.seal.now
+read_length : (c : In-Is) → is (size c) (starts_at c) ≡ der_length c.args.at.place c.args.seal.now
 read_length c = sym (ap number_of c.in-Is.is) ∙ c.der_length-length.ensures
 
-not_not : (b : Bool) → not (not b) ≡ b
-not_not true = refl
-not_not false = refl
-
-flipped : (b : Bool) → not b ≡ true → b ≡ false
-flipped b e = sym (not_not b) ∙ ap not e
-
-kept : (b : Bool) → not b ≡ false → b ≡ true
-kept b e = sym (not_not b) ∙ ap not e
-
-sized : (c : Else-not-is_signature) → is_signature (size (on-length c)) ≡ true
-sized c = sym c.is_signature.ensures ∙ kept _ c.if-not-is_signature.false
+sized : (c : Else-not-is_signature) → is_signature c.in-Is.size ≡ true
+sized c = sym c.is_signature.ensures ∙ c.if-not-is_signature.false
 
 there : (c : In-Past) →
-    let on = on-length (on-size c) in
-    Past (size on) (starts_at on) (start on).args.seal.now c.in-Past.end.place
+    Past c.in-Is.size c.in-Is.start.place c.args.seal.now c.in-Past.end.place
 there c = past_whole _ _ _ _ (sym (ap (whole_of _) c.in-Past.is) ∙ c.skip.ensures)
 
 pub returns-in_default : goal.returns-in_default
@@ -51,7 +40,7 @@ returns-in_default c =
 pub returns-then-not-is_signature : goal.returns-then-not-is_signature
 returns-then-not-is_signature c =
     says _ _ _ _ c.of.ensures
-    (signature_size_lem _ _ _ _ (read_length (goal.at.returns-then-not-is_signature c).In-Is) (sym c.is_signature.ensures ∙ flipped _ c.if-not-is_signature.true))
+    (signature_size_lem _ _ _ _ (read_length (goal.at.returns-then-not-is_signature c).In-Is) (sym c.is_signature.ensures ∙ c.if-not-is_signature.true))
 
 pub returns-in_default-skip : goal.returns-in_default-skip
 returns-in_default-skip c =

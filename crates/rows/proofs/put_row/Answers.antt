@@ -35,5 +35,8 @@ bounds-table-at-4 c = simp length-set (omega arith)
 pub returns : goal.returns
 unfolding numbers
 returns c =
-    let a = c.args in record { written = over_four a.table.now a.at a.row.tag a.row.start a.row.place a.row.size (omega arith)
-          ∙ put_row a.table.now a.at a.row (omega arith); wide = (refl, refl) }
+    let a = c.args in record {
+      written = over_four a.table.now a.at a.row.tag a.row.start a.row.place a.row.size (omega arith)
+          ∙ put_row a.table.now a.at a.row (omega arith);
+      wide = (refl, refl);
+    }

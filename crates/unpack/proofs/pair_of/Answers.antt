@@ -15,7 +15,7 @@ returns-then-number-eq0 c = pair_zero _ _ _ _ (omega arith)
 
 -- what the three values carry is what the pair carries
 whole : (c : After-split-v)
-    → let a = (start c).args in
+    → let a = c.args in
     values a.chart.now a.last c.split-v.result.a c.split-v.result.b c.split-v.result.c
     ≡ pair_of a.chart.now a.last a.x a.y
 whole c =

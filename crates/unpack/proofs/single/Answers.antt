@@ -1,7 +1,6 @@
 -- `unpack::single` meets its contract: each `return` is one case of the definition.
 -- Assumes nothing.
 use borrow.Author.Rules.{rules}
-use borrow.Author.Tests.{not-true, not-false}
 use native.Mathlib.Omega.{arith}
 use mathlib.Core.Path.{◌≡◌, ◌∙◌, ap, sym}
 use Prim.Native.Nat.{◌-◌}
@@ -15,7 +14,7 @@ pub returns-then-x-ne254 : goal.returns-then-x-ne254
 returns-then-x-ne254 c = pair_large _ _ _ _ c.if-x-ne254.true c.requires
 
 pub returns-then-not-last : goal.returns-then-not-last
-returns-then-not-last c = single_inner _ _ _ (not-true _ c.if-not-last.true) ∙ pair_single _ _ _ _ (omega arith)
+returns-then-not-last c = single_inner _ _ _ c.if-not-last.true ∙ pair_single _ _ _ _ (omega arith)
 
 pub returns-then-y-eq0 : goal.returns-then-y-eq0
 returns-then-y-eq0 c = single_none _ _ _ (omega arith) ∙ pair_single _ _ _ _ (omega arith)
@@ -34,5 +33,5 @@ returns-then-chart-value_of c = single_stranger _ _ _ (λ i. c.if-chart-value_of
 
 pub returns : goal.returns
 returns c =
-    single_one _ _ _ (not-false _ c.if-not-last.false) (omega arith) (sym (found (goal.at.returns c).After-t13-1) ∙ c.if-chart-value_of.false)
+    single_one _ _ _ c.if-not-last.false (omega arith) (sym (found (goal.at.returns c).After-t13-1) ∙ c.if-chart-value_of.false)
     ∙ pair_single _ _ _ _ (omega arith)

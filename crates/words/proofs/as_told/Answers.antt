@@ -1,6 +1,5 @@
 -- `words::as_told` meets its contract, case by case.
 -- Assumes nothing.
-use borrow.Author.Rules.{rules}
 use mathlib.Core.Path.{ap, sym}
 use Rattle.pages.specs.Calls.{placed_of}
 use Rattle.words.proofs.as_told.Goals as goal

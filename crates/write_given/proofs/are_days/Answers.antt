@@ -1,7 +1,6 @@
 -- `are_days` meets its contract.
 -- Assumes nothing.
 use borrow.Author.Rules.{rules}
-use borrow.Author.Tests.{not-true, not-false}
 use mathlib.Core.Path.{◌≡◌, sym, ap, ◌∙◌}
 use mathlib.Core.Bool.{true, false}
 use Rattle.format.specs.Choice.{both}
@@ -17,9 +16,9 @@ first_is : (h : Header) → is_day h.issued ≡ true → is_day h.signed ≡ are
 first_is h e = sym (ap (λ b. both b (is_day h.signed)) e)
 
 pub returns-then-not-is_day : goal.returns-then-not-is_day
-returns-then-not-is_day c = first_no c.args.header (sym c.is_day.ensures ∙ not-true _ c.if-not-is_day.true)
+returns-then-not-is_day c = first_no c.args.header (sym c.is_day.ensures ∙ c.if-not-is_day.true)
 
 pub returns : goal.returns
 returns c =
     c.is_day-2.ensures
-    ∙ first_is c.args.header (sym c.is_day.ensures ∙ not-false _ c.if-not-is_day.false)
+    ∙ first_is c.args.header (sym c.is_day.ensures ∙ c.if-not-is_day.false)

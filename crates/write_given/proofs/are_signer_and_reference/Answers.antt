@@ -1,7 +1,6 @@
 -- `are_signer_and_reference` meets its contract: each `return` is the first test that does not pass, and at the end one test is left.
 -- Assumes nothing.
 use borrow.Author.Rules.{rules}
-use borrow.Author.Tests.{not-true, not-false}
 use native.Mathlib.Omega.{arith}
 use mathlib.Core.Path.{◌≡◌, ap, sym, ◌∙◌}
 use mathlib.Core.Bool.{true}
@@ -15,13 +14,13 @@ use Rattle.write_given.proofs.are_signer_and_reference.Goals as goal
 use Rattle.write_given.proofs.are_signer_and_reference.Goals.{After-is_signer, Else-length-text, Else-not-is_text_size}
 
 -- what the tests passed say
-size : (c : Else-not-is_text_size) → is_text_size (start c).args.version (length (start c).args.text.now) ≡ true
-size c = sym c.is_text_size.ensures ∙ not-false _ c.if-not-is_text_size.false
+size : (c : Else-not-is_text_size) → is_text_size c.args.version (length c.args.text.now) ≡ true
+size c = sym c.is_text_size.ensures ∙ c.if-not-is_text_size.false
 
-long : (c : Else-not-is_text_size) → 5 ≤ length (start c).args.text.now
+long : (c : Else-not-is_text_size) → 5 ≤ length c.args.text.now
 long c = (size_any c.args.version (length c.args.text.now) (size c)).0
 
-measured : (c : Else-length-text) → (start c).args.length + 4 ≡ length (start c).args.text.now
+measured : (c : Else-length-text) → c.args.length + 4 ≡ length c.args.text.now
 measured c =
     let l = long (goal.at.Else-length-text c).Else-not-is_text_size in
     let e = c.if-length-text.false in
@@ -29,7 +28,7 @@ measured c =
 
 signer :
     (c : After-is_signer) →
-    c.is_signer.result ≡ is_signer (take 4 (start (sized_at c)).args.text.now)
+    c.is_signer.result ≡ is_signer (take 4 c.args.text.now)
 signer c =
     let l = long (goal.at.After-is_signer c).Else-not-is_text_size in
     c.is_signer.ensures ∙ ap is_signer (first_four c.args.text.now (omega arith))
@@ -37,7 +36,7 @@ signer c =
 pub returns-then-not-is_text_size : goal.returns-then-not-is_text_size
 returns-then-not-is_text_size c =
     let a = c.args in
-    text_size a.version a.length a.text.now (sym c.is_text_size.ensures ∙ not-true _ c.if-not-is_text_size.true)
+    text_size a.version a.length a.text.now (sym c.is_text_size.ensures ∙ c.if-not-is_text_size.true)
 
 pub overflow_sub-text : goal.overflow_sub-text
 overflow_sub-text c = omega (arith, long c)
@@ -63,19 +62,7 @@ bounds-text-3 c = let l = long (goal.at.bounds-text-3 c).Else-not-is_text_size i
 pub returns-then-not-is_signer : goal.returns-then-not-is_signer
 returns-then-not-is_signer c =
     let a = c.args in
-    text_signer a.version a.length a.text.now (size (goal.at.returns-then-not-is_signer c).Else-not-is_text_size) (measured (goal.at.returns-then-not-is_signer c).Else-length-text) (sym (signer (goal.at.returns-then-not-is_signer c).After-is_signer) ∙ not-true _ c.if-not-is_signer.true)
-
--- GONE overflow-sub-all-reference
-
-pub MISSING-overflow-sub-all-reference : goal.MISSING-overflow-sub-all-reference
-MISSING-overflow-sub-all-reference c = let l = long (goal.at.MISSING-overflow-sub-all-reference c).Else-not-is_text_size in omega arith
-
--- GONE slice-bounds-all-reference-start
-
-pub MISSING-slice-bounds-all-reference-start : goal.MISSING-slice-bounds-all-reference-start
-MISSING-slice-bounds-all-reference-start c = let l = long (goal.at.MISSING-slice-bounds-all-reference-start c).Else-not-is_text_size in omega arith
-
--- GONE slice-bounds-all-reference-end
+    text_signer a.version a.length a.text.now (size (goal.at.returns-then-not-is_signer c).Else-not-is_text_size) (measured (goal.at.returns-then-not-is_signer c).Else-length-text) (sym (signer (goal.at.returns-then-not-is_signer c).After-is_signer) ∙ c.if-not-is_signer.true)
 
 pub returns : goal.returns
 returns c =
@@ -83,4 +70,4 @@ returns c =
     c.all_reference.ensures
     ∙ ap (all is_reference) (to_end a.text.now 4)
     ∙ text_reference a.version a.length a.text.now (size (goal.at.returns c).Else-not-is_text_size) (measured (goal.at.returns c).Else-length-text)
-    (sym (signer (goal.at.returns c).After-is_signer) ∙ not-false _ c.if-not-is_signer.false)
+    (sym (signer (goal.at.returns c).After-is_signer) ∙ c.if-not-is_signer.false)

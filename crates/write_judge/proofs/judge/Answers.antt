@@ -2,7 +2,6 @@
 -- Assumes nothing.
 use borrow.Author.Rules.{rules}
 use native.Mathlib.Omega.{arith}
-use borrow.Author.Tests.{not-true, not-false}
 use mathlib.Core.Path.{◌≡◌, ap, sym, ◌∙◌}
 use mathlib.Core.Bool.{true}
 use Prim.Native.Nat.{ℕ, min}
@@ -39,32 +38,30 @@ ver c = c.in-Is.version
 pass_0 : (k : In-Is) → version_of (all_of k).header.version ≡ some (ver k)
 pass_0 c = sym c.from_number.ensures ∙ ap stated_of c.in-Is.is
 
-pass_1 : (c : Else-not-are_names) → are_names (ver (k1 c)) (all_of (k1 c)).header (all_of (k1 c)).text ≡ true
-pass_1 c = sym c.are_names.ensures ∙ not-false _ c.if-not-are_names.false
+pass_1 : (c : Else-not-are_names) → are_names (ver (goal.at.Else-not-are_names c).In-Is) (all_of (goal.at.Else-not-are_names c).In-Is).header (all_of (goal.at.Else-not-are_names c).In-Is).text ≡ true
+pass_1 c = sym c.are_names.ensures ∙ c.if-not-are_names.false
 
-pass-2 : (c : Else-not-are_days) → are_days (all_of (k2 c)).header ≡ true
-pass-2 c = sym c.are_days.ensures ∙ not-false _ c.if-not-are_days.false
+pass-2 : (c : Else-not-are_days) → are_days (all_of (goal.at.Else-not-are_days c).In-Is).header ≡ true
+pass-2 c = sym c.are_days.ensures ∙ c.if-not-are_days.false
 
-pass-3 : (c : Else-not-are_last) → are_last (all_of (k3 c)).header ≡ true
-pass-3 c = sym c.are_last.ensures ∙ not-false _ c.if-not-are_last.false
+pass-3 : (c : Else-not-are_last) → are_last (all_of (goal.at.Else-not-are_last c).In-Is).header ≡ true
+pass-3 c = sym c.are_last.ensures ∙ c.if-not-are_last.false
 
-pass_4 : (c : Else-not-are_rows) → is_table (length (all_of (k4 c)).values) (all_of (k4 c)).table ≡ true
-pass_4 c = sym c.are_rows.ensures ∙ not-false _ c.if-not-are_rows.false
+pass_4 : (c : Else-not-are_rows) → is_table (length (all_of (goal.at.Else-not-are_rows c).In-Is).values) (all_of (goal.at.Else-not-are_rows c).In-Is).table ≡ true
+pass_4 c = sym c.are_rows.ensures ∙ c.if-not-are_rows.false
 
-pass_5 : (c : Else-not-are_values) → are_values (ver (k5 c)) (all_of (k5 c)).table ≡ true
-pass_5 c = sym c.are_values.ensures ∙ not-false _ c.if-not-are_values.false
+pass_5 : (c : Else-not-are_values) → are_values (ver (goal.at.Else-not-are_values c).In-Is) (all_of (goal.at.Else-not-are_values c).In-Is).table ≡ true
+pass_5 c = sym c.are_values.ensures ∙ c.if-not-are_values.false
 
-pass_6 : (c : Else-not-is_signature) → is_signature (length (all_of (k6 c)).signature) ≡ true
-pass_6 c = sym c.is_signature.ensures ∙ not-false _ c.if-not-is_signature.false
+pass_6 : (c : Else-not-is_signature) → is_signature (length (all_of (goal.at.Else-not-is_signature c).In-Is).signature) ≡ true
+pass_6 c = sym c.is_signature.ensures ∙ c.if-not-is_signature.false
 
 -- the size, up to one past the greatest
 abbrev seal : In-Is → ℕ
 seal c = length (publish (content_as (all_of c) (ver c)))
 
-measured : (c : After-seal_size-size) → c.seal_size-size.result ≡ min (seal (k6 c)) 4097
+measured : (c : After-seal_size-size) → c.seal_size-size.result ≡ min (seal (goal.at.After-seal_size-size c).In-Is) 4097
 measured c =
-    let e = (c) in
-    let k = e in
     c.seal_size-size.ensures
     ∙ ap (λ n. min n 4097) (sym (length_seal (ver (goal.at.After-seal_size-size c).In-Is) (all_of (goal.at.After-seal_size-size c).In-Is) (pass_1 (goal.at.After-seal_size-size c).Else-not-are_names) (pass_4 (goal.at.After-seal_size-size c).Else-not-are_rows)))
 
@@ -77,41 +74,41 @@ returns-in_default c =
 pub returns-then-not-are_names : goal.returns-then-not-are_names
 returns-then-not-are_names c =
     sym
-    (ap told (writing_names (all_of (goal.at.returns-then-not-are_names c).In-Is) (room (goal.at.returns-then-not-are_names c).In-Is) (ver (goal.at.returns-then-not-are_names c).In-Is) (pass_0 (goal.at.returns-then-not-are_names c).In-Is) (sym c.are_names.ensures ∙ not-true _ c.if-not-are_names.true)))
+    (ap told (writing_names (all_of (goal.at.returns-then-not-are_names c).In-Is) (room (goal.at.returns-then-not-are_names c).In-Is) (ver (goal.at.returns-then-not-are_names c).In-Is) (pass_0 (goal.at.returns-then-not-are_names c).In-Is) (sym c.are_names.ensures ∙ c.if-not-are_names.true)))
 
 pub returns-then-not-are_days : goal.returns-then-not-are_days
 returns-then-not-are_days c =
     sym
     (ap told
-    (writing_days (all_of (goal.at.returns-then-not-are_days c).In-Is) (room (goal.at.returns-then-not-are_days c).In-Is) (ver (goal.at.returns-then-not-are_days c).In-Is) (pass_0 (goal.at.returns-then-not-are_days c).In-Is) (pass_1 (goal.at.returns-then-not-are_days c).Else-not-are_names) (sym c.are_days.ensures ∙ not-true _ c.if-not-are_days.true)))
+    (writing_days (all_of (goal.at.returns-then-not-are_days c).In-Is) (room (goal.at.returns-then-not-are_days c).In-Is) (ver (goal.at.returns-then-not-are_days c).In-Is) (pass_0 (goal.at.returns-then-not-are_days c).In-Is) (pass_1 (goal.at.returns-then-not-are_days c).Else-not-are_names) (sym c.are_days.ensures ∙ c.if-not-are_days.true)))
 
 pub returns-then-not-are_last : goal.returns-then-not-are_last
 returns-then-not-are_last c =
     sym
     (ap told
     (writing_last (all_of (goal.at.returns-then-not-are_last c).In-Is) (room (goal.at.returns-then-not-are_last c).In-Is) (ver (goal.at.returns-then-not-are_last c).In-Is) (pass_0 (goal.at.returns-then-not-are_last c).In-Is) (pass_1 (goal.at.returns-then-not-are_last c).Else-not-are_names) (pass-2 (goal.at.returns-then-not-are_last c).Else-not-are_days)
-    (sym c.are_last.ensures ∙ not-true _ c.if-not-are_last.true)))
+    (sym c.are_last.ensures ∙ c.if-not-are_last.true)))
 
 pub returns-then-not-are_rows : goal.returns-then-not-are_rows
 returns-then-not-are_rows c =
     sym
     (ap told
     (writing_rows (all_of (goal.at.returns-then-not-are_rows c).In-Is) (room (goal.at.returns-then-not-are_rows c).In-Is) (ver (goal.at.returns-then-not-are_rows c).In-Is) (pass_0 (goal.at.returns-then-not-are_rows c).In-Is) (pass_1 (goal.at.returns-then-not-are_rows c).Else-not-are_names) (pass-2 (goal.at.returns-then-not-are_rows c).Else-not-are_days) (pass-3 (goal.at.returns-then-not-are_rows c).Else-not-are_last)
-    (sym c.are_rows.ensures ∙ not-true _ c.if-not-are_rows.true)))
+    (sym c.are_rows.ensures ∙ c.if-not-are_rows.true)))
 
 pub returns-then-not-are_values : goal.returns-then-not-are_values
 returns-then-not-are_values c =
     sym
     (ap told
     (writing_values (all_of (goal.at.returns-then-not-are_values c).In-Is) (room (goal.at.returns-then-not-are_values c).In-Is) (ver (goal.at.returns-then-not-are_values c).In-Is) (pass_0 (goal.at.returns-then-not-are_values c).In-Is) (pass_1 (goal.at.returns-then-not-are_values c).Else-not-are_names) (pass-2 (goal.at.returns-then-not-are_values c).Else-not-are_days) (pass-3 (goal.at.returns-then-not-are_values c).Else-not-are_last)
-    (pass_4 (goal.at.returns-then-not-are_values c).Else-not-are_rows) (sym c.are_values.ensures ∙ not-true _ c.if-not-are_values.true)))
+    (pass_4 (goal.at.returns-then-not-are_values c).Else-not-are_rows) (sym c.are_values.ensures ∙ c.if-not-are_values.true)))
 
 pub returns-then-not-is_signature : goal.returns-then-not-is_signature
 returns-then-not-is_signature c =
     sym
     (ap told
     (writing_signature (all_of (goal.at.returns-then-not-is_signature c).In-Is) (room (goal.at.returns-then-not-is_signature c).In-Is) (ver (goal.at.returns-then-not-is_signature c).In-Is) (pass_0 (goal.at.returns-then-not-is_signature c).In-Is) (pass_1 (goal.at.returns-then-not-is_signature c).Else-not-are_names) (pass-2 (goal.at.returns-then-not-is_signature c).Else-not-are_days) (pass-3 (goal.at.returns-then-not-is_signature c).Else-not-are_last)
-    (pass_4 (goal.at.returns-then-not-is_signature c).Else-not-are_rows) (pass_5 (goal.at.returns-then-not-is_signature c).Else-not-are_values) (sym c.is_signature.ensures ∙ not-true _ c.if-not-is_signature.true)))
+    (pass_4 (goal.at.returns-then-not-is_signature c).Else-not-are_rows) (pass_5 (goal.at.returns-then-not-is_signature c).Else-not-are_values) (sym c.is_signature.ensures ∙ c.if-not-is_signature.true)))
 
 pub returns-then-size-gt4096 : goal.returns-then-size-gt4096
 returns-then-size-gt4096 c =

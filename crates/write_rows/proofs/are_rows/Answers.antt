@@ -2,7 +2,7 @@
 -- marked.
 -- Assumes nothing.
 use borrow.Author.Rules.{rules}
-use borrow.Author.Tests.{not-true, not-false, leb-true, leb-false}
+use borrow.Author.Tests.{leb-true, leb-false}
 use native.Mathlib.Omega.{arith}
 use mathlib.Core.Path.{◌≡◌, ◌∙◌, sym}
 use Prim.Native.Nat.{ℕ, ◌+◌, ◌-◌, ◌≤◌}
@@ -19,7 +19,7 @@ abbrev table_at : At-loop-row → List ℕ
 table_at c = c.args.table.now
 
 there : (c : In-Is) →
-    let on = c in
+    let on = (goal.at.In-Is c).At-loop-row in
     (on.loop-row.at + width ≤ length (table_at on)) × (c.in-Is.row ≡ row_at (table_at on) on.loop-row.at)
 there c = found_row_lem _ _ _ (sym c.in-Is.is ∙ c.row_at.ensures)
 
@@ -44,7 +44,7 @@ returns-then-marks-tag-eq1 c =
 pub returns-then-not-is_inside : goal.returns-then-not-is_inside
 returns-then-not-is_inside c =
     judged_outside _ _ _ _ c.loop-row.invariant (there (goal.at.returns-then-not-is_inside c).In-Is).0 _ (there (goal.at.returns-then-not-is_inside c).In-Is).1 (omega arith)
-    c.if2.false (leb-false _ _ (sym c.is_inside.ensures ∙ not-true _ c.if-not-is_inside.true))
+    c.if-marks-tag-eq1.false (leb-false _ _ (sym c.is_inside.ensures ∙ c.if-not-is_inside.true))
 
 pub bounds-marks-tag-in-loop-row : goal.bounds-marks-tag-in-loop-row
 bounds-marks-tag-in-loop-row c = omega arith
@@ -58,4 +58,4 @@ loop-row-smaller c = omega (arith, (there (goal.at.loop-row-smaller c).In-Is).0)
 pub loop-row-preserved : goal.loop-row-preserved
 loop-row-preserved c =
     judged_more _ _ _ _ c.loop-row.invariant (there (goal.at.loop-row-preserved c).In-Is).0 _ (there (goal.at.loop-row-preserved c).In-Is).1 (omega arith)
-    c.if2.false (leb-true _ _ (sym c.is_inside.ensures ∙ not-false _ c.if-not-is_inside.false))
+    c.if-marks-tag-eq1.false (leb-true _ _ (sym c.is_inside.ensures ∙ c.if-not-is_inside.false))

@@ -1,4 +1,5 @@
 -- `are_rows` meets its contract. The loop's invariant: the rows before are good, the table is as good as the rest, and the tags before are
+-- marked.
 use borrow.Author.Rules.{rules}
 use borrow.Author.Tests.{not-true, not-false, leb-true, leb-false}
 use native.Mathlib.Omega.{arith}

@@ -18,7 +18,7 @@ abbrev table_at : At-loop-row → List ℕ
 table_at c = c.args.table.now
 
 there : (c : In-Is) →
-    let on = c in
+    let on = (goal.at.In-Is c).At-loop-row in
     (on.loop-row.at + width ≤ length (table_at on)) × (c.in-Is.row ≡ row_at (table_at on) on.loop-row.at)
 there c = found_row_lem _ _ _ (sym c.in-Is.is ∙ c.row_at.ensures)
 

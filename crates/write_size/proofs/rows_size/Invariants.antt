@@ -1,4 +1,5 @@
 -- `rows_size` meets its contract. The loop's invariant: what is left of the sum is the size of the rows left, and the sum has not passed
+-- 4,096.
 use borrow.Author.Rules.{rules}
 use native.Mathlib.Omega.{arith}
 use mathlib.Core.Path.{◌≡◌, sym, ◌∙◌}

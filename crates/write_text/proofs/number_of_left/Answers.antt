@@ -13,5 +13,5 @@ returns-then-left-eq2 c = (ap (be 2) c.number_of_two.ensures.0 ∙ sym (coded_tw
 pub returns : goal.returns
 returns c = (
   ap (be 2) c.number_of_one.ensures ∙ sym (coded_one _ (omega arith)),
-  omega (arith, c.number_of_one.ensures, c.shared_slice_known-2-1.given 0),
+  omega (arith, c.number_of_one.ensures, c.type_inv.left 0),
 )

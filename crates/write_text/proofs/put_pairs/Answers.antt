@@ -54,24 +54,9 @@ loop-i-smaller c = omega arith
 
 pub loop-i-preserved : goal.loop-i-preserved
 loop-i-preserved c =
-    let on = (c) in
+    let on = (goal.at.loop-i-preserved c).At-loop-i in
     let packed = c.number_of in
     texting_more _ _ _ _ _ _ on.loop-i.invariant (omega arith) packed.result packed.ensures.0 _ _ c.put_number-at.ensures.place c.put_number-at.ensures.buffer
-
--- GONE overflow-sub-number-of-left
-
-pub MISSING-overflow-sub-number-of-left : goal.MISSING-overflow-sub-number-of-left
-MISSING-overflow-sub-number-of-left c = omega arith
-
--- GONE slice-bounds-number-of-left-start
-
-pub MISSING-slice-bounds-number-of-left-start : goal.MISSING-slice-bounds-number-of-left-start
-MISSING-slice-bounds-number-of-left-start c = omega arith
-
--- GONE slice-bounds-number-of-left-end
-
-pub MISSING-slice-bounds-number-of-left-end : goal.MISSING-slice-bounds-number-of-left-end
-MISSING-slice-bounds-number-of-left-end c = omega arith
 
 pub number_of_left-requires : goal.number_of_left-requires
 number_of_left-requires c =
@@ -83,18 +68,20 @@ put_number-requires c =
     (c.number_of_left.ensures.1, texting_room _ _ _ _ _ _ c.loop-i.invariant (omega arith))
 
 pub shape_of-out-then-i-n : goal.shape_of-out-then-i-n
-shape_of-out-then-i-n c = c.put_number.auto.1.0 ∙ texting_length _ _ _ _ _ _ c.loop-i.invariant
+shape_of-out-then-i-n c = c.put_number.auto.out ∙ texting_length _ _ _ _ _ _ c.loop-i.invariant
 
 pub returns-then-i-n : goal.returns-then-i-n
 returns-then-i-n c =
-    let on = (c) in
+    let on = (goal.at.returns-then-i-n c).At-loop-i in
     let form = c.number_of_left in
-    texting_last _ _ _ _ _ _ on.loop-i.invariant form.result _ (left (goal.at.returns-then-i-n c).At-loop-i) form.ensures.0 _ _ c.put_number.ensures.place c.put_number.ensures.buffer
-    -- LOOK record place buffer
+    let put = c.put_number.ensures in
+    let e = texting_last _ _ _ _ _ _ on.loop-i.invariant form.result _ (left on) form.ensures.0 _ _ put.place put.buffer in
+    record { place = e.0; buffer = e.1 }
 
 pub shape_of-out : goal.shape_of-out
 shape_of-out c = texting_length _ _ _ _ _ _ c.loop-i.invariant
 
 pub returns : goal.returns
-returns c = texting_end _ _ _ _ _ _ c.loop-i.invariant (omega arith)
-    -- LOOK record place buffer
+returns c =
+    let e = texting_end _ _ _ _ _ _ c.loop-i.invariant (omega arith) in
+    record { place = e.0; buffer = e.1 }

@@ -3,11 +3,8 @@
 use borrow.Author.Rules.{rules}
 use native.Mathlib.Omega.{arith}
 use mathlib.Core.Path.{◌≡◌, refl, ap, sym, ◌∙◌}
-use mathlib.Core.Logic.{inl, inr}
-use mathlib.Core.List.{[], ◌∷◌}
 use mathlib.Core.Option.{some}
-use types.Run.{OneOf}
-use denote.Enum.Declared.{tag_of}
+use Prim.Native.Nat.{ℕ}
 use lib.ListN.{length}
 use Rattle.format.specs.Answers.{filled}
 use Rattle.format.specs.Answers.Laws.{gives}
@@ -19,33 +16,23 @@ use Rattle.write_judge.specs.Calls.{writing, writing_of}
 use Rattle.write_judge.specs.Calls.Laws.{writing_version}
 use Rattle.write_judge.specs.declared.Writing.{Writing}
 use Rattle.write_judge.specs.declared.Writing.TheVariants as write
-use Rattle.write_judge.specs.contracts.Writing.{the_type}
 use Rattle.writer.specs.Theorems.{refusal_keeps}
 use Rattle.writer.specs.Legal.Order.{Passes, passes_in, passes_done}
 use Rattle.writer.proofs.write.Goals as goal
 use Rattle.writer.proofs.write.Goals.{After-judge-answer, In-Is}
 
 -- an answer that is not done has a number of its own
-not_done :
-    (a : Writing) → OneOf (1 ∷ 2 ∷ 3 ∷ 4 ∷ 5 ∷ 6 ∷ 7 ∷ 8 ∷ 9 ∷ []) (tag_of the_type a) → (writing_of a).number ≡ 0 → ⊥
-not_done (write.Done n) (inl e) z = absurd (omega arith)
-not_done (write.Done n) (inr (inl e)) z = absurd (omega arith)
-not_done (write.Done n) (inr (inr (inl e))) z = absurd (omega arith)
-not_done (write.Done n) (inr (inr (inr (inl e)))) z = absurd (omega arith)
-not_done (write.Done n) (inr (inr (inr (inr (inl e))))) z = absurd (omega arith)
-not_done (write.Done n) (inr (inr (inr (inr (inr (inl e)))))) z = absurd (omega arith)
-not_done (write.Done n) (inr (inr (inr (inr (inr (inr (inl e))))))) z = absurd (omega arith)
-not_done (write.Done n) (inr (inr (inr (inr (inr (inr (inr (inl e)))))))) z = absurd (omega arith)
-not_done (write.Done n) (inr (inr (inr (inr (inr (inr (inr (inr e)))))))) z = absurd (omega arith)
-not_done write.Version k z = absurd (omega arith)
-not_done write.Names k z = absurd (omega arith)
-not_done write.Dates k z = absurd (omega arith)
-not_done write.Last k z = absurd (omega arith)
-not_done write.Rows k z = absurd (omega arith)
-not_done write.Values k z = absurd (omega arith)
-not_done write.Signature k z = absurd (omega arith)
-not_done write.TooLong k z = absurd (omega arith)
-not_done write.NoRoom k z = absurd (omega arith)
+not_done : (a : Writing) → ((n : ℕ) → a ≡ write.Done n → ⊥) → (writing_of a).number ≡ 0 → ⊥
+not_done (write.Done n) other z = other n refl
+not_done write.Version other z = absurd (omega arith)
+not_done write.Names other z = absurd (omega arith)
+not_done write.Dates other z = absurd (omega arith)
+not_done write.Last other z = absurd (omega arith)
+not_done write.Rows other z = absurd (omega arith)
+not_done write.Values other z = absurd (omega arith)
+not_done write.Signature other z = absurd (omega arith)
+not_done write.TooLong other z = absurd (omega arith)
+not_done write.NoRoom other z = absurd (omega arith)
 
 abbrev whole : After-judge-answer → Given
 whole c =
@@ -54,7 +41,7 @@ whole c =
 abbrev ver : In-Is → Version
 ver c = c.in-Is.version
 
-passed : (k : In-Is) → Passes (ver k) (whole (judged k)) (length (start (judged k)).args.out.now)
+passed : (k : In-Is) → Passes (ver k) (whole (goal.at.In-Is k).After-judge-answer) (length k.args.out.now)
 passed c =
     let version : version_of (whole (goal.at.In-Is c).After-judge-answer).header.version ≡ some (ver c) =
     sym c.from_number.ensures ∙ ap stated_of c.in-Is.is in
@@ -67,7 +54,7 @@ returns-in_default c =
       answer = c.judge-answer.ensures;
       buffer = sym
           (refusal_keeps (whole (goal.at.returns-in_default c).After-judge-answer) c.args.out.now
-          (λ z. not_done c.judge-answer.result c.in_default.keys2 (ap (λ a. a.number) c.judge-answer.ensures ∙ z)));
+          (λ z. not_done c.judge-answer.result c.in_default.not-Done (ap (λ a. a.number) c.judge-answer.ensures ∙ z)));
     }
 
 pub returns-in_default-from_number : goal.returns-in_default-from_number

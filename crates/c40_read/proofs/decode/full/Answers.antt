@@ -21,23 +21,11 @@ overflow_add-i c = omega arith
 pub bounds-bytes-i-in-loop-i : goal.bounds-bytes-i-in-loop-i
 bounds-bytes-i-in-loop-i c = omega arith
 
-pub returns-then-not-is_full : goal.returns-then-not-is_full
-returns-then-not-is_full c =
-    record {
-      full = c.loop-i.invariant.1;
-      inside = omega arith;
-      not_full = λ h. eqb-false _ 3 (sym c.is_full.ensures ∙ not-true _ c.if-not-is_full.true);
-    }
-
 pub overflow_add-i-in-loop-i : goal.overflow_add-i-in-loop-i
 overflow_add-i-in-loop-i c = omega arith
 
 pub loop-i-smaller : goal.loop-i-smaller
 loop-i-smaller c = omega arith
-
-pub loop-i-preserved : goal.loop-i-preserved
-loop-i-preserved c =
-    (omega arith, full_more _ _ c.loop-i.invariant.1 (eqb-true _ 3 (sym c.is_full.ensures ∙ not-false _ c.if-not-is_full.false)))
 
 pub returns : goal.returns
 returns c = record { full = c.loop-i.invariant.1; inside = omega arith; not_full = λ h. absurd (omega arith) }

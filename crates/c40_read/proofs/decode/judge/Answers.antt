@@ -2,20 +2,17 @@
 -- Assumes nothing.
 use borrow.Author.Rules.{rules}
 use native.Mathlib.Omega.{arith}
-use mathlib.Core.Path.{◌≡◌, ◌∙◌, ap, sym}
-use mathlib.Core.Logic.{inl, inr}
+use mathlib.Core.Path.{◌≡◌, ◌∙◌, ap, refl, sym}
 use Prim.Native.Nat.{ℕ, ◌+◌, ◌*◌, ◌-◌, ◌/◌, ◌%◌, ◌<◌, ◌≤◌}
 use mathlib.Core.List.{List, [], ◌∷◌}
-use types.Run.{OneOf}
-use denote.Enum.Declared.{tag_of}
 use lib.Dec.{eqb}
 use lib.ListN.{length, get_or}
 use Rattle.pairs.specs.Chart.{the_chart}
 use Rattle.pairs.specs.Pairs.{pair_of, chars_of}
 use Rattle.pairs.specs.Pairs.Laws.{chars_most, by_chart}
+use Rattle.pairs.specs.declared.decode.Fault.{Fault}
 use Rattle.pairs.specs.declared.decode.Pair.{Pair}
 use Rattle.pairs.specs.declared.decode.Pair.TheVariants.{Three, Two, One, Wrong}
-use Rattle.pairs.specs.contracts.decode.Pair.{the_type}
 use Rattle.c40.specs.Decode.{judged_of}
 use Rattle.c40.specs.Decode.Laws.{sofar_start, sofar_end}
 use Rattle.c40.specs.declared.Judged.TheVariants.{Text}
@@ -68,18 +65,16 @@ returns-in-Wrong c =
     ap judged_of (sym (stopped_wrong _ _ _ (ends (goal.at.returns-in-Wrong c).After-pair_of-pair) c.full-at.ensures _ (told_pair (goal.at.returns-in-Wrong c).After-pair_of-pair) _ c.in-Wrong.is))
 
 -- a pair that is not wrong carries characters; then it is the last one, and the bytes are text
-carries : (p : Pair) → OneOf (0 ∷ 1 ∷ 2 ∷ []) (tag_of the_type p) → 0 < length (chars_of p)
+carries : (p : Pair) → ((fault : Fault) → p ≡ Wrong fault → ⊥) → 0 < length (chars_of p)
 carries (Three a b c) k = omega arith
 carries (Two a b) k = omega arith
 carries (One a) k = omega arith
-carries (Wrong fault) (inl e) = absurd (omega arith)
-carries (Wrong fault) (inr (inl e)) = absurd (omega arith)
-carries (Wrong fault) (inr (inr e)) = absurd (omega arith)
+carries (Wrong fault) k = absurd (k fault refl)
 
-whole : (c : In_default) → Whole (bytes c) (length (bytes c) - 2) c.pair_of-pair.result
+whole : (c : In_default) → Whole c.args.bytes.now (length c.args.bytes.now - 2) c.pair_of-pair.result
 whole c =
     stopped_whole _ _ _ (ends (goal.at.In_default c).After-pair_of-pair) c.full-at.ensures _ (told_pair (goal.at.In_default c).After-pair_of-pair)
-    (carries c.pair_of-pair.result c.in_default.keys2)
+    (carries c.pair_of-pair.result c.in_default.not-Wrong)
 
 pub overflow_add-result : goal.overflow_add-result
 overflow_add-result c = omega (arith, chars_most c.pair_of-pair.result, c.carried.ensures)
@@ -87,5 +82,5 @@ overflow_add-result c = omega (arith, chars_most c.pair_of-pair.result, c.carrie
 pub returns : goal.returns
 returns c =
     let w = whole (goal.at.returns c).In_default in
-    let many = ap (λ k. (length (bytes (goal.at.returns c).After-pair_of-pair) - 2) / 2 * 3 + k) c.carried.ensures ∙ sym w.size in
+    let many = ap (λ k. (length c.args.bytes.now - 2) / 2 * 3 + k) c.carried.ensures ∙ sym w.size in
     ap Text many ∙ ap judged_of (sym w.is_text_lem)

@@ -22,11 +22,8 @@ pub returns-then-number-gt64000 : goal.returns-then-number-gt64000
 returns-then-number-gt64000 c = sym (last_one _ _ c.requires.1 (omega arith)).1
 
 -- at most 64,000
-most : (c : Else-number-gt64000) → let a = (from_most c).args in number a.x a.y ≤ 64000
+most : (c : Else-number-gt64000) → let a = c.args in number a.x a.y ≤ 64000
 most c = omega arith
-
-pub overflow_sub-number : goal.overflow_sub-number
-overflow_sub-number c = omega (arith, last_some _ _ c.requires.1 (most c))
 
 -- the three values are those of the pair's number
 record Values (c : After-split-v) : Type 0 where
@@ -58,3 +55,6 @@ returns c =
     ap (λ (t : List ℕ). Three (get_or t v.a 0) (get_or t v.b 0) (get_or t v.c 0)) c.requires.0
     ∙ (λ i. Three (char (n.is_first i)) (char (n.is_second i)) (char (n.is_third i)))
     ∙ sym (last_three _ _ c.requires.1 (most (goal.at.returns c).Else-number-gt64000) (λ z. c.if-c-eq0.false (n.is_third ∙ z)))
+
+pub overflow_sub-number : goal.overflow_sub-number
+overflow_sub-number c = omega (arith, last_some _ _ c.requires.1 (most (goal.at.overflow_sub-number c).Else-number-gt64000))

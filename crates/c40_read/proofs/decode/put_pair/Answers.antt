@@ -39,28 +39,27 @@ bounds-out-at-in-Two-2 c = simp length-set (omega (arith, two c))
 pub bounds-out-at-in-One : goal.bounds-out-at-in-One
 bounds-out-at-in-One c = omega (arith, one c)
 
+pub returns-in-Wrong : goal.returns-in-Wrong
+returns-in-Wrong c =
+    let a = c.args in
+    sym (over_none a.out.now a.at) ∙ ap (λ p. over a.out.now a.at (chars_of p)) (sym c.in-Wrong.is)
+
 pub returns-in-Three : goal.returns-in-Three
 returns-in-Three c =
     let a = c.args in
-    let g = c.pair-1.given.0 in
-    over_three a.out.now a.at g.0 g.1.0 g.1.1.0 (three c)
+    let g = c.in-Three in
+    over_three a.out.now a.at g.a g.b g.c (three c)
     ∙ ap (λ p. over a.out.now a.at (chars_of p)) (sym c.in-Three.is)
 
 pub returns-in-Two : goal.returns-in-Two
 returns-in-Two c =
     let a = c.args in
-    let g = c.pair-in-Two-1.given.0 in
-    over_two a.out.now a.at g.0 g.1.0 (two c)
+    let g = c.in-Two in
+    over_two a.out.now a.at g.a g.b (two c)
     ∙ ap (λ p. over a.out.now a.at (chars_of p)) (sym c.in-Two.is)
 
 pub returns-in-One : goal.returns-in-One
 returns-in-One c =
     let a = c.args in
-    let g = c.pair-in-One-1.given.0 in
-    set_over a.out.now a.at g.0 (omega (arith, one c))
+    set_over a.out.now a.at c.in-One.a (omega (arith, one c))
     ∙ ap (λ p. over a.out.now a.at (chars_of p)) (sym c.in-One.is)
-
-pub returns-in-Wrong : goal.returns-in-Wrong
-returns-in-Wrong c =
-    let a = c.args in
-    sym (over_none a.out.now a.at) ∙ ap (λ p. over a.out.now a.at (chars_of p)) (sym c.in-Wrong.is)

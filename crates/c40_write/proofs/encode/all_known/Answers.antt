@@ -14,7 +14,7 @@ pub bounds-text-i : goal.bounds-text-i
 bounds-text-i c = omega arith
 
 pub bounds-values-wide : goal.bounds-values-wide
-bounds-values-wide c = omega (arith, c.shared_slice_known-in-loop-i-1.given c.loop-i.i)
+bounds-values-wide c = omega (arith, c.type_inv.text c.loop-i.i)
 
 pub overflow_add-i : goal.overflow_add-i
 overflow_add-i c = omega arith
@@ -24,7 +24,7 @@ loop-i-smaller c = omega arith
 
 pub loop-i-preserved : goal.loop-i-preserved
 loop-i-preserved c =
-    let known = c.shared_slice_known-in-loop-i-1.given c.loop-i.i in
+    let known = c.type_inv.text c.loop-i.i in
     let found = looked _ _ _ c.requires c.wide.ensures in
     (omega arith, judged_more _ _ _ c.loop-i.invariant.1 _ (omega arith) (omega arith) found)
 

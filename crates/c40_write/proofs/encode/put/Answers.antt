@@ -35,19 +35,19 @@ Value c i x = (x ≡ value_of (get_or (text c) i 0)) × (x < 40)
 value_at : (c : At-loop-i) (i x : ℕ) → i < length (text c) → x ≡ get_or turned (get_or (text c) i 0) 0 → Value c i x
 value_at c = text_value (text c) c.requires.1
 
-first : (c : After-value) → let on = on_first c in Value on on.loop-i.i c.value.result
+first : (c : After-value) → let on = (goal.at.After-value c).At-loop-i in Value on on.loop-i.i c.value.result
 first c = value_at (goal.at.After-value c).At-loop-i _ _ (omega arith) c.value.ensures
 
-second : (c : After-value-in-loop-i) → let on = on_first (on_second c) in Value on (on.loop-i.i + 1) c.value-in-loop-i.result
+second : (c : After-value-in-loop-i) → let on = (goal.at.After-value-in-loop-i c).At-loop-i in Value on (on.loop-i.i + 1) c.value-in-loop-i.result
 second c = value_at (goal.at.After-value-in-loop-i c).At-loop-i _ _ (omega arith) c.value-in-loop-i.ensures
 
-third : (c : After-value-in-loop-i-2) → let on = from_three c in Value on (on.loop-i.i + 2) c.value-in-loop-i-2.result
+third : (c : After-value-in-loop-i-2) → let on = (goal.at.After-value-in-loop-i-2 c).At-loop-i in Value on (on.loop-i.i + 2) c.value-in-loop-i-2.result
 third c = value_at (goal.at.After-value-in-loop-i-2 c).At-loop-i _ _ (omega arith) c.value-in-loop-i-2.ensures
 
-fourth : (c : After-value-then-i-n) → let on = on_fourth c in Value on on.loop-i.i c.value-then-i-n.result
+fourth : (c : After-value-then-i-n) → let on = (goal.at.After-value-then-i-n c).At-loop-i in Value on on.loop-i.i c.value-then-i-n.result
 fourth c = value_at (goal.at.After-value-then-i-n c).At-loop-i _ _ (omega arith) c.value-then-i-n.ensures
 
-fifth : (c : After-value-then-i-n-2) → let on = from_two c in Value on (on.loop-i.i + 1) c.value-then-i-n-2.result
+fifth : (c : After-value-then-i-n-2) → let on = (goal.at.After-value-then-i-n-2 c).At-loop-i in Value on (on.loop-i.i + 1) c.value-then-i-n-2.result
 fifth c = value_at (goal.at.After-value-then-i-n-2 c).At-loop-i _ _ (omega arith) c.value-then-i-n-2.ensures
 
 -- the number that is put down for three characters, and for two
@@ -56,7 +56,7 @@ number-three c = packed_of c.value.result c.value-in-loop-i.result c.value-in-lo
 
 packs_three :
     (c : After-value-in-loop-i-2) →
-    let on = from_three c in
+    let on = (goal.at.After-value-in-loop-i-2 c).At-loop-i in
     packed_of
     (value_of (get_or (text on) on.loop-i.i 0))
     (value_of (get_or (text on) (on.loop-i.i + 1) 0))
@@ -69,7 +69,7 @@ number_two c = 1600 * c.value-then-i-n.result + 40 * c.value-then-i-n-2.result +
 
 packs_two :
     (c : After-value-then-i-n-2) →
-    let on = from_two c in
+    let on = (goal.at.After-value-then-i-n-2 c).At-loop-i in
     packed_of (value_of (get_or (text on) on.loop-i.i 0)) (value_of (get_or (text on) (on.loop-i.i + 1) 0)) 0 ≡ number_two c
 packs_two c = omega (arith, fourth (goal.at.After-value-then-i-n-2 c).After-value-then-i-n, fifth c)
 
@@ -156,7 +156,7 @@ loop-i-smaller c = omega arith
 
 pub loop-i-preserved : goal.loop-i-preserved
 loop-i-preserved c =
-    let on = (c) in
+    let on = (goal.at.loop-i-preserved c).At-loop-i in
     let whole = left_three (text (goal.at.loop-i-preserved c).At-loop-i) on.loop-i.i (omega arith) in
     let rest = publish (drop (on.loop-i.i + 3) (text (goal.at.loop-i-preserved c).At-loop-i)) in
     let number = number-three (goal.at.loop-i-preserved c).After-value-in-loop-i-2 in (
@@ -215,21 +215,21 @@ put_number-requires-then-i-n-2 c =
     (omega arith, omega arith)
 
 pub shape_of-out-then-i-n : goal.shape_of-out-then-i-n
-shape_of-out-then-i-n c = c.put_number-then-i-n.auto.1.0 ∙ (room (goal.at.shape_of-out-then-i-n c).At-loop-i (omega arith)).1
+shape_of-out-then-i-n c = c.put_number-then-i-n.auto.out ∙ (room (goal.at.shape_of-out-then-i-n c).At-loop-i (omega arith)).1
 
 pub returns-then-i-n : goal.returns-then-i-n
 returns-then-i-n c =
-    let on = (c) in
+    let on = (goal.at.returns-then-i-n c).At-loop-i in
     ends on (omega arith) (number_two (goal.at.returns-then-i-n c).After-value-then-i-n-2) _ c.put_number-then-i-n.ensures
     (left_two (text (goal.at.returns-then-i-n c).At-loop-i) on.loop-i.i (omega arith) ∙ ap (be 2) (packs_two (goal.at.returns-then-i-n c).After-value-then-i-n-2))
 
 pub shape_of-out-then-i-n-2 : goal.shape_of-out-then-i-n-2
-shape_of-out-then-i-n-2 c = c.put_number-then-i-n-2.auto.1.0 ∙ (room (goal.at.shape_of-out-then-i-n-2 c).At-loop-i (omega arith)).1
+shape_of-out-then-i-n-2 c = c.put_number-then-i-n-2.auto.out ∙ (room (goal.at.shape_of-out-then-i-n-2 c).At-loop-i (omega arith)).1
 
 pub returns-then-i-n-2 : goal.returns-then-i-n-2
 returns-then-i-n-2 c =
     let packed = c.number_of_one in
-    let on = (c) in
+    let on = (goal.at.returns-then-i-n-2 c).At-loop-i in
     let code = low (goal.at.returns-then-i-n-2 c).At-loop-i (omega arith) in
     ends on (omega arith) packed.result _ c.put_number-then-i-n-2.ensures
     (left_one (text (goal.at.returns-then-i-n-2 c).At-loop-i) on.loop-i.i (omega arith) (omega arith) ∙ ap (be 2) (sym packed.ensures))

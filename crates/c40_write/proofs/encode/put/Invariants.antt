@@ -1,4 +1,5 @@
 -- `encode::put` meets its contract. The loop's invariant: these bytes stand in `out`, and what is left of the text
+-- is still to be published.
 use borrow.Author.Rules.{rules}
 use native.Mathlib.Omega.{arith}
 use mathlib.Core.Path.{◌≡◌, ◌∙◌, refl, ap, sym}

@@ -1,6 +1,5 @@
 -- `case_file::fill::put_call` meets its contract: the number, and then the rest of the line.
 -- Assumes nothing.
-use borrow.Author.Rules.{rules}
 use Rattle.case_file.specs.Line.Laws.{put_more}
 use Rattle.case_file.proofs.fill.put_call.Goals as goal
 

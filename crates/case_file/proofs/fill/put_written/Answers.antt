@@ -1,6 +1,5 @@
 -- `case_file::fill::put_written` meets its contract.
 -- Assumes nothing.
-use borrow.Author.Rules.{rules}
 use native.Mathlib.Omega.{arith}
 use mathlib.Core.Path.{sym}
 use borrow.Author.Tests.{lt-ltb, le-ltb, eq-eqb, ne_eqb}
@@ -11,15 +10,13 @@ use Rattle.case_file.proofs.fill.put_written.Goals as goal
 pub returns-then-count-eq0 : goal.returns-then-count-eq0
 returns-then-count-eq0 c = rw (eq-eqb _ _ c.if-count-eq0.true) (put_none _ _)
 
--- GONE slice-aggregate-put-text
-
 pub returns-then-buffer-count : goal.returns-then-buffer-count
 returns-then-buffer-count c =
     rw (ne_eqb _ _ c.if-count-eq0.false, lt-ltb _ _ c.if-buffer-count.true) c.put_text.ensures
 
 pub slice_bounds-put_bytes-end : goal.slice_bounds-put_bytes-end
 slice_bounds-put_bytes-end c =
-    let entry = ((c)) in sym (length-take-le entry.args.count entry.args.buffer.now (omega arith))
+    sym (length-take-le c.args.count c.args.buffer.now (omega arith))
 
 pub returns : goal.returns
 returns c =

@@ -1,6 +1,5 @@
 -- `case_file::fill::reach` meets its contract.
 -- Assumes nothing.
-use borrow.Author.Rules.{rules}
 use native.Mathlib.Omega.{arith}
 use Rattle.case_file.specs.Line.Laws.{counts}
 use Rattle.case_file.proofs.fill.reach.Goals as goal

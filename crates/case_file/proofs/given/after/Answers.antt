@@ -2,10 +2,6 @@
 -- Assumes nothing.
 use native.Mathlib.Omega.{arith}
 use native.Mathlib.Numerals.{add-one}
-use mathlib.Core.Path.{◌≡◌}
-use Prim.Native.Nat.{◌+◌, ◌-◌, ◌≤◌}
-use lib.ListN.{length, drop}
-use Rattle.case_file.specs.Given.{after_first}
 use Rattle.case_file.specs.Given.Laws.{after_found, after_turn, after_end}
 use Rattle.case_file.proofs.given.after.Goals as goal
 
@@ -22,7 +18,6 @@ pub returns-then-line-i : goal.returns-then-line-i
 returns-then-line-i c =
     let args = c.args in
     omega (arith, c.loop-i.invariant.1, after_found args.line.now c.loop-i.i args.letter (omega arith) c.if-line-i.true)
-    -- LOOK record upper_bound value
 
 pub overflow_add-i : goal.overflow_add-i
 overflow_add-i c = omega arith
@@ -40,4 +35,3 @@ pub returns : goal.returns
 returns c =
     let args = c.args in
     omega (arith, c.loop-i.invariant.1, after_end args.line.now c.loop-i.i args.letter (omega arith))
-    -- LOOK record upper_bound value

@@ -1,11 +1,8 @@
 -- `case_file::given::after` meets its contract. The loop's invariant: `i` is no further than the end, and the letter was not passed.
-use native.Mathlib.Omega.{arith}
-use native.Mathlib.Numerals.{add-one}
 use mathlib.Core.Path.{◌≡◌}
 use Prim.Native.Nat.{◌+◌, ◌-◌, ◌≤◌}
 use lib.ListN.{length, drop}
 use Rattle.case_file.specs.Given.{after_first}
-use Rattle.case_file.specs.Given.Laws.{after_found, after_turn, after_end}
 use Rattle.case_file.proofs.given.after.Given as goal
 
 abbrev pub invariant-loop-i : goal.invariant-loop-i

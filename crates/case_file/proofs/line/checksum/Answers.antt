@@ -1,9 +1,8 @@
 -- `case_file::line::checksum` meets its contract. The loop's invariant: `tail` and `sum` are the two sums of what stands from `i` on.
 -- Assumes nothing.
-use borrow.Author.Rules.{rules}
 use native.Mathlib.Omega.{arith}
 use mathlib.Core.Path.{◌≡◌, ap}
-use Prim.Native.Nat.{◌-◌, ◌%◌, ◌≤◌, suc}
+use Prim.Native.Nat.{◌-◌, suc}
 use native.Mathlib.Nat.{le_refl}
 use lib.ListN.{length, drop, drop_of_length-le}
 use Rattle.case_file.specs.Line.{weighted}
@@ -23,7 +22,7 @@ pub bounds-bytes-i : goal.bounds-bytes-i
 bounds-bytes-i c = omega arith
 
 pub overflow_add-tail : goal.overflow_add-tail
-overflow_add-tail c = omega (arith, c.shared_slice_known-in-loop-i-1.given (c.loop-i.i - 1))
+overflow_add-tail c = omega (arith, c.type_inv.bytes (c.loop-i.i - 1))
 
 pub overflow_add-sum : goal.overflow_add-sum
 overflow_add-sum c = omega arith

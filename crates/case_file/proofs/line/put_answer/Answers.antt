@@ -1,6 +1,5 @@
 -- `case_file::line::put_answer` meets its contract: three parts, each after the one before it.
 -- Assumes nothing.
-use borrow.Author.Rules.{rules}
 use Rattle.case_file.specs.Line.Laws.{put_more}
 use Rattle.case_file.proofs.line.put_answer.Goals as goal
 

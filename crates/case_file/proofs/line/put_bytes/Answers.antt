@@ -1,6 +1,5 @@
 -- `case_file::line::put_bytes` meets its contract: few bytes are put down whole, and many in five parts.
 -- Assumes nothing.
-use borrow.Author.Rules.{rules}
 use native.Mathlib.Omega.{arith}
 use borrow.Author.Tests.{le-leb, lt-leb}
 use mathlib.Core.Path.{sym}
@@ -16,16 +15,6 @@ returns-then-n-le24 c = rw (le-leb _ _ c.if-n-le24.true) c.put_hex.ensures
 
 pub slice_bounds-put_hex-end : goal.slice_bounds-put_hex-end
 slice_bounds-put_hex-end c = sym (length-take-le 8 c.args.bytes.now (omega arith))
-
--- GONE slice-aggregate-put-text
-
--- GONE overflow-sub-put-hex
-
--- GONE slice-bounds-put-hex-start
-
--- GONE slice-bounds-put-hex-end
-
--- GONE slice-aggregate-put-text-2
 
 pub returns : goal.returns
 unfolding shown

@@ -1,6 +1,5 @@
 -- `case_file::line::put_part` meets its contract: the label, and then the numbers.
 -- Assumes nothing.
-use borrow.Author.Rules.{rules}
 use Rattle.case_file.specs.Line.Laws.{put_more}
 use Rattle.case_file.proofs.line.put_part.Goals as goal
 

@@ -1,23 +1,17 @@
 -- `case_file::line::put_words` meets its contract. The loop's invariant: the numbers up to `i` are put down.
 -- Assumes nothing.
-use borrow.Author.Rules.{rules}
 use native.Mathlib.Omega.{arith}
-use mathlib.Core.Path.{◌≡◌, refl, ◌∙◌}
-use Prim.Native.Nat.{◌-◌, ◌≤◌}
-use lib.ListN.{length, take}
+use mathlib.Core.Path.{refl, ◌∙◌}
+use Prim.Native.Nat.{◌≤◌}
+use lib.ListN.{length}
 use lib.Seq.{take_all}
-use Rattle.case_file.specs.Line.{Put, words_of}
+use Rattle.case_file.specs.Line.{words_of}
 use Rattle.case_file.specs.Line.Laws.{put_none, words_turn}
 use Rattle.case_file.proofs.line.put_words.Goals as goal
 
 pub loop-i-init : goal.loop-i-init
 unfolding words_of
 loop-i-init c = (omega arith, refl, put_none _ _)
-
--- GONE overflow-mul-put-number
-
-pub MISSING-overflow-mul-put-number : goal.MISSING-overflow-mul-put-number
-MISSING-overflow-mul-put-number c = omega arith
 
 pub bounds-numbers-i : goal.bounds-numbers-i
 bounds-numbers-i c = omega arith

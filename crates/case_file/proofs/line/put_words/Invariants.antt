@@ -1,12 +1,8 @@
 -- `case_file::line::put_words` meets its contract. The loop's invariant: the numbers up to `i` are put down.
-use borrow.Author.Rules.{rules}
-use native.Mathlib.Omega.{arith}
-use mathlib.Core.Path.{◌≡◌, refl, ◌∙◌}
+use mathlib.Core.Path.{◌≡◌}
 use Prim.Native.Nat.{◌-◌, ◌≤◌}
 use lib.ListN.{length, take}
-use lib.Seq.{take_all}
 use Rattle.case_file.specs.Line.{Put, words_of}
-use Rattle.case_file.specs.Line.Laws.{put_none, words_turn}
 use Rattle.case_file.proofs.line.put_words.Given as goal
 
 abbrev pub invariant-loop-i : goal.invariant-loop-i

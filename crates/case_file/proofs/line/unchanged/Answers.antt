@@ -2,10 +2,7 @@
 -- Assumes nothing.
 use native.Mathlib.Omega.{arith}
 use native.Mathlib.Numerals.{add-one}
-use mathlib.Core.Path.{◌≡◌, refl, sym, ◌∙◌}
-use Prim.Native.Nat.{◌-◌}
-use lib.ListN.{length, drop}
-use Rattle.case_file.specs.Fill.{all_are}
+use mathlib.Core.Path.{refl, sym, ◌∙◌}
 use Rattle.case_file.specs.Fill.Laws.{all_turn, all_not, all_end}
 use Rattle.case_file.proofs.line.unchanged.Goals as goal
 

@@ -1,11 +1,8 @@
 -- `case_file::line::unchanged` meets its contract. The loop's invariant: the answer is that for the bytes from `i` on.
-use native.Mathlib.Omega.{arith}
-use native.Mathlib.Numerals.{add-one}
-use mathlib.Core.Path.{◌≡◌, refl, sym, ◌∙◌}
+use mathlib.Core.Path.{◌≡◌}
 use Prim.Native.Nat.{◌-◌}
 use lib.ListN.{length, drop}
 use Rattle.case_file.specs.Fill.{all_are}
-use Rattle.case_file.specs.Fill.Laws.{all_turn, all_not, all_end}
 use Rattle.case_file.proofs.line.unchanged.Given as goal
 
 abbrev pub invariant-loop-i : goal.invariant-loop-i

@@ -12,9 +12,6 @@ use Rattle.ecdsa_to_der.specs.Places.Laws.{behind}
 use borrow.Author.Rules.{rules}
 use Rattle.ecdsa_to_der.proofs.der_form.put_head.Goals as goal
 
-pub shape_of-out : goal.shape_of-out
-shape_of-out c = c.put_length.auto.1.0 ∙ simp length-set
-
 pub returns : goal.returns
 returns c =
     let out = c.args.out.now in

@@ -18,15 +18,6 @@ overflow_cast-out c =
 pub bounds-out-at-2 : goal.bounds-out-at-2
 bounds-out-at-2 c = simp length-set (omega (arith, c.requires.room))
 
--- GONE overflow-sub-copy
-
--- GONE slice-bounds-copy-start
-
--- GONE slice-bounds-copy-end
-
-pub shape_of-out-then-number-start-lt128 : goal.shape_of-out-then-number-start-lt128
-shape_of-out-then-number-start-lt128 c = c.copy.auto.1.0 ∙ simp length-set
-
 pub returns-then-number-start-lt128 : goal.returns-then-number-start-lt128
 returns-then-number-start-lt128 c =
     let a = c.args in
@@ -49,15 +40,6 @@ bounds-out-at-3 c =
           c.if-number-start-lt128.false,
       r.inside,
     ))
-
--- GONE overflow-sub-copy-2
-
--- GONE slice-bounds-copy-start-2
-
--- GONE slice-bounds-copy-end-2
-
-pub shape_of-out : goal.shape_of-out
-shape_of-out c = c.copy-2.auto.1.0 ∙ simp length-set
 
 pub returns : goal.returns
 returns c =

@@ -1,7 +1,6 @@
 -- `der_form::size_from` meets its contract.
 -- Assumes nothing.
 use Rattle.ecdsa.specs.Signature.Laws.{size_low, size_high}
-use borrow.Author.Rules.{rules}
 use Rattle.ecdsa_to_der.proofs.der_form.size_from.Goals as goal
 
 pub returns-then-number-start-lt128 : goal.returns-then-number-start-lt128

@@ -1,11 +1,9 @@
 -- `der_form::start_of` meets its contract. The loop's invariant: the bytes passed are zeros that the shortest form does without.
-use native.Mathlib.Omega.{arith}
-use mathlib.Core.Path.{◌≡◌, refl}
+use mathlib.Core.Path.{◌≡◌}
 use Prim.Native.Nat.{◌-◌, ◌<◌}
 use mathlib.Core.List.{◌∷◌}
 use lib.ListN.{length, drop}
 use Rattle.der.specs.Content.{shortest}
-use Rattle.ecdsa.specs.Signature.Laws.{start_more, start_here, start_last}
 use Rattle.ecdsa_to_der.proofs.der_form.start_of.Given as goal
 
 abbrev pub invariant-loop-k : goal.invariant-loop-k

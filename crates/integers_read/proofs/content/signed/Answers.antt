@@ -1,6 +1,5 @@
 -- `content::signed` meets its contract: the byte, and from 80 on 256 less.
 -- Assumes nothing.
-use borrow.Author.Rules.{rules}
 use native.Mathlib.Omega.{arith}
 use Rattle.integers.specs.Integer.Bytewise.{first_low, first_fits, first_back}
 use Rattle.integers_read.proofs.content.signed.Goals as goal

@@ -22,20 +22,25 @@ overflow_add-i c = omega arith
 pub bounds-bytes-i-in-loop-i : goal.bounds-bytes-i-in-loop-i
 bounds-bytes-i-in-loop-i c = omega arith
 
+pub overflow_add-i-in-loop-i : goal.overflow_add-i-in-loop-i
+overflow_add-i-in-loop-i c = omega arith
+
+pub loop-i-smaller : goal.loop-i-smaller
+loop-i-smaller c = omega arith
+
+pub returns : goal.returns
+returns c =
+    let s = c.args.bytes.now in
+    (omega arith, c.loop-i.invariant.1 ∙ start_last s c.loop-i.i (omega arith))
+
 pub returns-then-not-is_redundant : goal.returns-then-not-is_redundant
 returns-then-not-is_redundant c =
     let s = c.args.bytes.now in (
       omega arith,
       c.loop-i.invariant.1
           ∙ start_keep s c.loop-i.i (omega arith)
-          (sym c.is_redundant.ensures ∙ not-true c.is_redundant.result c.if-not-is_redundant.true),
+          (sym c.is_redundant.ensures ∙ c.if-not-is_redundant.true),
     )
-
-pub overflow_add-i-in-loop-i : goal.overflow_add-i-in-loop-i
-overflow_add-i-in-loop-i c = omega arith
-
-pub loop-i-smaller : goal.loop-i-smaller
-loop-i-smaller c = omega arith
 
 pub loop-i-preserved : goal.loop-i-preserved
 loop-i-preserved c =
@@ -43,10 +48,5 @@ loop-i-preserved c =
       omega arith,
       c.loop-i.invariant.1
           ∙ start_drop s c.loop-i.i (omega arith)
-          (sym c.is_redundant.ensures ∙ not-false c.is_redundant.result c.if-not-is_redundant.false),
+          (sym c.is_redundant.ensures ∙ c.if-not-is_redundant.false),
     )
-
-pub returns : goal.returns
-returns c =
-    let s = c.args.bytes.now in
-    (omega arith, c.loop-i.invariant.1 ∙ start_last s c.loop-i.i (omega arith))

@@ -1,6 +1,5 @@
 -- `list_lines::date::put_date` meets its contract: the year, the month and the day.
 -- Assumes nothing.
-use borrow.Author.Rules.{rules}
 use Rattle.lines.specs.Line.Laws.{put_more}
 use Rattle.list_lines.proofs.date.put_date.Goals as goal
 

@@ -1,6 +1,5 @@
 -- `list_lines::date::put_four` meets its contract: a zero for each digit that is wanted, and the number.
 -- Assumes nothing.
-use borrow.Author.Rules.{rules}
 use Rattle.lines.specs.Line.Laws.{put_more}
 use Rattle.list_lines.proofs.date.put_four.Goals as goal
 

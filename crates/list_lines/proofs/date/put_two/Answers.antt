@@ -1,6 +1,5 @@
 -- `list_lines::date::put_two` meets its contract: a zero where it is wanted, and the number.
 -- Assumes nothing.
-use borrow.Author.Rules.{rules}
 use Rattle.lines.specs.Line.Laws.{put_more}
 use Rattle.list_lines.proofs.date.put_two.Goals as goal
 

@@ -1,6 +1,5 @@
 -- `list_lines::date::put_zero` meets its contract.
 -- Assumes nothing.
-use borrow.Author.Rules.{rules}
 use borrow.Author.Tests.{lt-ltb, le-ltb}
 use Rattle.lines.specs.Line.Laws.{put_none}
 use Rattle.list_lines.proofs.date.put_zero.Goals as goal

@@ -1,6 +1,5 @@
 -- `list_lines::named::put_counted` meets its contract: the name, the number, a newline.
 -- Assumes nothing.
-use borrow.Author.Rules.{rules}
 use Rattle.lines.specs.Line.Laws.{put_more}
 use Rattle.list_lines.proofs.named.put_counted.Goals as goal
 

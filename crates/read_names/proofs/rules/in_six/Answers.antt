@@ -1,7 +1,6 @@
 -- `read_names::rules::in_six` meets its contract: the signer, the two digits, and that they are not 00.
 -- Assumes nothing.
 use borrow.Author.Rules.{rules}
-use borrow.Author.Tests.{not-true, not-false}
 use native.Mathlib.Omega.{arith}
 use mathlib.Core.Path.{◌≡◌, ◌∙◌, ap, sym}
 use mathlib.Core.Bool.{true}
@@ -27,9 +26,6 @@ whole c = text (goal.at.After-hex_value-low c).After-is_signer
 signer : (on : After-is_signer) → on.is_signer.result ≡ is_signer (take 4 (text on))
 signer c = c.is_signer.ensures ∙ ap is_signer (first_four (text c) (omega arith))
 
-pub returns-then-not-is_signer : goal.returns-then-not-is_signer
-returns-then-not-is_signer c = breaks _ rule.SignerCharacters _ (sym (signer (goal.at.returns-then-not-is_signer c).After-is_signer) ∙ not-true _ c.if-not-is_signer.true)
-
 -- past the signer: what the two digits stand for
 record Digits (on : After-hex_value-low) : Type 0 where
   passes : is_signer (take 4 (whole on)) ≡ true
@@ -41,24 +37,27 @@ record Digits (on : After-hex_value-low) : Type 0 where
 digits : (on : After-hex_value-low) → Digits on
 digits c =
     record {
-      passes = sym (signer (goal.at.After-hex_value-low c).After-is_signer) ∙ not-false _ c.if-not-is_signer.false;
+      passes = sym (signer (goal.at.After-hex_value-low c).After-is_signer) ∙ c.if-not-is_signer.false;
       high = c.hex_value-high.ensures;
       low = c.hex_value-low.ensures;
       high_most = value_most (get_or (whole c) 4 0);
       low_most = value_most (get_or (whole c) 5 0);
     }
 
+-- a digit that is not 16 is below it
+below_high : (c : Else-high-eq16) → hex_value (get_or (whole (goal.at.Else-high-eq16 c).After-hex_value-low) 4 0) < 16
+below_high c = let d = digits (goal.at.Else-high-eq16 c).After-hex_value-low in omega (arith, c.if-high-eq16.false)
+
+below_low : (c : Else-low-eq16) → hex_value (get_or (whole (goal.at.Else-low-eq16 c).After-hex_value-low) 5 0) < 16
+below_low c = let d = digits (goal.at.Else-low-eq16 c).After-hex_value-low in omega (arith, c.if-low-eq16.false)
+
+pub returns-then-not-is_signer : goal.returns-then-not-is_signer
+returns-then-not-is_signer c = breaks _ rule.SignerCharacters _ (sym (signer (goal.at.returns-then-not-is_signer c).After-is_signer) ∙ c.if-not-is_signer.true)
+
 pub returns-then-high-eq16 : goal.returns-then-high-eq16
 returns-then-high-eq16 c =
     let d = digits (goal.at.returns-then-high-eq16 c).After-hex_value-low in
     six_first (whole (goal.at.returns-then-high-eq16 c).After-hex_value-low) d.passes (sym d.high ∙ c.if-high-eq16.true)
-
--- a digit that is not 16 is below it
-below_high : (c : Else-high-eq16) → hex_value (get_or (whole c) 4 0) < 16
-below_high c = let d = digits (goal.at.Else-high-eq16 c).After-hex_value-low in omega (arith, c.if-high-eq16.false)
-
-below_low : (c : Else-low-eq16) → hex_value (get_or (whole c) 5 0) < 16
-below_low c = let d = digits (goal.at.Else-low-eq16 c).After-hex_value-low in omega (arith, c.if-low-eq16.false)
 
 pub returns-then-low-eq16 : goal.returns-then-low-eq16
 returns-then-low-eq16 c =

@@ -18,7 +18,7 @@ next c = c.in-Past.next.place
 
 -- the next place, and that the bytes up to it are there
 place : (c : In-Past)
-    → let args = (start (skipped c)).args in
+    → let args = c.args in
     (next c ≡ args.at.place + width (length args.text.now))
     × (args.at.place + width (length args.text.now) ≤ length args.seal.now)
 place c =
@@ -32,26 +32,18 @@ returns-in_default c =
     field_cut (length args.text.now) _ args.at.place args.seal.now (omega arith) c.skip.result c.skip.ensures
     c.in_default.is
 
--- GONE overflow-sub-fill
-
-pub MISSING-overflow-sub-fill : goal.MISSING-overflow-sub-fill
-MISSING-overflow-sub-fill c = omega (arith, (place (goal.at.MISSING-overflow-sub-fill c).In-Past).0)
-
--- GONE slice-bounds-fill-start
-
-pub MISSING-slice-bounds-fill-start : goal.MISSING-slice-bounds-fill-start
-MISSING-slice-bounds-fill-start c = omega (arith, (place (goal.at.MISSING-slice-bounds-fill-start c).In-Past).0, (place (goal.at.MISSING-slice-bounds-fill-start c).In-Past).1)
-
--- GONE slice-bounds-fill-end
-
-pub MISSING-slice-bounds-fill-end : goal.MISSING-slice-bounds-fill-end
-MISSING-slice-bounds-fill-end c = omega (arith, (place (goal.at.MISSING-slice-bounds-fill-end c).In-Past).0, (place (goal.at.MISSING-slice-bounds-fill-end c).In-Past).1)
+-- the pair that is wrong, as the bytes say it
+wrong_pair : (c : In-WrongAt)
+    → let args = c.args in
+    wrong_at c.in-WrongAt.pair
+    ≡ exactly (length args.text.now) (decode 0 (take (c.in-Past.next.place - args.at.place) (drop args.at.place args.seal.now)))
+wrong_pair c =
+    sym (ap (exact_of c.fill-filled.new.text) c.in-WrongAt.is) ∙ c.fill-filled.ensures
 
 pub fill-filled-requires : goal.fill-filled-requires
 fill-filled-requires c =
-    let entry = (c) in
-    let args = entry.args in
-    (field_wide (length args.text.now) args.at.place (next (goal.at.fill-filled-requires c).In-Past) args.seal.now (place (goal.at.fill-filled-requires c).In-Past), entry.requires)
+    let args = c.args in
+    (field_wide (length args.text.now) args.at.place (next (goal.at.fill-filled-requires c).In-Past) args.seal.now (place (goal.at.fill-filled-requires c).In-Past), c.requires)
 
 pub returns-in-Exactly : goal.returns-in-Exactly
 returns-in-Exactly c =
@@ -60,25 +52,14 @@ returns-in-Exactly c =
     field_coded (length args.text.now) args.at.place (next (goal.at.returns-in-Exactly c).In-Past) args.seal.now (place (goal.at.returns-in-Exactly c).In-Past) out
     (sym (ap (exact_of out) c.in-Exactly.is) ∙ c.fill-filled.ensures)
 
--- the pair that is wrong, as the bytes say it
-wrong_pair : (c : In-WrongAt)
-    → let told = from_fill (from_wrong c) in
-    let args = (start (skipped told)).args in
-    wrong_at c.in-WrongAt.pair
-    ≡ exactly (length args.text.now) (decode 0 (take (next told - args.at.place) (drop args.at.place args.seal.now)))
-wrong_pair c =
-    sym (ap (exact_of c.fill-filled.last.1.0) c.in-WrongAt.is) ∙ c.fill-filled.ensures
-
 pub overflow_add-result : goal.overflow_add-result
 overflow_add-result c =
-    let told = (c) in
-    let args = told.args in
+    let args = c.args in
     let inside =
-    field_inside (length args.text.now) args.at.place (next (goal.at.overflow_add-result c).In-Past) args.seal.now (place (goal.at.overflow_add-result c).In-Past) (omega arith) _ (wrong_pair c) in
+    field_inside (length args.text.now) args.at.place (next (goal.at.overflow_add-result c).In-Past) args.seal.now (place (goal.at.overflow_add-result c).In-Past) (omega arith) _ (wrong_pair (goal.at.overflow_add-result c).In-WrongAt) in
     omega (arith, inside)
 
 pub returns-in-WrongAt : goal.returns-in-WrongAt
 returns-in-WrongAt c =
-    let told = (c) in
-    let args = told.args in
-    field_wrong (length args.text.now) args.at.place (next (goal.at.returns-in-WrongAt c).In-Past) args.seal.now (place (goal.at.returns-in-WrongAt c).In-Past) _ (wrong_pair c)
+    let args = c.args in
+    field_wrong (length args.text.now) args.at.place (next (goal.at.returns-in-WrongAt c).In-Past) args.seal.now (place (goal.at.returns-in-WrongAt c).In-Past) _ (wrong_pair (goal.at.returns-in-WrongAt c).In-WrongAt)

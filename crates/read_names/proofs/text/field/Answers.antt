@@ -52,25 +52,21 @@ judge-rules-requires c =
 
 -- the text that was read, and what its rules say of it
 judged : (c : After-judge-rules) →
-    let on = on-coded (told c) in
-    let args = (start on).args in
-    judged_by (kept_of c.judge-rules.result) (out on) args.at.place (next (told c)) ≡ read.field
+    let args = c.args in
+    judged_by (kept_of c.judge-rules.result) (out (goal.at.After-judge-rules c).After-coded-read) args.at.place c.in-Past.next.place ≡ read.field
     (length args.text.now) (rules_of args.kind) args.at.place args.seal.now
 judged c =
-    let on = (c) in
-    let args = on.args in
+    let args = c.args in
     ap (λ o. judged_by o (out (goal.at.After-judge-rules c).After-coded-read) args.at.place (next (goal.at.After-judge-rules c).In-Past)) c.judge-rules.ensures
     ∙ field_judged (length args.text.now) (rules_of args.kind) args.at.place args.seal.now (out (goal.at.After-judge-rules c).After-coded-read) (next (goal.at.After-judge-rules c).In-Past)
-    (sym (ap (step_of (out (goal.at.After-judge-rules c).After-coded-read)) c.in-Past.is) ∙ on.coded-read.ensures)
+    (sym (ap (step_of (out (goal.at.After-judge-rules c).After-coded-read)) c.in-Past.is) ∙ c.coded-read.ensures)
 
 pub returns-in-All : goal.returns-in-All
 returns-in-All c =
-    let on = (c) in
-    let at = on.args.at.place in
+    let at = c.args.at.place in
     sym (ap (λ k. judged_by (kept_of k) (out (goal.at.returns-in-All c).After-coded-read) at (next (goal.at.returns-in-All c).In-Past)) c.in-All.is) ∙ judged (goal.at.returns-in-All c).After-judge-rules
 
 pub returns-in-Not : goal.returns-in-Not
 returns-in-Not c =
-    let on = (c) in
-    let at = on.args.at.place in
+    let at = c.args.at.place in
     sym (ap (λ k. judged_by (kept_of k) (out (goal.at.returns-in-Not c).After-coded-read) at (next (goal.at.returns-in-Not c).In-Past)) c.in-Not.is) ∙ judged (goal.at.returns-in-Not c).After-judge-rules

@@ -12,8 +12,8 @@ use Rattle.writer.specs.PutNames.{value_below, three_form}
 use Rattle.writer.proofs.names.put_country.Goals as goal
 use Rattle.writer.proofs.names.put_country.Goals.{Start}
 
-legal : (s : Start) → Country (three_of s.args.t1)
-legal c = country_legal (three_of c.args.t1) refl c.requires.0
+legal : (s : Start) → Country (three_of s.args.code)
+legal c = country_legal (three_of c.args.code) refl c.requires.0
 
 pub value_in_country-requires : goal.value_in_country-requires
 value_in_country-requires c = (legal (goal.at.value_in_country-requires c).Start).letters.0
@@ -38,6 +38,6 @@ returns c =
       place = c.put_values.ensures.place;
       buffer = c.put_values.ensures.buffer
           ∙ ap (over a.out.now a.at)
-          (three_form _ _ _ (carried (get_or a.t1 0 0)) (carried (get_or a.t1 1 0)) (carried (get_or a.t1 2 0))
+          (three_form _ _ _ (carried (get_or a.code 0 0)) (carried (get_or a.code 1 0)) (carried (get_or a.code 2 0))
           c.value_in_country.ensures c.value_in_country-2.ensures c.value_in_country-3.ensures);
     }

@@ -27,7 +27,7 @@ letters c = named_letters c.args.version (text c) c.requires.0
 size : (s : Start) → (5 ≤ length (text s)) × (length (text s) ≤ 259)
 size c = size_any c.args.version (length (text c)) c.requires.0.size
 
-nine : (c : In-Three) → length (text (start (first c))) ≡ 9
+nine : (c : In-Three) → length c.args.text.now ≡ 9
 nine c =
     let s = (c) in
     size_three s.args.version (length (text (goal.at.In-Three c).Start)) c.in-Three.is s.requires.0.size
@@ -44,7 +44,7 @@ put_three-third-requires c =
     let a = s.args in (
       letters (goal.at.put_three-third-requires c).Start,
       omega (arith, nine (goal.at.put_three-third-requires c).In-Three),
-      names_second a.version (text (goal.at.put_three-third-requires c).Start) a.out.now a.at s.requires.0 s.requires.1 _ _ p.ensures.0 p.ensures.1
+      names_second a.version (text (goal.at.put_three-third-requires c).Start) a.out.now a.at s.requires.0 s.requires.1 _ _ p.ensures.place p.ensures.buffer
           c.in-Three.is,
     )
 
@@ -55,7 +55,7 @@ put_three-requires c =
     let a = s.args in (
       letters (goal.at.put_three-requires c).Start,
       omega (arith, nine (goal.at.put_three-requires c).In-Three),
-      names_third a.version (text (goal.at.put_three-requires c).Start) a.out.now a.at s.requires.0 s.requires.1 _ _ p.ensures.0 p.ensures.1
+      names_third a.version (text (goal.at.put_three-requires c).Start) a.out.now a.at s.requires.0 s.requires.1 _ _ p.ensures.place p.ensures.buffer
           c.in-Three.is _ _ c.put_three-third.ensures.place c.put_three-third.ensures.buffer,
     )
 
@@ -64,10 +64,10 @@ returns-in-Three c =
     let p = c.put_three-second in
     let s = (c) in
     let a = s.args in
-    put_nine a.version (text (goal.at.returns-in-Three c).Start) a.out.now a.at s.requires.0 s.requires.1 _ _ p.ensures.0 p.ensures.1
+    let p = put_nine a.version (text (goal.at.returns-in-Three c).Start) a.out.now a.at s.requires.0 s.requires.1 _ _ p.ensures.place p.ensures.buffer
     c.in-Three.is _ _ c.put_three-third.ensures.place c.put_three-third.ensures.buffer _ _ c.put_three.ensures.place
-    c.put_three.ensures.buffer
-    -- LOOK record place buffer
+    c.put_three.ensures.buffer in
+    record { place = p.0; buffer = p.1 }
 
 pub overflow_sub-size : goal.overflow_sub-size
 overflow_sub-size c = omega (arith, (size (goal.at.overflow_sub-size c).Start).0)
@@ -90,28 +90,16 @@ put_values-next-requires c =
       value_below _ _ c.value.ensures,
       omega (arith, (size (goal.at.put_values-next-requires c).Start).1),
       omega (arith, mask_lt (length (text (goal.at.put_values-next-requires c).Start) - 4) 4),
-      names_length a.version (text (goal.at.put_values-next-requires c).Start) a.out.now a.at s.requires.0 s.requires.1 _ _ p.ensures.0 p.ensures.1
+      names_length a.version (text (goal.at.put_values-next-requires c).Start) a.out.now a.at s.requires.0 s.requires.1 _ _ p.ensures.place p.ensures.buffer
           c.in_default.is,
     )
-
--- GONE overflow-sub-put-text
-
-pub MISSING-overflow-sub-put-text : goal.MISSING-overflow-sub-put-text
-MISSING-overflow-sub-put-text c = omega (arith, (size (goal.at.MISSING-overflow-sub-put-text c).Start).0)
-
--- GONE slice-bounds-put-text-start
-
-pub MISSING-slice-bounds-put-text-start : goal.MISSING-slice-bounds-put-text-start
-MISSING-slice-bounds-put-text-start c = omega (arith, (size (goal.at.MISSING-slice-bounds-put-text-start c).Start).0)
-
--- GONE slice-bounds-put-text-end
 
 pub returns : goal.returns
 returns c =
     let p = c.put_three-second in
     let s = (c) in
     let a = s.args in
-    put_reference a.version (text (goal.at.returns c).Start) a.out.now a.at s.requires.0 s.requires.1 _ _ p.ensures.0 p.ensures.1
+    let p = put_reference a.version (text (goal.at.returns c).Start) a.out.now a.at s.requires.0 s.requires.1 _ _ p.ensures.place p.ensures.buffer
     c.in_default.is _ _ c.value.ensures (and_mask (length (text (goal.at.returns c).Start) - 4) 4) _ _ c.put_values-next.ensures.place
-    c.put_values-next.ensures.buffer _ (to_end (text (goal.at.returns c).Start) 4) _ _ c.put_text.ensures.place c.put_text.ensures.buffer
-    -- LOOK record place buffer
+    c.put_values-next.ensures.buffer _ (to_end (text (goal.at.returns c).Start) 4) _ _ c.put_text.ensures.place c.put_text.ensures.buffer in
+    record { place = p.0; buffer = p.1 }

@@ -24,24 +24,24 @@ pub put_value-requires : goal.put_value-requires
 put_value-requires c =
     let l = c.put_length-next in
     let s = (c) in
-    value_room s.args.version s.args.tag s.args.value.now s.args.out.now s.args.at s.requires.2 _ _ l.ensures.0
-    l.ensures.1
+    value_room s.args.version s.args.tag s.args.value.now s.args.out.now s.args.at s.requires.2 _ _ l.ensures.place
+    l.ensures.buffer
 
 -- what was put down
 put :
     (c : After-put_value) →
-    let s = entered c in
-    (c.put_value.result ≡ s.args.at + length (bytes s))
-    × (c.put_value.new.out ≡ over s.args.out.now s.args.at (bytes s))
+    let b = feature c.args.version (record { tag = c.args.tag; value = c.args.value.now }) in
+    (c.put_value.result ≡ c.args.at + length b) × (c.put_value.new.out ≡ over c.args.out.now c.args.at b)
 put c =
     let l = c.put_length-next in
-    put_feature c.args.version c.args.tag c.args.value.now c.args.out.now c.args.at c.requires.2 _ _ l.ensures.0
-    l.ensures.1 _ _ c.put_value.ensures.place c.put_value.ensures.buffer
+    put_feature c.args.version c.args.tag c.args.value.now c.args.out.now c.args.at c.requires.2 _ _ l.ensures.place
+    l.ensures.buffer _ _ c.put_value.ensures.place c.put_value.ensures.buffer
 
 pub shape_of-out : goal.shape_of-out
 shape_of-out c =
     ap length (put (goal.at.shape_of-out c).After-put_value).1 ∙ length_over c.args.out.now c.args.at (bytes (goal.at.shape_of-out c).Start) c.requires.2
 
 pub returns : goal.returns
-returns c = put (goal.at.returns c).After-put_value
-    -- LOOK record place buffer
+returns c =
+    let p = put (goal.at.returns c).After-put_value in
+    record { place = p.0; buffer = p.1 }

@@ -21,11 +21,11 @@ bytes c = front c.args.version c.args.header c.args.text.now
 -- what was put down
 put :
     (c : After-put_names) →
-    let s = entered c in
-    (c.put_names.result ≡ length (bytes s)) × (c.put_names.new.out ≡ over s.args.out.now 0 (bytes s))
+    let b = front c.args.version c.args.header c.args.text.now in
+    (c.put_names.result ≡ length b) × (c.put_names.new.out ≡ over c.args.out.now 0 b)
 put c =
     put_front c.args.version c.args.header c.args.text.now c.args.out.now c.requires.1 _ c.byte.ensures
-    c.put_country-at.last.1.0 c.put_country-at.result c.put_country-at.ensures.place c.put_country-at.ensures.buffer c.put_names.new.out
+    c.put_country-at.new.out c.put_country-at.result c.put_country-at.ensures.place c.put_country-at.ensures.buffer c.put_names.new.out
     c.put_names.result c.put_names.ensures.place c.put_names.ensures.buffer
 
 pub bounds-out-1 : goal.bounds-out-1
@@ -43,7 +43,7 @@ pub put_names-requires : goal.put_names-requires
 put_names-requires c =
     let a = c.args in (
       headed_named a.version a.header a.text.now c.requires.0,
-      names_room a.version a.header a.text.now a.out.now c.requires.1 _ c.byte.ensures c.put_country-at.last.1.0
+      names_room a.version a.header a.text.now a.out.now c.requires.1 _ c.byte.ensures c.put_country-at.new.out
           c.put_country-at.result c.put_country-at.ensures.place c.put_country-at.ensures.buffer,
     )
 
@@ -52,5 +52,6 @@ shape_of-out c =
     ap length (put (goal.at.shape_of-out c).After-put_names).1 ∙ length_over c.args.out.now 0 (bytes (goal.at.shape_of-out c).Start) c.requires.1
 
 pub returns : goal.returns
-returns c = put (goal.at.returns c).After-put_names
-    -- LOOK record place buffer
+returns c =
+    let p = put (goal.at.returns c).After-put_names in
+    record { place = p.0; buffer = p.1 }

@@ -15,7 +15,7 @@ use Rattle.writer.proofs.put.put_length.Goals as goal
 use Rattle.writer.proofs.put.put_length.Goals.{After-length_form}
 
 form : (c : After-length_form) (f : Form) → c.length_form.result ≡ f →
-    length_of (start c).args.version (start c).args.size ≡ bytes_of f
+    length_of c.args.version c.args.size ≡ bytes_of f
 form c f e =
     sym (length_der c.args.version c.args.size c.in_default.is c.requires.0.0)
     ∙ ap bytes_of (sym c.length_form.ensures ∙ e)
@@ -31,8 +31,8 @@ bounds-out-at c =
 pub returns-in-Three : goal.returns-in-Three
 returns-in-Three c =
     let a = c.args in
-    put_one a.out.now a.at a.size _ (length_plain a.version a.size c.in-Three.is) c.requires.1
-    -- LOOK record place buffer
+    let p = put_one a.out.now a.at a.size _ (length_plain a.version a.size c.in-Three.is) c.requires.1 in
+    record { place = p.0; buffer = p.1 }
 
 pub bounds-out-at-in-One : goal.bounds-out-at-in-One
 bounds-out-at-in-One c =
@@ -67,24 +67,23 @@ bounds-out-at-in-Three-length_form-3 c =
 pub returns-in-One : goal.returns-in-One
 returns-in-One c =
     let e = form (goal.at.returns-in-One c).After-length_form _ c.in-One.is in
-    put_one c.args.out.now c.args.at _ _ e c.requires.1
-    -- LOOK record place buffer
+    let p = put_one c.args.out.now c.args.at _ _ e c.requires.1 in
+    record { place = p.0; buffer = p.1 }
 
 pub returns-in-Two : goal.returns-in-Two
 returns-in-Two c =
     let e = form (goal.at.returns-in-Two c).After-length_form _ c.in-Two.is in
-    put_two c.args.out.now c.args.at _ _ _ e c.requires.1
-    -- LOOK record place buffer
+    let p = put_two c.args.out.now c.args.at _ _ _ e c.requires.1 in
+    record { place = p.0; buffer = p.1 }
 
 pub returns-in-Three-length_form : goal.returns-in-Three-length_form
 returns-in-Three-length_form c =
     let e = form (goal.at.returns-in-Three-length_form c).After-length_form _ c.in-Three-length_form.is in
-    put_three c.args.out.now c.args.at _ _ _ _ e c.requires.1
-    -- LOOK record place buffer
+    let p = put_three c.args.out.now c.args.at _ _ _ _ e c.requires.1 in
+    record { place = p.0; buffer = p.1 }
 
 pub returns-in-Longer : goal.returns-in-Longer
 returns-in-Longer c =
     let none = form (goal.at.returns-in-Longer c).After-length_form _ c.in-Longer.is in
     let same = length_der c.args.version c.args.size c.in_default.is c.requires.0.0 in
     absurd (omega (arith, ap length none, ap length same, (written_some c.args.size (omega (arith, c.requires.0.0))).0))
-    -- LOOK record place buffer

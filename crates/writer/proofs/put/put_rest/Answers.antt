@@ -21,19 +21,18 @@ header c = c.args.header
 room : (c : After-put_date-last) → c.put_date-last.result + 2 ≤ length c.put_date-last.new.out
 room c =
     let p = c.put_date-signed in
-    rest_last (header c) c.args.out.now c.args.at c.requires.1 p.last.1.0 p.result p.ensures.0 p.ensures.1
+    rest_last (header c) c.args.out.now c.args.at c.requires.1 p.new.out p.result p.ensures.place p.ensures.buffer
     c.put_date-last.new.out c.put_date-last.result c.put_date-last.ensures.place c.put_date-last.ensures.buffer
 
 -- what was put down, with these two bytes
 put :
     (c : After-put_date-last) →
-    let s = entered c in
-    (c.put_date-last.result + 2 ≡ s.args.at + 8)
+    (c.put_date-last.result + 2 ≡ c.args.at + 8)
     × (set (set c.put_date-last.new.out c.put_date-last.result (header c).definition) (c.put_date-last.result + 1) (header c).category
-    ≡ over s.args.out.now s.args.at (rest (header c)))
+    ≡ over c.args.out.now c.args.at (rest (header c)))
 put c =
     let p = c.put_date-signed in
-    put_rest (header c) c.args.out.now c.args.at c.requires.1 p.last.1.0 p.result p.ensures.0 p.ensures.1
+    put_rest (header c) c.args.out.now c.args.at c.requires.1 p.new.out p.result p.ensures.place p.ensures.buffer
     c.put_date-last.new.out c.put_date-last.result c.put_date-last.ensures.place c.put_date-last.ensures.buffer
 
 pub put_date-signed-requires : goal.put_date-signed-requires
@@ -48,8 +47,8 @@ put_date-last-requires c =
     let s = (c) in
     let p = c.put_date-signed in (
       (dated_days s.args.header s.requires.0).1,
-      rest_second s.args.header s.args.out.now s.args.at s.requires.1 p.last.1.0 p.result p.ensures.0
-          p.ensures.1,
+      rest_second s.args.header s.args.out.now s.args.at s.requires.1 p.new.out p.result p.ensures.place
+          p.ensures.buffer,
     )
 
 pub overflow_cast-out : goal.overflow_cast-out
@@ -58,7 +57,7 @@ overflow_cast-out c = omega (arith, (dated_last (header (goal.at.overflow_cast-o
 pub bounds-out-last : goal.bounds-out-last
 bounds-out-last c =
     let q = c.put_date-last in
-    let l : q.result < length q.last.1.0 = omega (arith, room (goal.at.bounds-out-last c).After-put_date-last) in
+    let l : q.result < length q.new.out = omega (arith, room (goal.at.bounds-out-last c).After-put_date-last) in
     l
 
 pub overflow_cast-out-2 : goal.overflow_cast-out-2
@@ -69,7 +68,7 @@ overflow_add-out c = omega (arith, room (goal.at.overflow_add-out c).After-put_d
 
 pub bounds-out-last-2 : goal.bounds-out-last-2
 bounds-out-last-2 c =
-    let l : c.put_date-last.result + 1 < length (set c.put_date-last.last.1.0 c.put_date-last.result (header (goal.at.bounds-out-last-2 c).After-put_date-last).definition) = simp length-set (omega (arith, room (goal.at.bounds-out-last-2 c).After-put_date-last)) in
+    let l : c.put_date-last.result + 1 < length (set c.put_date-last.new.out c.put_date-last.result (header (goal.at.bounds-out-last-2 c).After-put_date-last).definition) = simp length-set (omega (arith, room (goal.at.bounds-out-last-2 c).After-put_date-last)) in
     l
 
 pub overflow_add-result : goal.overflow_add-result
@@ -80,5 +79,6 @@ shape_of-out c =
     ap length (put (goal.at.shape_of-out c).After-put_date-last).1 ∙ length_over c.args.out.now c.args.at (rest (header (goal.at.shape_of-out c).After-put_date-last)) c.requires.1
 
 pub returns : goal.returns
-returns c = put (goal.at.returns c).After-put_date-last
-    -- LOOK record place buffer
+returns c =
+    let p = put (goal.at.returns c).After-put_date-last in
+    record { place = p.0; buffer = p.1 }

@@ -11,35 +11,25 @@ use Rattle.rows.specs.Rows.Laws.{found_none, found_row_lem}
 use Rattle.write_judge.specs.Needs.{Fits}
 use Rattle.writer.specs.Put.{Putting, putting_start, putting_length, putting_end, putting_fits, putting_asks, putting_more}
 use Rattle.writer.proofs.put.put_rows.Goals as goal
-use Rattle.writer.proofs.put.put_rows.Goals.{At-loop-row, In-Is}
-
--- the table and the values that were handed over
-abbrev table_at : At-loop-row → List ℕ
-table_at c = c.args.rows.now
-
-abbrev values_at : At-loop-row → List ℕ
-values_at c = c.args.values.now
+use Rattle.writer.proofs.put.put_rows.Goals.{In-Is}
 
 -- the row that stands here, which was judged
 there : (c : In-Is) →
-    let on = at_loop c in
-    (on.loop-row.from + width ≤ length (table_at on)) × (c.in-Is.row ≡ row_at (table_at on) on.loop-row.from)
+    (c.loop-row.from + width ≤ length c.args.rows.now) × (c.in-Is.row ≡ row_at c.args.rows.now c.loop-row.from)
 there c = found_row_lem _ _ _ (sym c.in-Is.is ∙ c.row_at.ensures)
 
-fits : (c : In-Is) →
-    let on = at_loop c in
-    Fits (start on).args.version (length (values_at on)) c.in-Is.row
+fits : (c : In-Is) → Fits c.args.version (length c.args.values.now) c.in-Is.row
 fits c = putting_fits _ _ _ _ _ _ _ _ c.loop-row.invariant (there c).0 _ (there c).1
 
 -- the part that is lent is its value
 value : (c : In-Is) →
     let r = c.in-Is.row in
-    let values = values_at (at_loop c) in
+    let values = c.args.values.now in
     take (r.place + r.size - r.place) (drop r.place values) ≡ take r.size (drop r.place values)
 value c =
     let r = c.in-Is.row in
     let e : r.place + r.size - r.place ≡ r.size = omega arith in
-    ap (λ k. take k (drop r.place (values_at (goal.at.In-Is c).At-loop-row))) e
+    ap (λ k. take k (drop r.place c.args.values.now)) e
 
 pub loop-row-init : goal.loop-row-init
 loop-row-init c =
@@ -51,27 +41,15 @@ shape_of-out-in_default c = putting_length _ _ _ _ _ _ _ _ c.loop-row.invariant
 
 pub returns-in_default : goal.returns-in_default
 returns-in_default c =
-    putting_end _ _ _ _ _ _ _ _ c.loop-row.invariant
-    (found_none _ _ (sym c.in_default.is ∙ c.row_at.ensures))
-    -- LOOK record place buffer
+    let p = putting_end _ _ _ _ _ _ _ _ c.loop-row.invariant
+    (found_none _ _ (sym c.in_default.is ∙ c.row_at.ensures)) in
+    record { place = p.0; buffer = p.1 }
 
 pub overflow_add-end : goal.overflow_add-end
 overflow_add-end c = let f = fits (goal.at.overflow_add-end c).In-Is in omega (arith, f.1)
 
--- GONE overflow-sub-put-feature
-
-pub MISSING-overflow-sub-put-feature : goal.MISSING-overflow-sub-put-feature
-MISSING-overflow-sub-put-feature c = omega arith
-
--- GONE slice-bounds-put-feature-start
-
-pub MISSING-slice-bounds-put-feature-start : goal.MISSING-slice-bounds-put-feature-start
-MISSING-slice-bounds-put-feature-start c = omega arith
-
--- GONE slice-bounds-put-feature-end
-
-pub MISSING-slice-bounds-put-feature-end : goal.MISSING-slice-bounds-put-feature-end
-MISSING-slice-bounds-put-feature-end c = let f = fits (goal.at.MISSING-slice-bounds-put-feature-end c).In-Is in omega (arith, f.1)
+pub slice_bounds-put_feature-end : goal.slice_bounds-put_feature-end
+slice_bounds-put_feature-end c = let f = fits (goal.at.slice_bounds-put_feature-end c).In-Is in omega (arith, f.1)
 
 pub put_feature-at-requires : goal.put_feature-at-requires
 put_feature-at-requires c =

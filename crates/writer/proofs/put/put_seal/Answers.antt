@@ -21,16 +21,16 @@ put_rest-message-requires c =
     let f = c.put_front-at in
     let s = (c) in (
       s.requires.0.dated,
-      seal_rest s.args.version (whole (goal.at.put_rest-message-requires c).Start) s.args.out.now s.requires.1 f.last.1.1.1.0 f.result f.ensures.0
-          f.ensures.1,
+      seal_rest s.args.version (whole (goal.at.put_rest-message-requires c).Start) s.args.out.now s.requires.1 f.new.out f.result f.ensures.place
+          f.ensures.buffer,
     )
 
 pub put_rows-end-requires : goal.put_rows-end-requires
 put_rows-end-requires c =
     let r = c.put_rest-message in (
       passed_fit c.args.version (whole (goal.at.put_rows-end-requires c).Start) c.requires.0,
-      seal_rows c.args.version (whole (goal.at.put_rows-end-requires c).Start) c.args.out.now c.requires.1 c.put_front-at.last.1.1.1.0 c.put_front-at.result c.put_front-at.ensures.place
-          c.put_front-at.ensures.buffer r.last.1.0 r.result r.ensures.0 r.ensures.1,
+      seal_rows c.args.version (whole (goal.at.put_rows-end-requires c).Start) c.args.out.now c.requires.1 c.put_front-at.new.out c.put_front-at.result c.put_front-at.ensures.place
+          c.put_front-at.ensures.buffer r.new.out r.result r.ensures.place r.ensures.buffer,
     )
 
 pub put_feature-requires : goal.put_feature-requires
@@ -39,13 +39,13 @@ put_feature-requires c =
     let n = signature_most (length c.args.signature.now) c.requires.0.signature in (
       omega arith,
       (omega arith, tt),
-      seal_mark c.args.version (whole (goal.at.put_feature-requires c).Start) c.args.out.now c.requires.1 c.put_front-at.last.1.1.1.0 c.put_front-at.result c.put_front-at.ensures.place
-          c.put_front-at.ensures.buffer c.put_rest-message.last.1.0 c.put_rest-message.result c.put_rest-message.ensures.place c.put_rest-message.ensures.buffer z.last.1.1.1.0 z.result z.ensures.0
-          z.ensures.1,
+      seal_mark c.args.version (whole (goal.at.put_feature-requires c).Start) c.args.out.now c.requires.1 c.put_front-at.new.out c.put_front-at.result c.put_front-at.ensures.place
+          c.put_front-at.ensures.buffer c.put_rest-message.new.out c.put_rest-message.result c.put_rest-message.ensures.place c.put_rest-message.ensures.buffer z.new.out z.result z.ensures.place
+          z.ensures.buffer,
     )
 
 pub returns : goal.returns
 returns c =
-    put_seal c.args.version (whole (goal.at.returns c).Start) c.args.out.now c.requires.1 c.put_front-at.last.1.1.1.0 c.put_front-at.result c.put_front-at.ensures.place c.put_front-at.ensures.buffer
-    c.put_rest-message.last.1.0 c.put_rest-message.result c.put_rest-message.ensures.place c.put_rest-message.ensures.buffer c.put_rows-end.last.1.1.1.0 c.put_rows-end.result c.put_rows-end.ensures.place c.put_rows-end.ensures.buffer
+    put_seal c.args.version (whole (goal.at.returns c).Start) c.args.out.now c.requires.1 c.put_front-at.new.out c.put_front-at.result c.put_front-at.ensures.place c.put_front-at.ensures.buffer
+    c.put_rest-message.new.out c.put_rest-message.result c.put_rest-message.ensures.place c.put_rest-message.ensures.buffer c.put_rows-end.new.out c.put_rows-end.result c.put_rows-end.ensures.place c.put_rows-end.ensures.buffer
     c.put_feature.new.out c.put_feature.ensures.buffer

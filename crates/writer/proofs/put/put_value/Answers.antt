@@ -8,12 +8,6 @@ use lib.ListN.{length, take, drop}
 use Rattle.blocks.specs.Blocks.{part}
 use Rattle.writer.proofs.put.put_value.Goals as goal
 
--- GONE overflow-sub-copy-lent
-
--- GONE slice-bounds-copy-lent-start
-
--- GONE slice-bounds-copy-lent-end
-
 pub returns : goal.returns
 returns c =
     let a = c.args in

@@ -1,0 +1,32 @@
+// The walk over the features of a seal, and the value of a tag in a main seal and its extension.
+ghost use Rattle.std.specs.Prelude.{◌≡◌};
+ghost use Rattle.verdict.specs.Judge.{judge};
+ghost use Rattle.walk_steps.specs.Steps.{start_of, step_at};
+ghost use Rattle.shown.specs.Where.{answer_of, where_is};
+ghost use Rattle.face_walk.specs.Face.{start_of as startIs, step_of, where_of};
+
+use face_walk::{FrStart, FrStep, FrWhere};
+
+// Opens a walk over the features of a seal.
+#[unsafe(no_mangle)]
+pub extern "C" fn fr_walk_open(seal: &[u8]) -> FrStart
+    ensures { result ≡ startIs (start_of (judge seal.now)) }
+{
+    capi::fr_walk_open(seal)
+}
+
+// The next feature of a walk that is at a place.
+#[unsafe(no_mangle)]
+pub extern "C" fn fr_walk_next(seal: &[u8], at: usize) -> FrStep
+    ensures { result ≡ step_of (step_at seal.now at) }
+{
+    capi::fr_walk_next(seal, at)
+}
+
+// Where the value of a tag stands, in the extension or else in the main seal.
+#[unsafe(no_mangle)]
+pub extern "C" fn fr_shown(main_seal: &[u8], extension: &[u8], tag: usize) -> FrWhere
+    ensures { result ≡ where_of (answer_of (where_is main_seal.now extension.now tag)) }
+{
+    capi::fr_shown(main_seal, extension, tag)
+}

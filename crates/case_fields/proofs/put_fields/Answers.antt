@@ -1,0 +1,18 @@
+-- `case_fields::put_fields` meets its contract: four parts, each within the room that the one before it left.
+-- Assumes nothing.
+use borrow.Author.Rules.{rules}
+use Rattle.case_file.specs.Line.Laws.{within_more}
+use Rattle.case_fields.proofs.put_fields.Goals as goal
+
+-- GONE slice-aggregate-put-part-4
+
+-- GONE slice-aggregate-put-part-5
+
+-- GONE slice-aggregate-put-part-6
+
+pub returns : goal.returns
+returns c =
+    within_more _ _ _ _ _ c.put_header-o.ensures c.put_header-o.kept.1.0
+    (within_more _ _ _ _ _ c.put_part-o.ensures.within c.put_part-o.auto.out
+    (within_more _ _ _ _ _ c.put_part-o-2.ensures.within c.put_part-o-2.auto.out
+    c.put_part.ensures.within))

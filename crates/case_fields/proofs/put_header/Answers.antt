@@ -1,0 +1,15 @@
+-- `case_fields::put_header` meets its contract: three parts, each within the room that the one before it left.
+-- Assumes nothing.
+use borrow.Author.Rules.{rules}
+use Rattle.case_file.specs.Line.Laws.{within_more}
+use Rattle.case_fields.proofs.put_header.Goals as goal
+
+-- GONE slice-aggregate-put-text-2
+
+-- GONE slice-aggregate-put-part-2
+
+pub returns : goal.returns
+returns c =
+    within_more _ _ _ _ _ c.put_text-o.ensures.within c.put_text-o.auto.out
+    (within_more _ _ _ _ _ c.put_text-o-2.ensures.within c.put_text-o-2.auto.out
+    c.put_part.ensures.within)

@@ -1,0 +1,16 @@
+-- `case_numbers::put_size` meets its contract: five parts, each within the room that the one before it left.
+-- Assumes nothing.
+use borrow.Author.Rules.{rules}
+use Rattle.case_file.specs.Line.Laws.{within_more}
+use Rattle.case_numbers.proofs.put_size.Goals as goal
+
+-- GONE slice-aggregate-put-text
+
+-- GONE slice-aggregate-put-text-2
+
+pub returns : goal.returns
+returns c =
+    within_more _ _ _ _ _ c.put_text-o.ensures.within c.put_text-o.auto.out
+    (within_more _ _ _ _ _ c.put_number-o.ensures.within c.put_number-o.auto.out
+    (within_more _ _ _ _ _ c.put_text-o-2.ensures.within c.put_text-o-2.auto.out
+    (within_more _ _ _ _ _ c.put_number-o-2.ensures.within c.put_number-o-2.auto.out c.put.ensures.within)))
