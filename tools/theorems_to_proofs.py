@@ -1,7 +1,8 @@
 #!/usr/bin/env python3
 """Moves files of theorems from specs/ to proofs/, with all that names them. Run at the top; a second run changes nothing.
 
-theorems-to-proofs.tsv beside it has a line a file: crate, tab, path. A must-fail edit of a definition counts as refused
+theorems-to-proofs.tsv beside it has a line a file: crate, path, and a new path where one of the crate's types has the
+module's name. A must-fail edit of a definition counts as refused
 only if no line of specs/ rests on a theorem that falls with it; in proofs/ such a line is no matter. Each file keeps its
 text, but for the paths of modules that moved.
 """
@@ -54,8 +55,9 @@ def main(root):
     here = os.path.dirname(os.path.realpath(__file__))
     rows = [l.split("\t") for l in read(os.path.join(here, "theorems-to-proofs.tsv")).split("\n") if l]
     moved = {}
-    for crate, path in rows:
-        moved.setdefault(crate, set()).add(tuple(path[len("specs/") : -len(".antt")].split("/")))
+    names_of = lambda path: tuple(path.split("/", 1)[1][: -len(".antt")].split("/"))
+    for crate, path, *to in rows:
+        moved.setdefault(crate, {})[names_of(path)] = names_of(to[0] if to else path)
     for crate, modules in moved.items():
         specs, proofs = (os.path.join(root, "crates", crate, part) for part in ("specs", "proofs"))
         for names in sorted(modules):
@@ -66,7 +68,8 @@ def main(root):
             stay = [m for m in re.findall(r"(?m)^pub mod (\w+)$", text) if names + (m,) not in modules]
             for m in stay:
                 text = re.sub(rf"(?m)^pub mod {m}\n", "", text)
-            to = os.path.join(proofs, *names) + ".antt"
+            there = modules[names]
+            to = os.path.join(proofs, *there) + ".antt"
             known = re.findall(r"(?m)^pub mod (\w+)$", read(to)) if os.path.exists(to) else []
             write(to, text)
             for m in known:
@@ -77,18 +80,20 @@ def main(root):
                     declare(old, m, "-- An index.\n")
             else:
                 drop(parent(specs, names), names[-1])
-            for i in range(len(names), 0, -1):
-                declare(parent(proofs, names[:i]), names[i - 1])
+            for i in range(len(there), 0, -1):
+                declare(parent(proofs, there[:i]), there[i - 1])
         for folder, dirs, _ in os.walk(specs, topdown=False):
             if not os.listdir(folder):
                 os.rmdir(folder)
     pattern = re.compile(r"Rattle\.(\w+)\.specs\.((?:[A-Z]\w*)(?:\.[A-Z]\w*)*)(?=\.[a-z_{◌]|\s|$)")
 
     def path_of(m):
-        return m[0].replace(".specs.", ".proofs.", 1) if tuple(m[2].split(".")) in moved.get(m[1], ()) else m[0]
+        to = moved.get(m[1], {}).get(tuple(m[2].split(".")))
+        return f"Rattle.{m[1]}.proofs.{'.'.join(to)}" if to else m[0]
 
     def page_of(m):
-        return m[0].replace("/specs/", "/proofs/", 1) if tuple(m[2].split("/")) in moved.get(m[1], ()) else m[0]
+        to = moved.get(m[1], {}).get(tuple(m[2].split("/")))
+        return f"crates/{m[1]}/proofs/{'/'.join(to)}" if to else m[0]
 
     pages = [os.path.join(root, "README.md")] + [os.path.join(root, "docs", n) for n in os.listdir(os.path.join(root, "docs")) if n.endswith(".md")]
     for folder, dirs, names in os.walk(os.path.join(root, "crates")):

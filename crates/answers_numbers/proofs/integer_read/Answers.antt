@@ -17,8 +17,5 @@ told a = integer_of (reading_of a)
 abbrev value : ℤ → FrInteger
 value v = record { number = 0; place = 0; value = v }
 
-pub returns-in-Value : goal.returns-in-Value
-returns-in-Value c = told_by told (ap value (to_z-of_z (record { sfits = c.known_told-1.given.0.1 }))) c.in-Value.is
-
 pub returns-in-NotOne : goal.returns-in-NotOne
 returns-in-NotOne c = told_by told refl c.in-NotOne.is

@@ -20,6 +20,7 @@ use Rattle.c40_write_long.proofs.put_left.Goals.{Start, After-wide, After-wide-t
 abbrev left : Start → List ℕ
 left c = c.args.left.now
 
+-- what is left is bytes
 all : (s : List ℕ) → ((i : ℕ) → Fits w8 (get_or s i 0)) → Bytes s
 all s h i = (h i).fits
 

@@ -21,6 +21,7 @@ use Rattle.c40_write_long.specs.Passed.{passed_text, passed_all}
 use Rattle.c40_write_long.proofs.put_text.Goals as goal
 use Rattle.c40_write_long.proofs.put_text.Goals.{After-wide-in-loop-i-3, After-wide-in-loop-i-4, After-wide-in-loop-i-5, At-loop-i}
 
+-- the text is bytes, and there is room for its form
 abbrev text : At-loop-i → List ℕ
 text c = c.args.text.now
 

@@ -4,7 +4,6 @@ use borrow.Author.Rules.{rules}
 use mathlib.Core.Path.{◌∙◌}
 use Rattle.front_pairs.specs.Pairs.{fits}
 use Rattle.front_pairs.specs.Pairs.Laws.{fits_values}
-use Rattle.front_pairs.proofs.Other.{not_one}
 use Rattle.front_pairs.proofs.fits.Goals as goal
 
 pub returns-in-One : goal.returns-in-One
@@ -12,4 +11,4 @@ unfolding fits
 returns-in-One c = cc
 
 pub returns-in_default : goal.returns-in_default
-returns-in_default c = c.is_kept.ensures ∙ fits_values _ _ _ (not_one _ c.in_default.keys2)
+returns-in_default c = c.is_kept.ensures ∙ fits_values _ _ _ c.in_default.not-One

@@ -7,7 +7,6 @@ use Prim.Native.Nat.{◌+◌, ◌*◌, ◌-◌}
 use Rattle.pairs.specs.Pairs.{number}
 use Rattle.front_pairs.specs.Pairs.{opens}
 use Rattle.front_pairs.specs.Pairs.Laws.{opens_values, opens_none}
-use Rattle.front_pairs.proofs.Other.{not_one}
 use Rattle.front_pairs.proofs.opens.Goals as goal
 
 pub returns-in-One : goal.returns-in-One
@@ -23,4 +22,4 @@ returns c =
     let low = c.wide-low.result * 256 in
     let e : low - 1 + 1 ≡ number a.x 0 = omega arith in
     let f : low + 254 + 1 ≡ number a.x 255 = omega arith in
-    cc (opens_values a.kind a.x (not_one _ c.in_default.keys2))
+    cc (opens_values a.kind a.x c.in_default.not-One)

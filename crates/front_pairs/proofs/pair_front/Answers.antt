@@ -3,7 +3,6 @@
 use borrow.Author.Rules.{rules}
 use native.Mathlib.Omega.{arith}
 use mathlib.Core.Path.{◌≡◌, ◌∙◌, ap, sym}
-use mathlib.Core.Logic.{⊎_elim}
 use mathlib.Core.Bool.{false}
 use Prim.Native.Nat.{◌+◌, ◌<◌}
 use lib.ListN.{length, get_or}
@@ -11,20 +10,23 @@ use Rattle.format.specs.Choice.{pick}
 use Rattle.front_pairs.specs.Pairs.{fits}
 use Rattle.front_pairs.specs.Pairs.Laws.{front_end, front_whole, front_byte}
 use Rattle.front_pairs.proofs.pair_front.Goals as goal
-use Rattle.front_pairs.proofs.pair_front.Goals.{Joined-at-seal}
+use Rattle.front_pairs.proofs.pair_front.Goals.{Joined-at-seal, then-at-seal+else-fits, else-at-seal}
 
 -- no whole pair was found
 off : (c : Joined-at-seal)
-    → let a = (start c).args in
+    → let a = c.args in
     let s = a.seal.now in
     a.at + 1 < length s → fits a.kind (get_or s a.at 0) (get_or s (a.at + 1) 0) ≡ false
-off c h = ⊎_elim (λ way. sym way.2.ensures ∙ way.3.left) (λ way. absurd (omega (arith, way.left))) c.if-at-seal.branch
+off c h = elim c.if-at-seal.branch [
+  | then-at-seal+else-fits w ↦ sym w.fits.ensures ∙ w.if-fits.false
+  | else-at-seal w ↦ absurd (omega (arith, w.if-at-seal.false))
+]
 
 pub returns-then-seal-at : goal.returns-then-seal-at
 returns-then-seal-at c = front_end _ _ _ c.if-seal-at.true
 
 pub returns-then-fits : goal.returns-then-fits
-returns-then-fits c = front_whole _ _ _ c.if-at-seal.true (sym c.fits2.ensures ∙ c.if-fits.true)
+returns-then-fits c = front_whole _ _ _ c.if-at-seal.true (sym c.fits.ensures ∙ c.if-fits.true)
 
 pub returns-then-opens : goal.returns-then-opens
 returns-then-opens c =

@@ -16,10 +16,7 @@ use Rattle.read_items.specs.Meaning.Laws.{says}
 use Rattle.read_header.proofs.read_front.Goals as goal
 use Rattle.read_header.proofs.read_front.Goals.{After-country-code, After-signer_and_reference-read, In-Are, In-Is, In-Past, In-Past-code}
 
--- the seal, from where the version was read, and the country and the text that were left
-abbrev seal_at : In-Is → List ℕ
-seal_at c = c.args.seal.now
-
+-- the country and the text that were left
 abbrev code : After-country-code → List ℕ
 code c = c.country-code.new.code
 
@@ -27,66 +24,60 @@ abbrev text : After-signer_and_reference-read → List ℕ
 text c = c.signer_and_reference-read.new.text
 
 -- what was read of each item
-read_mark : (c : In-Past) → is tt c.in-Past.at.place ≡ mark 0 (start c).args.seal.now
+read_mark : (c : In-Past) → is tt c.in-Past.at.place ≡ mark 0 c.args.seal.now
 read_mark c = sym (ap (step_of tt) c.in-Past.is) ∙ c.mark-mark.ensures
 
 read-version : (c : In-Is) →
-    let g = c.version-1.given.0 in
-    is g.0 g.1.0.place ≡ version (on_mark c).in-Past.at.place (seal_at c)
+    is c.in-Is.v c.in-Is.at2.place ≡ version c.in-Past.at.place c.args.seal.now
 read-version c = sym (ap edition_of c.in-Is.is) ∙ c.version-version.ensures
 
 read-country : (c : In-Past-code) →
-    let told2 = on_version c in
-    is (code c) c.in-Past-code.at3.place
-    ≡ country told2.in-Is.at2.place (seal_at told2)
+    is c.country-code.new.code c.in-Past-code.at3.place
+    ≡ country c.in-Is.at2.place c.args.seal.now
 read-country c =
     sym (ap (step_of (code (goal.at.In-Past-code c).After-country-code)) c.in-Past-code.is) ∙ c.country-code.ensures.item
 
 read_names : (c : In-Are) →
-    let on = on_names c in
-    let told3 = on_country on in
-    let told2 = on_version told3 in
-    let g = c.read.given.0 in
-    names_of (text on) (read.Are g.0 g.1.0) ≡ through measured
-    (names told2.in-Is.v told3.in-Past-code.at3.place (seal_at told2))
+    names_of c.signer_and_reference-read.new.text (read.Are c.in-Are.size c.in-Are.next) ≡ through measured
+    (names c.in-Is.v c.in-Past-code.at3.place c.args.seal.now)
 read_names c =
     sym (ap (names_of (text (goal.at.In-Are c).After-signer_and_reference-read)) c.in-Are.is) ∙ c.signer_and_reference-read.ensures.item
+
+-- what the names' item left is what the names of the whole leave
+text-left : (c : After-signer_and_reference-read) →
+    let args = c.args in
+    text c ≡ text_over args.text.now (through names_in (fields args.seal.now))
+text-left c =
+    c.signer_and_reference-read.ensures.buffer
+    ∙ ap (text_over _) (names_reached _ _ (read_mark (goal.at.After-signer_and_reference-read c).In-Past) _ _ (read-version (goal.at.After-signer_and_reference-read c).In-Is) _ _ (read-country (goal.at.After-signer_and_reference-read c).In-Past-code))
 
 pub returns-in_default : goal.returns-in_default
 returns-in_default c =
     let item = says _ _ _ _ (c.of_step.ensures ∙ ap (λ r. refused {A = Unit} item.Mark (step_of tt r)) c.in_default.is)
     (fields_mark _ _ _ (sym (ap (step_of tt) c.in_default.is) ∙ c.mark-mark.ensures)) in
-    (item, (code_kept _ _ _ item _, text_kept _ _ _ item _))  -- LOOK record item code names
+    record { item = item; code = code_kept _ _ _ item _; names = text_kept _ _ _ item _ }
 
 pub returns-in_default-version : goal.returns-in_default-version
 returns-in_default-version c =
     let item = says _ _ _ _ (c.of_version.ensures ∙ ap (λ r. refused item.Version (edition_of r)) c.in_default-version.is)
     (fields_version _ _ (read_mark (goal.at.returns-in_default-version c).In-Past) _ _ (sym (ap edition_of c.in_default-version.is) ∙ c.version-version.ensures)) in
-    (item, (code_kept _ _ _ item _, text_kept _ _ _ item _))  -- LOOK record item code names
+    record { item = item; code = code_kept _ _ _ item _; names = text_kept _ _ _ item _ }
 
 pub returns-in_default-code : goal.returns-in_default-code
 returns-in_default-code c =
     let item = says _ _ _ _ (c.of_step-in_default-code.ensures ∙ ap (λ r. refused {A = Unit} item.Country (step_of tt r)) c.in_default-code.is)
     (fields_country _ _ (read_mark (goal.at.returns-in_default-code c).In-Past) _ _ (read-version (goal.at.returns-in_default-code c).In-Is) _ _
     (sym (ap (step_of (code (goal.at.returns-in_default-code c).After-country-code)) c.in_default-code.is) ∙ c.country-code.ensures.item)) in
-    (item, (code_kept _ _ _ item _, text_kept _ _ _ item _))  -- LOOK record item code names
-
--- what the names' item left is what the names of the whole leave
-text-left : (c : After-signer_and_reference-read) →
-    let args = (start (on_mark (on_version (on_country c)))).args in
-    text c ≡ text_over args.text.now (through names_in (fields args.seal.now))
-text-left c =
-    c.signer_and_reference-read.ensures.buffer
-    ∙ ap (text_over _) (names_reached _ _ (read_mark (goal.at.After-signer_and_reference-read c).In-Past) _ _ (read-version (goal.at.After-signer_and_reference-read c).In-Is) _ _ (read-country (goal.at.After-signer_and_reference-read c).In-Past-code))
+    record { item = item; code = code_kept _ _ _ item _; names = text_kept _ _ _ item _ }
 
 pub returns-in_default-read : goal.returns-in_default-read
 returns-in_default-read c =
     let item = says _ _ _ _ (c.of_names.ensures ∙ ap (λ e. why_of (names_of [] e)) c.in_default-read.is)
     (fields_names _ _ (read_mark (goal.at.returns-in_default-read c).In-Past) _ _ (read-version (goal.at.returns-in_default-read c).In-Is) _ _ (read-country (goal.at.returns-in_default-read c).In-Past-code) _ _
     (sym (ap (names_of (text (goal.at.returns-in_default-read c).After-signer_and_reference-read)) c.in_default-read.is) ∙ c.signer_and_reference-read.ensures.item)) in
-    (item, (code_kept _ _ _ item _, text-left (goal.at.returns-in_default-read c).After-signer_and_reference-read))  -- LOOK record item code names
+    record { item = item; code = code_kept _ _ _ item _; names = text-left (goal.at.returns-in_default-read c).After-signer_and_reference-read }
 
 pub returns : goal.returns
 returns c =
     let item = fields_all _ _ (read_mark (goal.at.returns c).In-Past) _ _ (read-version (goal.at.returns c).In-Is) _ _ (read-country (goal.at.returns c).In-Past-code) _ _ (read_names c) in
-    (item, (code_given _ _ _ item _, text-left (goal.at.returns c).After-signer_and_reference-read))  -- LOOK record item code names
+    record { item = item; code = code_given _ _ _ item _; names = text-left (goal.at.returns c).After-signer_and_reference-read }

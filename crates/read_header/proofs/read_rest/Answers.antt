@@ -2,8 +2,6 @@
 -- Assumes nothing.
 use borrow.Author.Rules.{rules}
 use mathlib.Core.Path.{◌≡◌, ◌∙◌, ap, sym}
-use Prim.Native.Nat.{ℕ}
-use mathlib.Core.List.{List}
 use Rattle.causes.specs.declared.Item.TheVariants as item
 use Rattle.verdict.specs.Items.{is, date, last}
 use Rattle.read_items.specs.Meaning.{day_of, number_of, refused}
@@ -12,31 +10,19 @@ use Rattle.read_items.specs.Meaning.Laws.{says}
 use Rattle.read_header.proofs.read_rest.Goals as goal
 use Rattle.read_header.proofs.read_rest.Goals.{In-Is, In-Is-category, In-Is-definition, In-Is-signed}
 
-abbrev seal_at : In-Is → List ℕ
-seal_at c = c.args.seal.now
-
 -- what was read of each item
-read_issued : (c : In-Is) →
-    let g = c.issued.given.0 in
-    is g.0 g.1.0.place ≡ date (start c).args.at.place (seal_at c)
+read_issued : (c : In-Is) → is c.in-Is.first c.in-Is.at2.place ≡ date c.args.at.place c.args.seal.now
 read_issued c = sym (ap day_of c.in-Is.is) ∙ c.date-issued.ensures
 
-read_signed : (c : In-Is-signed) →
-    let g = c.signed.given.0 in
-    let told = on-issued c in
-    is g.0 g.1.0.place ≡ date told.in-Is.at2.place (seal_at told)
+read_signed : (c : In-Is-signed) → is c.in-Is-signed.second c.in-Is-signed.at3.place ≡ date c.in-Is.at2.place c.args.seal.now
 read_signed c = sym (ap day_of c.in-Is-signed.is) ∙ c.date-signed.ensures
 
-read_definition : (c : In-Is-definition) →
-    let g = c.definition.given.0 in
-    let told = on-signed c in
-    is g.0 g.1.0.place ≡ last told.in-Is-signed.at3.place (seal_at (on-issued told))
+read_definition : (c : In-Is-definition)
+    → is c.in-Is-definition.d c.in-Is-definition.at4.place ≡ last c.in-Is-signed.at3.place c.args.seal.now
 read_definition c = sym (ap number_of c.in-Is-definition.is) ∙ c.last-definition.ensures
 
-read-category : (c : In-Is-category) →
-    let g = c.category.given.0 in
-    let told = on-definition c in
-    is g.0 g.1.0.place ≡ last told.in-Is-definition.at4.place (seal_at (on-issued (on-signed told)))
+read-category : (c : In-Is-category)
+    → is c.in-Is-category.c c.in-Is-category.next.place ≡ last c.in-Is-definition.at4.place c.args.seal.now
 read-category c = sym (ap number_of c.in-Is-category.is) ∙ c.last-category.ensures
 
 pub returns-in_default : goal.returns-in_default

@@ -14,11 +14,11 @@ use Rattle.ecdsa_to_raw.proofs.raw_form.put_padded.Goals as goal
 use Rattle.ecdsa_to_raw.proofs.raw_form.put_padded.Goals.{After-copy_lent, At-loop-i}
 
 -- the buffer keeps its length
-kept : (c : At-loop-i) → length c.loop-i.out ≡ length (start c).args.out.now
+kept : (c : At-loop-i) → length c.loop-i.out ≡ length c.args.out.now
 kept c =
     let a = c.args in
     let many : length (replicate {A = ℕ} c.loop-i.i 0) ≡ c.loop-i.i = length-replicate c.loop-i.i 0 in
-    ap length c.loop-i.invariant.1 ∙ length_over a.out-1.now a.at (replicate c.loop-i.i 0) (omega arith)
+    ap length c.loop-i.invariant.1 ∙ length_over a.out.now a.at (replicate c.loop-i.i 0) (omega arith)
 
 pub overflow_sub-zeros : goal.overflow_sub-zeros
 overflow_sub-zeros c = omega arith
@@ -29,66 +29,47 @@ loop-i-init c = (omega arith, sym (over_none _ _))
 pub overflow_add-out : goal.overflow_add-out
 overflow_add-out c = omega arith
 
-pub bounds-out-at : goal.bounds-out-at
-bounds-out-at c = omega (arith, kept (goal.at.bounds-out-at c).At-loop-i)
-
 pub overflow_add-i : goal.overflow_add-i
 overflow_add-i c = omega arith
 
 pub loop-i-smaller : goal.loop-i-smaller
 loop-i-smaller c = omega arith
 
-pub loop-i-preserved : goal.loop-i-preserved
-loop-i-preserved c =
-    let a = c.args in (
-      omega arith,
-      ap (λ o. set o (a.at + c.loop-i.i) 0) c.loop-i.invariant.1 ∙ zero_more a.out-1.now a.at c.loop-i.i (omega arith),
-    )
-
 pub overflow_add-at : goal.overflow_add-at
 overflow_add-at c = omega arith
-
--- GONE overflow-sub-copy-lent
-
-pub MISSING-overflow-sub-copy-lent : goal.MISSING-overflow-sub-copy-lent
-MISSING-overflow-sub-copy-lent c = omega (arith, kept (goal.at.MISSING-overflow-sub-copy-lent c).At-loop-i)
-
--- GONE slice-bounds-copy-lent-start
-
-pub MISSING-slice-bounds-copy-lent-start : goal.MISSING-slice-bounds-copy-lent-start
-MISSING-slice-bounds-copy-lent-start c = omega (arith, kept (goal.at.MISSING-slice-bounds-copy-lent-start c).At-loop-i)
-
--- GONE slice-bounds-copy-lent-end
-
-pub MISSING-slice-bounds-copy-lent-end : goal.MISSING-slice-bounds-copy-lent-end
-MISSING-slice-bounds-copy-lent-end c = omega arith
-
-pub copy_lent-requires : goal.copy_lent-requires
-copy_lent-requires c = tt
 
 -- the digits stand after the zeros
 put :
     (c : After-copy_lent) →
-    let on = on_loop c in
-    let a = (start on).args in
+    let a = c.args in
     let from = a.at + (a.n - length a.digits.now) in
-    let out = on.loop-i.out in
-    take from out ++ (c.copy_lent.new.1.0 ++ drop (length out - from) (drop from out))
-    ≡ over a.out-1.now a.at (padded a.n a.digits.now)
+    let out = c.loop-i.out in
+    take from out ++ (c.copy_lent.new.out ++ drop (length out - from) (drop from out))
+    ≡ over a.out.now a.at (padded a.n a.digits.now)
 put c =
     let a = c.args in
     let from = a.at + (a.n - length a.digits.now) in
     let out = c.loop-i.out in
     ap (λ t. take from out ++ (t ++ drop (length out - from) (drop from out))) c.copy_lent.ensures
     ∙ part a.digits.now out from (omega (arith, kept (goal.at.After-copy_lent c).At-loop-i))
-    ∙ padded_put a.out-1.now a.digits.now a.n a.at c.loop-i.i out (omega arith) (omega arith) (omega arith)
+    ∙ padded_put a.out.now a.digits.now a.n a.at c.loop-i.i out (omega arith) (omega arith) (omega arith)
     c.loop-i.invariant.1
+
+pub bounds-out-at : goal.bounds-out-at
+bounds-out-at c = omega (arith, kept (goal.at.bounds-out-at c).At-loop-i)
+
+pub loop-i-preserved : goal.loop-i-preserved
+loop-i-preserved c =
+    let a = c.args in (
+      omega arith,
+      ap (λ o. set o (a.at + c.loop-i.i) 0) c.loop-i.invariant.1 ∙ zero_more a.out.now a.at c.loop-i.i (omega arith),
+    )
 
 pub shape_of-out : goal.shape_of-out
 shape_of-out c =
     let a = c.args in
     ap length (put (goal.at.shape_of-out c).After-copy_lent)
-    ∙ length_over a.out-1.now a.at (padded a.n a.digits.now)
+    ∙ length_over a.out.now a.at (padded a.n a.digits.now)
     (omega (arith, length_padded a.n a.digits.now (omega arith)))
 
 pub returns : goal.returns

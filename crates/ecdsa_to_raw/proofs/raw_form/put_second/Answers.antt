@@ -14,42 +14,37 @@ use Rattle.ecdsa_to_raw.proofs.raw_form.put_second.Goals.{In-Digits}
 -- the digits of s lie inside the rest
 inside :
     (c : In-Digits) →
-    Inside (start c).args.n (start c).args.rest.now c.in-Digits.start c.in-Digits.end
+    Inside c.args.n c.args.rest.now c.in-Digits.start c.in-Digits.end
 inside c =
-    number_inside _ _ (λ i. (c.shared_slice_known-2-1.given i).fits) _ _
+    number_inside _ _ (λ i. (c.type_inv.rest i).fits) _ _
     (sym c.number_in-second.ensures ∙ c.in-Digits.is)
 
 pub returns-in_default : goal.returns-in_default
 returns-in_default c =
-    refuses _ 62 0 _ (rawed_none _ _ _ (ap (lastly _ _ _) (sym c.number_in-second.ensures ∙ c.in_default.is)))
-    -- LOOK record answer buffer
+    let w = refuses _ 62 0 _ (rawed_none _ _ _ (ap (lastly _ _ _) (sym c.number_in-second.ensures ∙ c.in_default.is))) in
+    record { answer = w.0; buffer = w.1 }
 
 pub returns-then-end-rest : goal.returns-then-end-rest
 returns-then-end-rest c =
-    refuses _ 62 0 _
+    let w = refuses _ 62 0 _
     (rawed_none _ _ _
-    (second_left _ _ _ _ _ (sym c.number_in-second.ensures ∙ c.in-Digits.is) c.if-end-rest.true))
-    -- LOOK record answer buffer
-
--- GONE overflow-sub-put-both
-
-pub MISSING-overflow-sub-put-both : goal.MISSING-overflow-sub-put-both
-MISSING-overflow-sub-put-both c = (inside (goal.at.MISSING-overflow-sub-put-both c).In-Digits).order
-
--- GONE slice-bounds-put-both-start
-
-pub MISSING-slice-bounds-put-both-start : goal.MISSING-slice-bounds-put-both-start
-MISSING-slice-bounds-put-both-start c = (inside (goal.at.MISSING-slice-bounds-put-both-start c).In-Digits).order
-
--- GONE slice-bounds-put-both-end
+    (second_left _ _ _ _ _ (sym c.number_in-second.ensures ∙ c.in-Digits.is) c.if-end-rest.true)) in
+    record { answer = w.0; buffer = w.1 }
 
 pub put_both-requires : goal.put_both-requires
 put_both-requires c =
     let asked = c.requires in
     (asked.1, asked.2, number_fits _ _ _ _ (inside (goal.at.put_both-requires c).In-Digits))
 
+pub slice_bounds-put_both-count : goal.slice_bounds-put_both-count
+slice_bounds-put_both-count c = (inside (goal.at.slice_bounds-put_both-count c).In-Digits).order
+
+pub slice_bounds-put_both-start : goal.slice_bounds-put_both-start
+slice_bounds-put_both-start c = (inside (goal.at.slice_bounds-put_both-start c).In-Digits).order
+
 pub returns : goal.returns
 returns c =
     let a = c.args in
     let read = sym c.number_in-second.ensures ∙ c.in-Digits.is in
-    let e = second_is _ _ _ _ (padded a.n a.r.now) read c.if-end-rest.false in record { answer = c.put_both.ensures.answer ∙ ap (λ r. told (rawed a.n r (length a.out-1.now))) e; buffer = c.put_both.ensures.buffer ∙ ap (λ r. filled (rawed a.n r (length a.out-1.now)) a.out-1.now) e }
+    let e = second_is _ _ _ _ (padded a.n a.r.now) read c.if-end-rest.false in
+    record { answer = c.put_both.ensures.answer ∙ ap (λ r. told (rawed a.n r (length a.out.now))) e; buffer = c.put_both.ensures.buffer ∙ ap (λ r. filled (rawed a.n r (length a.out.now)) a.out.now) e }

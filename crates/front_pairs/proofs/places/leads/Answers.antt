@@ -1,6 +1,5 @@
 -- `places::leads` meets its contract: each arm is the case of its kind.
 -- Assumes nothing.
-use borrow.Author.Rules.{rules}
 use Rattle.front_pairs.proofs.places.leads.Goals as goal
 
 pub returns-in-Country : goal.returns-in-Country

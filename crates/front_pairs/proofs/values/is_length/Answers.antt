@@ -1,6 +1,5 @@
 -- `values::is_length` meets its contract.
 -- Assumes nothing.
-use borrow.Author.Rules.{rules}
 use Rattle.front_pairs.proofs.values.is_length.Goals as goal
 
 pub returns : goal.returns

@@ -1,6 +1,5 @@
 -- `values::kept` meets its contract: each arm is the case of its kind.
 -- Assumes nothing.
-use borrow.Author.Rules.{rules}
 use Rattle.front_pairs.proofs.values.kept.Goals as goal
 
 pub returns-in-Country : goal.returns-in-Country
