@@ -21,44 +21,41 @@ use Rattle.judging.proofs.judge_message.Goals.{In-Are, In-Is}
 
 -- what was read by each step
 rows_read_lem : (c : In-Are) →
-    let args = (start c).args in
-    let g = c.features.given.0 in
-    Counted (features 256 args.version [] args.message.place args.seal.now) g.0 g.1.0.place
+    let args = c.args in
+    Counted (features 256 args.version [] args.message.place args.seal.now) c.in-Are.count c.in-Are.mark.place
 rows_read_lem c = counted _ _ _ (sym (ap features_of c.in-Are.is) ∙ c.read_features-features.ensures)
 
 signature_read : (c : In-Is) →
-    let told = on-features c in
-    let g = c.signature.given.0 in
-    signature_of (signature.Is g.0 g.1.0)
-    ≡ signature_at (told.in-Are.mark.place + 1) (start told).args.seal.now
+    signature_of (signature.Is c.in-Is.size c.in-Is.start)
+    ≡ signature_at (c.in-Are.mark.place + 1) c.args.seal.now
 signature_read c = sym (ap signature_of c.in-Is.is) ∙ c.read_signature-signature.ensures
 
 pub returns-in_default : goal.returns-in_default
 returns-in_default c =
     let why = c.features.ensures ∙ ap (λ f. why_of (features_of f)) c.in_default.is in
     judged_refused _ _ _ _
-    (judge_features _ _ _ _ c.requires _ _
+    (judge_features _ _ _ _ c.requires.read _ _
     (through_unread length _ _ _
     (ap (λ (w : Refusal). not w.why w.place) why ∙ sym (ap features_of c.in_default.is) ∙ c.read_features-features.ensures)))
-    c.not-Good.ensures
+    c.not_good.ensures
 
 pub overflow_add-next : goal.overflow_add-next
 overflow_add-next c =
     let rows = rows_read_lem (goal.at.overflow_add-next c).In-Are in
     let inside = mark_inside 256 _ [] _ _ rows.rows _ (sym rows.read) in
-    omega (arith, inside, c.requires.short)
+    omega (arith, inside, c.requires.read.short)
 
 pub returns-in_default-signature : goal.returns-in_default-signature
 returns-in_default-signature c =
     let rows = rows_read_lem (goal.at.returns-in_default-signature c).In-Are in
     let why = c.signature.ensures ∙ ap (λ f. why_of (signature_of f)) c.in_default-signature.is in
     judged_refused _ _ _ _
-    (judge_signature _ _ _ _ c.requires rows.rows _ rows.read _ _
+    (judge_signature _ _ _ _ c.requires.read rows.rows _ rows.read _ _
     (ap (λ (w : Refusal). not w.why w.place) why ∙ sym (ap signature_of c.in_default-signature.is) ∙ c.read_signature-signature.ensures))
     c.not_good-in_default-signature.ensures
 
 pub returns : goal.returns
 returns c =
     let rows = rows_read_lem (goal.at.returns c).In-Are in
-    c.good2.ensures
-    ∙ judged_good _ _ _ _ c.requires rows.rows _ rows.read _ _ _ (signature_read (goal.at.returns c).In-Is) rows.counts
+    c.good.ensures
+    ∙ judged_good _ _ _ _ c.requires.read rows.rows _ rows.read _ _ _ (signature_read (goal.at.returns c).In-Is) rows.counts

@@ -23,10 +23,8 @@ short c = omega arith
 
 -- what was read before the dates
 front_read : (c : In-Is) →
-    let on = c in
-    let g = c.front.given.0 in
-    front_of on.read_front-front.new.country on.read_front-front.new.text (front.Is g.0 g.1.0 g.1.1.0)
-    ≡ fields on.args.seal.now
+    front_of c.read_front-front.new.country c.read_front-front.new.text (front.Is c.in-Is.version c.in-Is.length c.in-Is.at)
+    ≡ fields c.args.seal.now
 front_read c =
     sym (ap (front_of c.read_front-front.new.country c.read_front-front.new.text) c.in-Is.is)
     ∙ c.read_front-front.ensures.item
@@ -35,10 +33,11 @@ pub returns-then-seal-gt4096 : goal.returns-then-seal-gt4096
 returns-then-seal-gt4096 c =
     let args = c.args in
     let j = judge_long args.seal.now (omega arith) in
-    let e = ap (λ (w : Refusal). judgement_of (not w.why w.place)) c.of.ensures in (
-      judged_refused _ _ _ _ j (c.not-Good.ensures ∙ e),
-      (named_refused _ _ _ _ j, over_long args.names.now args.seal.now (omega arith)),
-    )  -- LOOK record answer text buffer
+    let e = ap (λ (w : Refusal). judgement_of (not w.why w.place)) c.of.ensures in record {
+      answer = judged_refused _ _ _ _ j (c.not_good.ensures ∙ e);
+      text = named_refused _ _ _ _ j;
+      buffer = over_long args.names.now args.seal.now (omega arith);
+    }
 
 pub returns-in_default : goal.returns-in_default
 returns-in_default c =
@@ -46,26 +45,26 @@ returns-in_default c =
     let j = judge_front _ (short (goal.at.returns-in_default c).Else-seal-gt4096) _ _
     (ap (λ (w : Refusal). not w.why w.place) why
     ∙ sym (ap (front_of c.read_front-front.new.country c.read_front-front.new.text) c.in_default.is)
-    ∙ c.read_front-front.ensures.item) in (
-      judged_refused _ _ _ _ j c.not_good-in_default.ensures,
-      (named_refused _ _ _ _ j, over_short _ _ _ (short (goal.at.returns-in_default c).Else-seal-gt4096) c.read_front-front.ensures.code.1),
-    )  -- LOOK record answer text buffer
+    ∙ c.read_front-front.ensures.item) in record {
+      answer = judged_refused _ _ _ _ j c.not_good-in_default.ensures;
+      text = named_refused _ _ _ _ j;
+      buffer = over_short _ _ _ (short (goal.at.returns-in_default c).Else-seal-gt4096) c.read_front-front.ensures.names;
+    }
 
 pub judge_rest-requires : goal.judge_rest-requires
 judge_rest-requires c =
-    let text = c.read_front-front.new.text in
-    record {
-      short = short (goal.at.judge_rest-requires c).Else-seal-gt4096;
-      names = record { signer = take 4 text; reference = take c.in-Is.length (drop 4 text) };
-      fields_read = front_read c;
+    let text = c.read_front-front.new.text in record {
+      read = record {
+        short = short (goal.at.judge_rest-requires c).Else-seal-gt4096;
+        names = record { signer = take 4 text; reference = take c.in-Is.length (drop 4 text) };
+        fields_read = front_read c;
+      };
     }
-    -- LOOK record read
 
 pub returns : goal.returns
-returns c = (
-  c.judge_rest.ensures,
-  (
-    named_front _ _ _ _ _ _ (short (goal.at.returns c).Else-seal-gt4096) (front_read (goal.at.returns c).In-Is),
-    over_short _ _ _ (short (goal.at.returns c).Else-seal-gt4096) c.read_front-front.ensures.code.1,
-  ),
-)  -- LOOK record answer text buffer
+returns c =
+    let little = short (goal.at.returns c).Else-seal-gt4096 in record {
+      answer = c.judge_rest.ensures;
+      text = named_front _ _ _ _ _ _ little (front_read (goal.at.returns c).In-Is);
+      buffer = over_short _ _ _ little c.read_front-front.ensures.names;
+    }

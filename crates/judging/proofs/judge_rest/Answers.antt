@@ -13,19 +13,19 @@ pub returns-in_default : goal.returns-in_default
 returns-in_default c =
     let why = c.rest.ensures ∙ ap (λ f. why_of (rest_of f)) c.in_default.is in
     judged_refused _ _ _ _
-    (judge_rest _ _ _ _ _ c.requires _ _
+    (judge_rest _ _ _ _ _ c.requires.read _ _
     (ap (λ (w : Refusal). not w.why w.place) why ∙ sym (ap rest_of c.in_default.is) ∙ c.read_rest-rest.ensures))
-    c.not-Good.ensures
+    c.not_good.ensures
 
 pub judge_message-requires : goal.judge_message-requires
 judge_message-requires c =
-    let g = c.rest.given.0 in
-    header_next _ _ _ _ _ c.requires
-    (record { issued = g.0; signed = g.1.0; definition = g.1.1.0; category = g.1.1.1.0 })
-    g.1.1.1.1.0.place _
-    (sym (ap rest_of c.in-Is.is) ∙ c.read_rest-rest.ensures)
-    c.number.ensures
-    -- LOOK record read
+    let w = c.in-Is in record {
+      read = header_next _ _ _ _ _ c.requires.read
+          (record { issued = w.issued; signed = w.signed; definition = w.definition; category = w.category })
+          w.message.place _
+          (sym (ap rest_of w.is) ∙ c.read_rest-rest.ensures)
+          c.number.ensures;
+    }
 
 pub returns : goal.returns
 returns c = c.judge_message.ensures
