@@ -4,8 +4,6 @@ use borrow.Author.Rules.{rules}
 use Rattle.case_file.specs.Line.Laws.{within_more}
 use Rattle.case_c40.proofs.report.Goals as goal
 
--- GONE slice-aggregate-put-text
-
 pub returns : goal.returns
 returns c =
     within_more _ _ _ _ _ c.put_number-o.ensures.within c.put_number-o.auto.out

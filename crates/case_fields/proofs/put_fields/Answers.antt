@@ -4,12 +4,6 @@ use borrow.Author.Rules.{rules}
 use Rattle.case_file.specs.Line.Laws.{within_more}
 use Rattle.case_fields.proofs.put_fields.Goals as goal
 
--- GONE slice-aggregate-put-part-4
-
--- GONE slice-aggregate-put-part-5
-
--- GONE slice-aggregate-put-part-6
-
 pub returns : goal.returns
 returns c =
     within_more _ _ _ _ _ c.put_header-o.ensures c.put_header-o.kept.1.0

@@ -4,10 +4,6 @@ use borrow.Author.Rules.{rules}
 use Rattle.case_file.specs.Line.Laws.{within_more}
 use Rattle.case_fields.proofs.put_reading.Goals as goal
 
--- GONE slice-aggregate-put-text
-
--- GONE slice-aggregate-put-text-2
-
 pub returns-then-same : goal.returns-then-same
 returns-then-same c =
     let place = (c) in

@@ -12,10 +12,6 @@ use Rattle.case_fields.proofs.same.Goals as goal
 pub loop-i-init : goal.loop-i-init
 loop-i-init c = (omega arith, λ k h. absurd (omega arith))
 
--- GONE overflow-mul-if1
-
--- GONE overflow-mul-if1-2
-
 pub returns-then-a-i : goal.returns-then-a-i
 returns-then-a-i c =
     no_tells (λ e. c.if-a-i.true (e c.loop-i.i (omega arith)))

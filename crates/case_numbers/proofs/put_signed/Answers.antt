@@ -19,19 +19,5 @@ most z f = subst (λ v. nat_abs v ≤ 2 ^ 63) (sym (to_z-of_z f)) (go z f)
     go (pos n) f = omega (arith, f.sfits)
     go (negsuc k) f = omega (arith, f.sfits)
 
-pub overflow_add-below : goal.overflow_add-below
-overflow_add-below c = up_fits c.args.value c.fits.value c.if-value-lt0.true
-
-pub overflow_sub-below : goal.overflow_sub-below
-overflow_sub-below c = below_fits c.args.value c.fits.value c.if-value-lt0.true
-
-pub overflow_cast-below : goal.overflow_cast-below
-overflow_cast-below c = let o = (c) in below_cast o.args.value o.fits.value c.if-value-lt0.true
-
-pub overflow_add-below-then-value-lt0 : goal.overflow_add-below-then-value-lt0
-overflow_add-below-then-value-lt0 c =
-    let o = (c) in
-    record { fits = omega (arith, most _ (below_fits o.args.value o.fits.value c.if-value-lt0.true)) }
-
 pub overflow_cast-value : goal.overflow_cast-value
 overflow_cast-value c = word_cast c.args.value c.ranges.value c.if-value-lt0.false

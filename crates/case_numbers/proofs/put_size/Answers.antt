@@ -4,10 +4,6 @@ use borrow.Author.Rules.{rules}
 use Rattle.case_file.specs.Line.Laws.{within_more}
 use Rattle.case_numbers.proofs.put_size.Goals as goal
 
--- GONE slice-aggregate-put-text
-
--- GONE slice-aggregate-put-text-2
-
 pub returns : goal.returns
 returns c =
     within_more _ _ _ _ _ c.put_text-o.ensures.within c.put_text-o.auto.out

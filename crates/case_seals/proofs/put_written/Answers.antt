@@ -4,10 +4,6 @@ use borrow.Author.Rules.{rules}
 use Rattle.case_file.specs.Line.Laws.{within_more}
 use Rattle.case_seals.proofs.put_written.Goals as goal
 
--- GONE slice-aggregate-put-part-2
-
--- GONE slice-aggregate-put-text-2
-
 pub returns : goal.returns
 returns c =
     within_more _ _ _ _ _ c.put_part-o.ensures.within c.put_part-o.auto.out

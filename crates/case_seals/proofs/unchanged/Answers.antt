@@ -13,8 +13,6 @@ use Rattle.case_seals.proofs.unchanged.Goals as goal
 pub loop-i-init : goal.loop-i-init
 loop-i-init c = refl
 
--- GONE overflow-mul-if1
-
 pub bounds-table-i : goal.bounds-table-i
 bounds-table-i c = omega arith
 

@@ -1,14 +1,13 @@
 -- `case_why::run_case` meets its contract: each part goes on where the one before ended, and the count lies within the text.
 -- Assumes nothing.
-use borrow.Author.Rules.{rules}
 use Rattle.lines.specs.Line.{Counts}
 use Rattle.case_file.specs.Line.Laws.{within_more}
-use Rattle.why_lines.specs.Lines.Laws.{text_counts, text_length}
+use Rattle.why_lines.specs.Lines.Laws.{text_counts}
 use Rattle.case_why.proofs.run_case.Goals as goal
 use Rattle.case_why.proofs.run_case.Goals.{After-tell-count}
 
 told : (c : After-tell-count) → Counts c.tell-count.result c.tell-count.new.out
-told c = text_counts _ _ _ c.tell-count.ensures.text.0 _ c.tell-count.ensures.count
+told c = text_counts _ _ _ c.tell-count.ensures.text _ c.tell-count.ensures.count
 
 pub slice_bounds-text-end : goal.slice_bounds-text-end
 slice_bounds-text-end c = (told (goal.at.slice_bounds-text-end c).After-tell-count).0
@@ -16,24 +15,12 @@ slice_bounds-text-end c = (told (goal.at.slice_bounds-text-end c).After-tell-cou
 pub slice_bounds-put_text-end : goal.slice_bounds-put_text-end
 slice_bounds-put_text-end c = (told (goal.at.slice_bounds-put_text-end c).After-tell-count).1
 
-pub slice_bounds-unchanged-end : goal.slice_bounds-unchanged-end
-slice_bounds-unchanged-end c =
-    let call = ((c)).tell-count in text_length _ _ _ call.ensures.1.0 call.ensures.1.1.0
-
--- GONE slice-aggregate-put-text-2
-
 pub returns-then-unchanged : goal.returns-then-unchanged
 returns-then-unchanged c =
-    let count = (c) in
-    let text = count in
-    within_more _ _ _ _ _ text.put_text-o.ensures.within text.put_text-o.auto.out
-    (within_more _ _ _ _ _ count.put_number-o.ensures.within count.put_number-o.auto.out c.put_text.ensures.within)
-
--- GONE slice-aggregate-put-text-3
+    within_more _ _ _ _ _ c.put_text-o.ensures.within c.put_text-o.auto.out
+    (within_more _ _ _ _ _ c.put_number-o.ensures.within c.put_number-o.auto.out c.put_text.ensures.within)
 
 pub returns : goal.returns
 returns c =
-    let count = (c) in
-    let text = count in
-    within_more _ _ _ _ _ text.put_text-o.ensures.within text.put_text-o.auto.out
-    (within_more _ _ _ _ _ count.put_number-o.ensures.within count.put_number-o.auto.out c.put_text-2.ensures.within)
+    within_more _ _ _ _ _ c.put_text-o.ensures.within c.put_text-o.auto.out
+    (within_more _ _ _ _ _ c.put_number-o.ensures.within c.put_number-o.auto.out c.put_text-2.ensures.within)

@@ -29,8 +29,6 @@ shape_of-table-then-count-table c = c.loop-i.invariant.0
 pub returns-then-count-table : goal.returns-then-count-table
 returns-then-count-table c = counts _ _ (omega (arith, c.loop-i.invariant.0))
 
--- GONE overflow-mul-table
-
 pub bounds-table-count : goal.bounds-table-count
 bounds-table-count c = omega (arith, c.loop-i.invariant.0)
 

@@ -1,6 +1,5 @@
 -- `ecdsa_to_der::to_der` meets its contract: n and the raw length are judged, and then both halves go to `put_pair`.
 -- Assumes nothing.
-use borrow.Author.Tests.{not-true, not-false}
 use native.Mathlib.Omega.{arith}
 use mathlib.Core.Path.{◌≡◌, ◌∙◌, ap, sym}
 use mathlib.Core.Bool.{true}
@@ -17,7 +16,6 @@ use Rattle.ecdsa.specs.Signature.Laws.{size_bounds}
 use Rattle.ecdsa_to_der.specs.Places.{Numbers}
 use Rattle.ecdsa.specs.Calls.{to_der}
 use Rattle.ecdsa.specs.Calls.Laws.{to_der_no_size, to_der_wrong, to_der_formed}
-use borrow.Author.Rules.{rules}
 use Rattle.ecdsa_to_der.proofs.to_der.Goals as goal
 use Rattle.ecdsa_to_der.proofs.to_der.Goals.{Else-not-is_size}
 

@@ -1,7 +1,5 @@
 -- `ecdsa_to_raw::to_raw` meets its contract: n and the sequence are judged, and what it holds goes to `put_pair`.
 -- Assumes nothing.
-use borrow.Author.Rules.{rules}
-use borrow.Author.Tests.{not-true, not-false}
 use native.Mathlib.Omega.{arith}
 use mathlib.Core.Path.{◌≡◌, refl, ap, sym, ◌∙◌}
 use mathlib.Core.Bool.{true}

@@ -10,27 +10,27 @@ use Rattle.reader.specs.Given.{given_count, given_size}
 use Rattle.reader.proofs.give.Goals as goal
 
 pub overflow_mul-reading : goal.overflow_mul-reading
-overflow_mul-reading c = let g = c.requires in omega (arith, given_count _ _ _ _ g, g.good.few)
+overflow_mul-reading c = let g = c.requires.given in omega (arith, given_count _ _ _ _ g, g.good.few)
 
 pub returns-then-table-reading : goal.returns-then-table-reading
 returns-then-table-reading c =
-    let g = c.requires in
+    let g = c.requires.given in
     reads_refused c.args.seal.now c.args.table.now c.args.text.now c.refused.result 12 0
     (no_rows _ _ _ g.good.report g.good.judged (omega (arith, given_count _ _ _ _ g))) c.refused.ensures
 
 pub returns-then-text-names : goal.returns-then-text-names
 returns-then-text-names c =
-    let g = c.requires in
+    let g = c.requires.given in
     reads_refused c.args.seal.now c.args.table.now c.args.text.now c.refused-then-text-names.result 12 0
     (no_text _ _ _ g.good.report g.good.judged (omega (arith, given_count _ _ _ _ g)) (omega (arith, given_size _ _ _ _ g)))
     c.refused-then-text-names.ensures
 
 pub put_rows-requires : goal.put_rows-requires
-put_rows-requires c = record { there = put_there _ _ _ c.requires.good; room = omega arith }
+put_rows-requires c = record { there = put_there _ _ _ c.requires.given.good; room = omega arith }
 
 pub returns : goal.returns
 returns c =
-    let g = c.requires in
+    let g = c.requires.given in
     let a = g.good in
     let args = c.args in
     let long = given_size _ _ _ _ g in

@@ -8,7 +8,6 @@ use lib.ListN.{length}
 use Rattle.der.specs.Length.{form}
 use Rattle.der.specs.Length.Written.{written_form}
 use Rattle.ecdsa.specs.Signature.Laws.{head_most}
-use borrow.Author.Rules.{rules}
 use Rattle.ecdsa_to_der.proofs.der_form.head_of.Goals as goal
 use Rattle.ecdsa_to_der.proofs.der_form.head_of.Goals.{After-length_width}
 

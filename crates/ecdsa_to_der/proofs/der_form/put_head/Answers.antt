@@ -3,13 +3,12 @@
 use native.Mathlib.Omega.{arith}
 use mathlib.Core.Path.{◌∙◌, ap}
 use mathlib.Core.List.{[], ◌∷◌}
-use lib.ListN.{set, length-set}
+use lib.ListN.{set}
 use Rattle.format.specs.Buffer.Laws.{set_over}
 use Rattle.octets.specs.Copy.{copied}
 use Rattle.der.specs.Length.{form}
 use Rattle.der.specs.Length.Written.{written_form}
 use Rattle.ecdsa_to_der.specs.Places.Laws.{behind}
-use borrow.Author.Rules.{rules}
 use Rattle.ecdsa_to_der.proofs.der_form.put_head.Goals as goal
 
 pub returns : goal.returns

@@ -2,12 +2,10 @@
 -- Assumes nothing.
 use native.Mathlib.Omega.{arith}
 use mathlib.Core.Path.{◌∙◌}
-use Prim.Native.Nat.{◌-◌}
 use lib.ListN.{length-set}
 use Rattle.format.specs.Places.{to_end}
 use Rattle.ecdsa.specs.Signature.Laws.{size_high}
 use Rattle.ecdsa_to_der.specs.Places.Laws.{content_small, put_low, place_low, put_high, place_high}
-use borrow.Author.Rules.{rules}
 use Rattle.ecdsa_to_der.proofs.der_form.put_integer.Goals as goal
 
 pub overflow_cast-out : goal.overflow_cast-out

@@ -16,7 +16,6 @@ use Rattle.ecdsa.specs.Signature.{content_from}
 use Rattle.ecdsa.specs.Signature.Laws.{head_most, size_bounds}
 use Rattle.ecdsa.specs.FormSize.{never_64}
 use Rattle.ecdsa_to_der.specs.Places.Laws.{Measured, below, content_size, whole_size, whole_is, length_r, length_s}
-use borrow.Author.Rules.{rules}
 use Rattle.ecdsa_to_der.proofs.der_form.put_pair.Goals as goal
 use Rattle.ecdsa_to_der.proofs.der_form.put_pair.Goals.{After-put_head, After-put_integer-at, After-size_from-2, Else-out-head}
 

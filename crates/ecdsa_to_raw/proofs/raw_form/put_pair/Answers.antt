@@ -1,6 +1,5 @@
 -- `raw_form::put_pair` meets its contract: nothing at the head, or r there and the rest handed on.
 -- Assumes nothing.
-use borrow.Author.Rules.{rules}
 use mathlib.Core.Path.{refl, ap, sym, ◌∙◌}
 use lib.ListN.{length}
 use Rattle.format.specs.Answers.{told, filled}

@@ -1,6 +1,5 @@
 -- `raw_form::put_second` meets its contract: each `return` is one case of `lastly`.
 -- Assumes nothing.
-use borrow.Author.Rules.{rules}
 use mathlib.Core.Path.{ap, sym, ◌∙◌}
 use lib.ListN.{length}
 use Rattle.format.specs.Answers.{told, filled}

@@ -28,9 +28,3 @@ returns-then-is_signer c =
 
 pub returns : goal.returns
 returns c = breaks _ rule.SignerCharacters _ (sym (signer (goal.at.returns c).After-is_signer) ∙ c.if-is_signer.false)
-
--- GONE overflow-sub-in-reference
-
--- GONE slice-bounds-in-reference-start
-
--- GONE slice-bounds-in-reference-end
