@@ -4,7 +4,7 @@ use Rattle.std.specs.Prelude.{◌≡◌, ℕ, suc, ◌+◌, ◌-◌, ◌<◌, �
 use Rattle.std.proofs.Common.{ap, ap₂, sym, ◌∙◌, arith, add-zero, append_assoc, append-nil, length-append, length-drop, length-take-le, take_all, take-suc, take-add, take_at, drop_at, drop-drop, get_or-drop}
 use Rattle.std.proofs.Math.Seq.{drop-length}
 use Rattle.format.specs.Buffer.{over}
-use Rattle.format.specs.Buffer.Laws.{over_none, over_start, length_over, over_over, over_set}
+use Rattle.format.proofs.Buffer.Laws.{over_none, over_start, length_over, over_over, over_set}
 use Rattle.octets.specs.Copy.{copied}
 use Rattle.octets.specs.Copy.Laws.{copied_all}
 

@@ -1,7 +1,6 @@
 -- What the two calls answer, for every input (document 01, numbers 40 to 45; document 02, Ticket 1, 46 and 47), and the number and place of
 -- each case of their answers.
 -- Assumes nothing.
-pub mod Laws
 use Rattle.std.specs.Prelude.{ℕ, suc, ◌%◌, List, [], ◌∷◌, leb, eqb, length}
 use Rattle.format.specs.Choice.{pick}
 use Rattle.format.specs.Answers.{Outcome, Answer, done}

@@ -1,7 +1,5 @@
 -- Reading C40 bytes pair by pair from the left: the text, or what is wrong with the first pair that is wrongly coded, and its place.
 -- Assumes nothing.
-pub mod Laws
-pub mod First
 use Rattle.std.specs.Prelude.{Bool, true, false, ◌≡◌, ℕ, ◌+◌, ◌%◌, ◌≤◌, List, [], ◌∷◌, ◌++◌, length}
 use Rattle.pairs.specs.Chart.{the_chart}
 use Rattle.pairs.specs.Pairs.{pair_of}

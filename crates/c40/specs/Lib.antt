@@ -1,8 +1,5 @@
 pub mod Text
 pub mod Decode
 pub mod Calls
-pub mod Exact
 pub mod OneToOne
-pub mod Refused
 pub mod Pins
-pub mod Wrong

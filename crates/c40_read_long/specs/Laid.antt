@@ -7,7 +7,7 @@ use Rattle.format.specs.Buffer.{over}
 use Rattle.pairs.specs.Chart.{the_chart, char}
 use Rattle.pairs.specs.Pairs.{pair_of, chars_of}
 use Rattle.c40.specs.Decode.{decode, text}
-use Rattle.c40.specs.Decode.Laws.{Sofar}
+use Rattle.c40.proofs.Decode.Laws.{Sofar}
 use Rattle.c40_read_long.specs.declared.Laid.{Laid}
 use Rattle.c40_read_long.specs.declared.Laid.TheVariants.{Text, Not}
 

@@ -7,14 +7,14 @@ use Rattle.format.specs.Bytes.{Bytes}
 use Rattle.format.specs.BigEndian.{be}
 use Rattle.format.specs.BigEndian.Laws.{length_be}
 use Rattle.format.specs.Buffer.{over}
-use Rattle.format.specs.Buffer.Laws.{length_over, over_start, Held, held_start, held_more, held_length}
+use Rattle.format.proofs.Buffer.Laws.{length_over, over_start, Held, held_start, held_more, held_length}
 use Rattle.pairs.specs.Chart.{value_of, InChart}
 use Rattle.pairs.specs.Chart.Laws.{char_below}
 use Rattle.pairs.specs.Pairs.{packed_of, number}
 use Rattle.c40.specs.Text.{Text, publish, width}
 use Rattle.c40.specs.Text.Laws.{length_publish, left_three, left_two, left_one, left_none}
 use Rattle.c40.specs.Calls.{known}
-use Rattle.c40.specs.Calls.Laws.{known_text, text_known}
+use Rattle.c40.proofs.Calls.Laws.{known_text, text_known}
 use Rattle.c40_write.specs.Turned.{turned}
 use Rattle.c40_write.specs.Turned.Laws.{or_both, no_mark, found_in, Judged, judged_start, judged_more}
 

@@ -20,7 +20,7 @@ use Rattle.ecdsa.specs.Calls.{to_der, to_raw}
 use Rattle.grammar.specs.Publish.{header_zone, message_zone, signature_zone, signed_bytes, publish as publish_seal}
 use Rattle.grammar.specs.Legal.{Legal}
 use Rattle.grammar.specs.Examples.{content_a}
-use Rattle.grammar.specs.Pins.{seal_a_legal}
+use Rattle.grammar.proofs.Pins.{seal_a_legal}
 use Rattle.cases.specs.Case.{Case}
 use Rattle.cases.specs.C40.{c40_cases}
 use Rattle.cases.specs.Numbers.{number_cases}

@@ -1,7 +1,5 @@
 -- Which days exist (document 02, Ticket 3), a date's number and its three bytes (document 01, Dates; Doc 9303-13, 2.3.1).
 -- Assumes nothing.
-pub mod Calendar
-pub mod Laws
 use Rattle.std.specs.Prelude.{◌≡◌, Bool, true, false, ℕ, ◌+◌, ◌*◌, ◌/◌, ◌%◌, ◌<◌, ◌≤◌, List, eqb}
 use Rattle.format.specs.BigEndian.{be}
 use Rattle.format.specs.Choice.{pick, both, either, within}

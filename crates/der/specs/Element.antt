@@ -1,7 +1,6 @@
 -- A DER element at the head of a byte string: its tag, its length, its body, which must be whole (X.690, 8.1).
 -- Assumes nothing.
 pub mod Laws
-pub mod Exact
 use Rattle.std.specs.Prelude.{ℕ, ◌+◌, List, [], ◌∷◌, ltb, eqb, length}
 use Rattle.format.specs.Choice.{pick}
 use Rattle.format.specs.Cut.{counted}

@@ -1,9 +1,6 @@
 -- DER lengths (document 01, Layout; X.690, 8.1.3 and 10.1): the shortest form of a length below 2 ^ 32, and its reading
 -- at the head of a byte string.
 -- Assumes nothing.
-pub mod Laws
-pub mod Exact
-pub mod Written
 use Rattle.std.specs.Prelude.{ℕ, ◌+◌, ◌-◌, ◌^◌, ◌<◌, List, [], ◌∷◌, ltb, eqb, length}
 use Rattle.format.specs.Choice.{pick}
 use Rattle.format.specs.BigEndian.{be, val}

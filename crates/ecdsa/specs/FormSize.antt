@@ -4,7 +4,7 @@
 use Rattle.std.specs.Prelude.{◌≡◌, refl, true, ℕ, ◌+◌, ◌*◌, ◌<◌, ◌≤◌, List, [], ◌∷◌, map, length, take, drop, replicate}
 use Rattle.std.proofs.Common.{ap, ◌∙◌, arith, length-append, length-drop, length-take-le}
 use Rattle.der.specs.Length.{form}
-use Rattle.der.specs.Length.Exact.{form_some}
+use Rattle.der.proofs.Lengths.Exact.{form_some}
 use Rattle.der.specs.Content.{shortest}
 use Rattle.der.specs.Content.Laws.{shortest_size}
 use Rattle.ecdsa.specs.Signature.{is_size, unsigned, integers, der_of}

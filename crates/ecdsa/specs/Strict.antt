@@ -1,10 +1,7 @@
 -- Reading strict DER: both numbers in n bytes each, or nothing (document 01, 62: not strict DER, with bytes left over,
 -- negative, or too big for n).
 -- Assumes nothing.
-pub mod Laws
-pub mod Exact
 pub mod ToRaw
-pub mod Shortest
 use Rattle.std.specs.Prelude.{ℕ, ◌+◌, ◌-◌, Bool, true, false, List, [], ◌++◌, ltb, eqb, length, get_or, take, drop, replicate}
 use Rattle.format.specs.Choice.{pick, both}
 use Rattle.der.specs.Element.{element_in}

@@ -7,12 +7,12 @@ use Rattle.format.specs.Places.{to_end}
 use Rattle.format.specs.Answers.{Outcome, done, refused}
 use Rattle.format.specs.Order.{test, in_order}
 use Rattle.format.specs.Buffer.{over}
-use Rattle.format.specs.Buffer.Laws.{over_over, length_over}
+use Rattle.format.proofs.Buffer.Laws.{over_over, length_over}
 use Rattle.der.specs.Element.{element_in}
 use Rattle.der.specs.declared.Element.TheVariants as found
 use Rattle.ecdsa.specs.Signature.{is_size}
 use Rattle.ecdsa.specs.Strict.{Raw, raw, none, part, number_in, padded, lastly, pair_in, is_raw, bytes_in}
-use Rattle.ecdsa.specs.Strict.Laws.{Inside, length_part, length_padded, raw_pair}
+use Rattle.ecdsa.proofs.Strict.Laws.{Inside, length_part, length_padded, raw_pair}
 use Rattle.ecdsa.specs.Calls.{to_raw}
 use Rattle.ecdsa.specs.declared.Number.TheVariants.{Digits}
 

@@ -6,18 +6,18 @@ use Rattle.std.proofs.Common.{ap, ap₂, sym, ◌∙◌, arith, ltb-true, ltb-fa
 use Rattle.format.specs.Bytes.{Bytes}
 use Rattle.format.specs.Choice.Laws.{by_test}
 use Rattle.der.specs.Length.{read_length}
-use Rattle.der.specs.Length.Laws.{length_short}
-use Rattle.der.specs.Length.Exact.{form_short}
+use Rattle.der.proofs.Lengths.Laws.{length_short}
+use Rattle.der.proofs.Lengths.Exact.{form_short}
 use Rattle.der.specs.Element.{element_in, body_in}
 use Rattle.der.specs.Element.Laws.{body_is, element_read}
-use Rattle.der.specs.Element.Exact.{element_whole}
+use Rattle.der.proofs.Elements.Exact.{element_whole}
 use Rattle.der.specs.Content.{redundant, strict}
 use Rattle.der.specs.Content.Laws.{strict_none, strict_one, strict_more, zero_redundant, zero_needed, byte_needed}
 use Rattle.der.specs.declared.Length.TheVariants.{Is}
 use Rattle.der.specs.declared.Element.TheVariants.{Body}
 use Rattle.ecdsa.specs.Strict.{part, lead, digits_in, number_in}
-use Rattle.ecdsa.specs.Strict.Laws.{lead_one, lead_not, lead_short, lead_small, length_part, strict_some}
-use Rattle.ecdsa.specs.Strict.Laws.{digits_not_strict, digits_negative, digits_too_big, digits_is, number_at_lem, number_read}
+use Rattle.ecdsa.proofs.Strict.Laws.{lead_one, lead_not, lead_short, lead_small, length_part, strict_some}
+use Rattle.ecdsa.proofs.Strict.Laws.{digits_not_strict, digits_negative, digits_too_big, digits_is, number_at_lem, number_read}
 use Rattle.ecdsa.specs.declared.Number.{Number}
 use Rattle.ecdsa.specs.declared.Number.TheVariants.{Digits, Nothing}
 

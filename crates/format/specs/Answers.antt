@@ -2,7 +2,6 @@
 -- buffer the bytes it writes from
 -- the buffer's start. A refusal writes nothing.
 -- Assumes nothing.
-pub mod Laws
 use Rattle.std.specs.Prelude.{ℕ, List, [], ◌++◌, length, drop}
 
 pub record Outcome : Type 0 where

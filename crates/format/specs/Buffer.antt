@@ -1,6 +1,5 @@
 -- What a lent buffer holds after a write: the bytes from a place on, and every other byte as it was.
 -- Assumes nothing.
-pub mod Laws
 use Rattle.std.specs.Prelude.{ℕ, ◌+◌, List, ◌++◌, length, take, drop}
 
 unfoldable pub over : List ℕ → ℕ → List ℕ → List ℕ

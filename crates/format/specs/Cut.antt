@@ -2,7 +2,6 @@
 -- one way only. With empty tails it says that a byte string has one reading; with one empty tail, that no published
 -- form is the front part of another.
 -- Assumes nothing.
-pub mod Laws
 use Rattle.std.specs.Prelude.{◌≡◌, ℕ, List, [], ◌∷◌, ◌++◌, length}
 
 abbrev pub Cut : {A : Type 0} → (A → Type 0) → (A → List ℕ) → Type 0

@@ -1,6 +1,5 @@
 -- Hexadecimal digits in upper case: the digit of a number below 16, and the number that a character stands for.
 -- Assumes nothing.
-pub mod Laws
 use Rattle.std.specs.Prelude.{ℕ, ◌+◌, ◌-◌, ltb}
 use Rattle.format.specs.Choice.{pick, within}
 

@@ -1,8 +1,6 @@
 -- The longest front part of some bytes with which an accepted seal begins (document 02, Ticket 12). Over the grammar alone: nothing here
 -- knows of a reader.
 -- Assumes nothing.
-pub mod Laws
-pub mod Crew
 use Rattle.std.specs.Prelude.{◌≡◌, List, ◌++◌, ℕ, suc, ◌<◌, ◌≤◌, length, take}
 use Rattle.grammar.specs.Content.{Content}
 use Rattle.grammar.specs.Publish.{publish}

@@ -13,7 +13,7 @@ use lib.Pow.{shl_exact, shl-shr, shr_le, pow-add, pow-lt}
 use lib.ListN.{length, length-set, get_or, set}
 use lib.Seq.{get_or-set_same, get_or-set_other}
 use Rattle.format.specs.Choice.Laws.{by_test}
-use Rattle.grammar.specs.Sizes.{has}
+use Rattle.grammar.proofs.Sizes.{has}
 
 -- the bit at a place of a number
 abbrev bit_at : ℕ → ℕ → ℕ

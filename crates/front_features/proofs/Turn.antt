@@ -11,7 +11,7 @@ use lib.ListN.{length, drop, get_or, length-drop}
 use lib.Seq.{drop-drop}
 use Rattle.format.specs.Places.{past_end}
 use Rattle.grammar.specs.Content.{Version}
-use Rattle.grammar.specs.Sizes.{has}
+use Rattle.grammar.proofs.Sizes.{has}
 use Rattle.front_message.specs.Message.{is, ends, length_front, signature_front, turn, message_front}
 use Rattle.front_features.specs.declared.Counted.TheVariants as counted
 use Rattle.front_features.specs.Meaning.{counted_of}

@@ -5,7 +5,7 @@ use Rattle.std.proofs.Common.{arith}
 use borrow.Author.Tests.{eq-eqb, ne_eqb, lt-ltb, le-ltb}
 use Rattle.format.specs.Choice.{pick}
 use Rattle.format.specs.Places.{past_end}
-use Rattle.grammar.specs.Sizes.{has}
+use Rattle.grammar.proofs.Sizes.{has}
 use Rattle.front_message.specs.Message.{any_front, long_front, signature_front}
 use Rattle.front_features.specs.Places.{byte_here}
 

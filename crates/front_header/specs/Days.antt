@@ -9,12 +9,12 @@ use Rattle.format.specs.BigEndian.Laws.{bytes_be, be_val}
 use Rattle.format.specs.Choice.Laws.{by_test}
 use Rattle.dates.specs.declared.Date.{Date}
 use Rattle.dates.specs.Days.{is_day, Day, first_day, number_of, date_of, publish as date}
-use Rattle.dates.specs.Days.Laws.{number_date, date_number, val_publish, length_publish}
-use Rattle.dates.specs.Exact.{first_day_lem}
+use Rattle.dates.proofs.Days.Laws.{number_date, date_number, val_publish, length_publish}
+use Rattle.dates.proofs.Exact.{first_day_lem}
 use Rattle.front_days.specs.Days.{some_day, one_front, two_front, day_front}
 use Rattle.front_days.specs.Days.Laws.{some_day_lem, day_some}
 use Rattle.front.specs.Front.{Begins, Longest}
-use Rattle.front.specs.Front.Laws.{longest_end, longest_stop}
+use Rattle.front.proofs.Front.Laws.{longest_end, longest_stop}
 use Rattle.front.specs.Items.{Item}
 use Rattle.front_message.specs.Message.Laws.{not_both}
 

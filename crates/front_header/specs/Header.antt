@@ -6,7 +6,6 @@ pub mod Parts
 pub mod Languages
 pub mod Names
 pub mod Seals
-pub mod Laws
 use Rattle.std.specs.Prelude.{Bool, ℕ, zero, suc, ◌+◌, ◌-◌, List, [], ◌∷◌, ltb, eqb, length, get_or, drop}
 use Rattle.std.proofs.Math.Option.{Option, none, some}
 use Rattle.format.specs.Choice.{pick, within}

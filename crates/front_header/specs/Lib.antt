@@ -1,4 +1,3 @@
 pub mod Header
 pub mod Days
 pub mod Pairs
-pub mod Exact

@@ -15,7 +15,7 @@ use Rattle.format.specs.Bytes.{Bytes}
 use Rattle.format.specs.Choice.{pick}
 use Rattle.format.specs.Choice.Laws.{by_test, not_true}
 use Rattle.front.specs.Front.{Begins, Longest}
-use Rattle.front.specs.Front.Laws.{longest_end, longest_stop}
+use Rattle.front.proofs.Front.Laws.{longest_end, longest_stop}
 use Rattle.front_pairs.specs.Pairs.{fits, opens, pair_front}
 use Rattle.front_pairs.specs.Pairs.Laws.Opens.{some_opens}
 use Rattle.front_pairs.specs.Pairs.Laws.Witness.{opens_some, one_fits}

@@ -8,12 +8,11 @@ pub mod Least
 pub mod Signature
 pub mod Lengths
 pub mod Values
-pub mod Exact
 pub mod Pins
 use Rattle.std.specs.Prelude.{ℕ, zero, suc, ◌+◌, ◌-◌, ◌*◌, List, [], ◌∷◌, ltb, eqb, length, drop}
 use Rattle.format.specs.Choice.{pick, either}
 use Rattle.grammar.specs.Content.{Version, three, four}
-use Rattle.grammar.specs.Sizes.{has}
+use Rattle.grammar.proofs.Sizes.{has}
 
 -- n bytes, whatever they are
 abbrev pub any_front : ℕ → List ℕ → ℕ

@@ -10,7 +10,6 @@ pub mod Kept
 pub mod Wrong
 pub mod Forms
 pub mod Upper
-pub mod Theorems
 use Rattle.std.specs.Prelude.{◌≡◌, ℕ, ◌+◌, ◌≤◌, ◌<◌, List, length}
 use Rattle.causes.specs.declared.Rule.{Rule as Name}
 use Rattle.causes.specs.declared.Rule.TheVariants as name
@@ -18,7 +17,7 @@ use Rattle.causes.specs.declared.Why.{Why}
 use Rattle.rules.specs.Rules.{called, size_of}
 use Rattle.rules.specs.Layout.{Item}
 use Rattle.rules.specs.Reason.{Reason, judged}
-use Rattle.reason.specs.Goes.{Told}
+use Rattle.reason.proofs.Goes.{Told}
 use Rattle.reason.specs.Judged.{judged_size}
 
 -- How many bytes a seal has at least from an item on, as far as room for them may be wanting: a header has 186 bytes at

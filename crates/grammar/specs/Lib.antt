@@ -1,12 +1,4 @@
 pub mod Content
 pub mod Publish
 pub mod Legal
-pub mod Parts
-pub mod Zones
-pub mod Theorems
-pub mod Sizes
-pub mod ByteString
 pub mod Examples
-pub mod Pins
-pub mod Illegal
-pub mod Seals

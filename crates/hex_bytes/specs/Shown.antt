@@ -1,6 +1,5 @@
 -- Bytes as people are shown them (document 02, Ticket 11): in hexadecimal, at most sixteen, and then how many more there are.
 -- Assumes nothing.
-pub mod Laws
 use Rattle.std.specs.Prelude.{ℕ, ◌-◌, ◌/◌, ◌%◌, List, [], ◌∷◌, eqb, length, take}
 use Rattle.format.specs.Choice.{pick}
 use Rattle.format.specs.Hex.{hex_digit}

@@ -6,7 +6,7 @@ use Rattle.std.proofs.Math.Seq.{take-length}
 use Rattle.format.specs.Bytes.{Bytes}
 use Rattle.der.specs.Length.{Sized, form}
 use Rattle.der.specs.Element.{element, element_in}
-use Rattle.der.specs.Element.Exact.{start, element_found, element_body, element_whole}
+use Rattle.der.proofs.Elements.Exact.{start, element_found, element_body, element_whole}
 use Rattle.der.specs.declared.Element.TheVariants.{Body}
 
 -- the part of a byte string that a body is

@@ -5,7 +5,7 @@ use Rattle.std.proofs.Common.{arith, pow-suc, lt-ltb, le-ltb, length-append}
 use Rattle.std.proofs.Math.Decide.{dec_le}
 use Rattle.dates.specs.declared.Date.{Date}
 use Rattle.dates.specs.Days.{Day}
-use Rattle.dates.specs.Days.Laws.{day_bounds}
+use Rattle.dates.proofs.Days.Laws.{day_bounds}
 use Rattle.lines.specs.Line.{digits, decimal_of, ascii}
 use Rattle.list_lines.specs.ListLine.{two, four, day}
 

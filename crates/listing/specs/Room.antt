@@ -7,14 +7,14 @@ use Rattle.der.specs.Length.{form}
 use Rattle.grammar.specs.Content.{Version, three, four, Feature, Content}
 use Rattle.grammar.specs.Publish.{length_of, header_zone, message_zone, signature_zone}
 use Rattle.grammar.specs.Legal.{ReferenceSize, LegalFeatures, Legal}
-use Rattle.grammar.specs.Sizes.{features_most}
-use Rattle.grammar.specs.Theorems.{zones_add_up}
+use Rattle.grammar.proofs.Sizes.{features_most}
+use Rattle.grammar.proofs.Theorems.{zones_add_up}
 use Rattle.versions.specs.Versions.{version_number}
 use Rattle.verdict.specs.Judge.{Verdict, accepted, refused, judge}
-use Rattle.verdict.specs.Judge.Complete.{report_of, size_small}
-use Rattle.verdict.specs.Judge.Features.{rows_of, feature_parts}
+use Rattle.verdict.proofs.Judge.Complete.{report_of, size_small}
+use Rattle.verdict.proofs.Judge.Features.{rows_of, feature_parts}
 use Rattle.verdict.specs.Judge.Listed.{FromList, from_list}
-use Rattle.verdict.specs.Judge.Seals.{accepted_only}
+use Rattle.verdict.proofs.Judge.Seals.{accepted_only}
 use Rattle.lines.specs.Line.{decimal_of, ◌then◌}
 use Rattle.list_lines.specs.ListLine.{line, day}
 use Rattle.list_lines.specs.LineSize.{decimal_size, day_size}

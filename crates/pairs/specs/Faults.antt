@@ -1,7 +1,6 @@
 -- Which pairs are well coded (document 01, C40), and the three faults of the others (document 02, Ticket 1), each in the document's words
 -- and apart from `pair_of`, which tells them. Faults/Exact.antt shows that every pair is well coded or has one fault, and no two.
 -- Assumes nothing.
-pub mod Exact
 use Rattle.std.specs.Prelude.{◌≡◌, ◌⊎◌, Bool, false, ℕ, ◌+◌, ◌<◌, ◌≤◌, [], ◌∷◌, length}
 use Rattle.format.specs.Bytes.{All}
 use Rattle.pairs.specs.Chart.{InChart}

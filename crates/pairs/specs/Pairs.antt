@@ -1,7 +1,5 @@
 -- What a pair of bytes carries (document 01, C40; Doc 9303-13, 2.6.2): which pairs are well coded, their characters, and their form.
 -- Assumes nothing.
-pub mod Laws
-pub mod Exact
 use Rattle.std.specs.Prelude.{Bool, ℕ, ◌+◌, ◌-◌, ◌*◌, ◌/◌, ◌%◌, List, [], ◌∷◌, ltb, eqb}
 use Rattle.format.specs.Choice.{pick}
 use Rattle.format.specs.BigEndian.{be}

@@ -17,7 +17,7 @@ use Rattle.format.specs.Choice.Laws.{by_test}
 use Rattle.format.specs.Choice.{either}
 use Rattle.format.specs.Bytes.{Bytes}
 use Rattle.grammar.specs.Content.{Version}
-use Rattle.grammar.specs.Sizes.{has, free, free_less}
+use Rattle.grammar.proofs.Sizes.{has, free, free_less}
 use Rattle.causes.specs.declared.Item.TheVariants as item
 use Rattle.causes.specs.declared.Rule.{Rule}
 use Rattle.causes.specs.declared.Rule.TheVariants as rule

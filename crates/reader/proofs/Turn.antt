@@ -6,18 +6,18 @@ use Prim.Native.Nat.{ℕ, zero, suc, ◌+◌, ◌*◌, ◌≤◌, ◌<◌}
 use native.Mathlib.Omega.{arith}
 use mathlib.Core.List.{List, [], ◌∷◌, ◌++◌, append_assoc, append-nil}
 use lib.ListN.{length}
-use Rattle.format.specs.Buffer.Laws.{Held, held_start, held_more, held_length, over_start}
+use Rattle.format.proofs.Buffer.Laws.{Held, held_start, held_more, held_length, over_start}
 use Rattle.grammar.specs.Content.{Version}
 use Rattle.causes.specs.declared.Item.TheVariants as item
 use Rattle.causes.specs.declared.Rule.{Rule}
 use Rattle.causes.specs.declared.Rule.TheVariants as rule
 use Rattle.verdict.specs.Items.{Way, is, not, next, pass, whole, byte, plain_in, feature_length}
-use Rattle.verdict.specs.Items.Laws.{unread, whole_read}
-use Rattle.verdict.specs.Items.Sound.{steps, steps_on, same_value, same_place}
+use Rattle.verdict.proofs.Items.Laws.{unread, whole_read}
+use Rattle.verdict.proofs.Items.Sound.{steps, steps_on, same_value, same_place}
 use Rattle.read_items.specs.Meaning.{through}
 use Rattle.rows.specs.declared.Row.{Row}
 use Rattle.rows.specs.Rows.{width, numbers, row_of, row_put, table}
-use Rattle.rows.specs.Rows.Laws.{length_numbers, table_end, put_row}
+use Rattle.rows.proofs.Rows.Laws.{length_numbers, table_end, put_row}
 use Rattle.verdict.specs.Judge.{value_in, row}
 use Rattle.reading.specs.Calls.{then}
 use Rattle.reading.specs.FeatureRows.{rows_at, rows_read, AreRead}

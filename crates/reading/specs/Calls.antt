@@ -2,7 +2,6 @@
 -- table and text hold afterwards.
 -- Assumes nothing.
 pub mod Reads
-pub mod Rooms
 use Rattle.std.specs.Prelude.{◌≡◌, ℕ, ◌+◌, ◌*◌, List, [], ◌∷◌, ◌++◌, ltb, length, take}
 use Rattle.format.specs.Choice.{pick}
 use Rattle.format.specs.Answers.{done, filled}

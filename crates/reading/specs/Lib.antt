@@ -3,4 +3,3 @@ pub mod Calls
 pub mod Answer
 pub mod Pins
 pub mod Witnesses
-pub mod Theorems

@@ -1,7 +1,6 @@
 -- A row and its numbers in a table (document 02, Ticket 10): how many numbers a row has, and which stands where, is said here and
 -- nowhere else.
 -- Assumes nothing.
-pub mod Laws
 use Rattle.std.specs.Prelude.{◌≡◌, Bool, ℕ, zero, suc, ◌+◌, ◌/◌, ◌%◌, List, [], ◌∷◌, ◌++◌, eqb, ltb, length, get_or, drop}
 use Rattle.format.specs.Choice.{pick}
 use Rattle.format.specs.Buffer.{over}

@@ -1,7 +1,6 @@
 -- Why a byte string is no seal: the first item that breaks a rule, and the first rule that it breaks.
 -- Assumes nothing.
 pub mod One
-pub mod Inside
 use Rattle.std.specs.Prelude.{◌≡◌, ℕ, List, ◌∷◌, ◌++◌, length, take, drop}
 use Rattle.format.specs.Bytes.{All}
 use Rattle.rules.specs.Rules.{Rule, Keeps, Placed, number_of, size_of}

@@ -4,7 +4,7 @@
 use Rattle.std.specs.Prelude.{◌≡◌, ◌⊎◌, ℕ, ◌+◌, ◌-◌, ◌≤◌, ◌<◌, List, [], ◌∷◌, map, length, take, drop, get_or}
 use Rattle.format.specs.Bytes.{All}
 use Rattle.c40.specs.Text.{TextOf, width, publish as c40}
-use Rattle.c40.specs.Wrong.{FirstWrong}
+use Rattle.c40.proofs.Wrong.{FirstWrong}
 use Rattle.dates.specs.declared.Date.{Date}
 use Rattle.dates.specs.Days.{Day, publish as date}
 use Rattle.der.specs.Length.{Sized, form}

@@ -21,16 +21,16 @@ use Rattle.format.specs.Bytes.Laws.{bytes_take}
 use Rattle.grammar.specs.Content.{Content}
 use Rattle.grammar.specs.Publish.{signature_zone, signed_bytes, publish}
 use Rattle.grammar.specs.Legal.{Legal}
-use Rattle.grammar.specs.Theorems as grammar
+use Rattle.grammar.proofs.Theorems as grammar
 use Rattle.rows.specs.Rows.{width}
 use Rattle.verdict.specs.Judge.{accepted, refused, judge}
 use Rattle.verdict.specs.Judge.Listed.{from_list}
-use Rattle.verdict.specs.Judge.Complete.{published_accepted as legal_accepted}
-use Rattle.verdict.specs.Judge.Seals.{accepted_only}
+use Rattle.verdict.proofs.Judge.Complete.{published_accepted as legal_accepted}
+use Rattle.verdict.proofs.Judge.Seals.{accepted_only}
 use Rattle.reading.specs.Calls.{answer_of, reading, rows_in, text_in, then}
-use Rattle.reading.specs.Calls.Rooms.{given_accepted}
+use Rattle.reading.proofs.Calls.Rooms.{given_accepted}
 use Rattle.reading.specs.Answer.{content_in}
-use Rattle.reading.specs.Theorems as reader
+use Rattle.reading.proofs.Theorems as reader
 use Rattle.reading.specs.declared.Reading.{Reading}
 use Rattle.write_given.specs.Given.{Given, features_of, content_of}
 use Rattle.write_judge.specs.Calls.{writing}

@@ -9,8 +9,8 @@ use Rattle.format.specs.Choice.{either}
 use Rattle.grammar.specs.Legal.{SignatureSize}
 use Rattle.ecdsa.specs.Signature.{is_size}
 use Rattle.fields.specs.Signature.{is_signature}
-use Rattle.verdict.specs.Judge.Complete.{size_passes}
-use Rattle.verdict.specs.Judge.Sound.{size_of}
+use Rattle.verdict.proofs.Judge.Complete.{size_passes}
+use Rattle.verdict.proofs.Judge.Sound.{size_of}
 
 doubled : (n k : ℕ) → eqb n k ≡ eqb (2 * n) (2 * k)
 doubled n k =

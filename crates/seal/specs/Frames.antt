@@ -14,15 +14,15 @@ use Rattle.grammar.specs.Content.{Content}
 use Rattle.fields.specs.declared.Header.{Header}
 use Rattle.rows.specs.declared.Row.{Row}
 use Rattle.rows.specs.Rows.{table, rows_of}
-use Rattle.rows.specs.Rows.Laws.{rows_taken}
-use Rattle.rows.specs.Told.{ButSecond}
+use Rattle.rows.proofs.Rows.Laws.{rows_taken}
+use Rattle.rows.proofs.Told.{ButSecond}
 use Rattle.verdict.specs.Judge.{Report, accepted, judge}
-use Rattle.verdict.specs.Judge.Seals.{accepted_only}
+use Rattle.verdict.proofs.Judge.Seals.{accepted_only}
 use Rattle.verdict.specs.Report.{feature_of, content_of}
 use Rattle.verdict.specs.Frames.{Framed, Chain}
-use Rattle.verdict.specs.Frames.Laws.{frames}
+use Rattle.verdict.proofs.Frames.Laws.{frames}
 use Rattle.reading.specs.Calls.{answer_of, rows_in, then}
-use Rattle.reading.specs.Calls.Rooms.{given_accepted}
+use Rattle.reading.proofs.Calls.Rooms.{given_accepted}
 use Rattle.reading.specs.declared.Reading.{Reading}
 use Rattle.write_given.specs.Given.{given}
 use Rattle.write_judge.specs.Calls.{writing}

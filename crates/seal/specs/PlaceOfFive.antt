@@ -17,8 +17,8 @@ use Rattle.fields.specs.Characters.{shown}
 use Rattle.grammar.specs.Content.{Version, three, four, Header}
 use Rattle.verdict.specs.Items.{Item, Way, is, not, why, next, pass, whole, Exact, exact, wrong_at, exactly, judged_by, field_in, field}
 use Rattle.verdict.specs.Items.{in_country, in_nine, in_six, in_reference, length_in, Names, named, mark, version, country, names, date, last}
-use Rattle.verdict.specs.Items.Sound.{length_taken}
-use Rattle.verdict.specs.Items.Wrong.{pair_even}
+use Rattle.verdict.proofs.Items.Sound.{length_taken}
+use Rattle.verdict.proofs.Items.Wrong.{pair_even}
 use Rattle.verdict.specs.Judge.{Report, Verdict, accepted, refused, header, after_header, reading, judging, verdict, judge}
 
 -- as it was: a wrongly coded pair is told at the item's first byte

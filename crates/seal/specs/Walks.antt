@@ -14,10 +14,10 @@ use Rattle.std.specs.Borrow.{Bor}
 use Rattle.format.specs.Bytes.{Bytes}
 use Rattle.grammar.specs.Content.{Content}
 use Rattle.rows.specs.Rows.{table}
-use Rattle.rows.specs.Rows.Laws.{rows_taken}
+use Rattle.rows.proofs.Rows.Laws.{rows_taken}
 use Rattle.verdict.specs.Judge.{Report, accepted, judge}
 use Rattle.reading.specs.Calls.{answer_of, rows_in, then}
-use Rattle.reading.specs.Calls.Rooms.{given_accepted}
+use Rattle.reading.proofs.Calls.Rooms.{given_accepted}
 use Rattle.walk_steps.specs.Steps.{no_more}
 use Rattle.walk.specs.Walks.{opened_of, asked}
 use Rattle.walk.specs.Theorems.{found_row, same_rows}

@@ -11,13 +11,13 @@ use Rattle.grammar.specs.Content.{Version, Feature, Content}
 use Rattle.grammar.specs.Legal.{LegalFeatures, Legal}
 use Rattle.grammar.specs.Publish.{publish}
 use Rattle.verdict.specs.Judge.{Row, Report, Verdict, accepted, refused, judge}
-use Rattle.verdict.specs.Judge.Complete.{report_of, published_accepted}
+use Rattle.verdict.proofs.Judge.Complete.{report_of, published_accepted}
 use Rattle.verdict.specs.Judge.Listed.{FromList, from_list}
 use Rattle.verdict.specs.Frames.{end_of}
 use Rattle.verdict.specs.Report.{feature_of}
-use Rattle.verdict.specs.Report.Laws.{features_reported}
+use Rattle.verdict.proofs.Report.Laws.{features_reported}
 use Rattle.reading.specs.declared.Part.{Part}
-use Rattle.walk_steps.specs.Rows.Laws.{rows_found, rows_inside}
+use Rattle.walk_steps.proofs.Rows.Laws.{rows_found, rows_inside}
 use Rattle.shown.specs.declared.Where.{Where}
 use Rattle.shown.specs.declared.Where.TheVariants.{Extension, Main, NotMain, NotExtension, Neither}
 use Rattle.shown.specs.Where.{value_in, first_of, look_up, where_is, empty, answer_of, IsShown}

@@ -1,7 +1,6 @@
 -- The frame of a feature (document 02, Ticket 10: "The camera overlay must frame a whole feature"): the seal's bytes from the tag's
 -- place that its row gives to the end of its value: its tag, its length and its value, and nothing else.
 -- Assumes nothing.
-pub mod Laws
 use Rattle.std.specs.Prelude.{◌≡◌, ℕ, ◌+◌, List, [], ◌∷◌, length}
 use Rattle.format.specs.Bytes.{All}
 use Rattle.grammar.specs.Content.{Version}

@@ -1,11 +1,6 @@
 -- The items of a seal, each read at a place (document 01, "Reader"): the item and the place after it, or the rule that it breaks and the
 -- place that is told.
 -- Assumes nothing.
-pub mod Laws
-pub mod Fields
-pub mod Sound
-pub mod FieldsSound
-pub mod Wrong
 pub mod Pins
 use Rattle.std.specs.Prelude.{Bool, ℕ, ◌+◌, ◌-◌, ◌*◌, List, map, ltb, eqb, length, take, drop, get_or}
 use Rattle.std.proofs.Math.Option.{Option, none, some}

@@ -1,11 +1,6 @@
 -- The verdict on every byte string (document 01, "The numbers a call answers", Reader): 1 first, then item by item from the left.
 -- Assumes nothing.
-pub mod Complete
 pub mod Listed
-pub mod Features
-pub mod HeaderSound
-pub mod Sound
-pub mod Seals
 pub mod Pins
 pub mod Causes
 use Rattle.std.specs.Prelude.{Bool, false, ℕ, zero, suc, ◌+◌, List, [], ◌∷◌, ◌++◌, ltb, eqb, length}

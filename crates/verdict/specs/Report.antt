@@ -1,6 +1,5 @@
 -- What is reported, turned back into a content: each value and the signature are the seal's bytes at their places.
 -- Assumes nothing.
-pub mod Laws
 use Rattle.std.specs.Prelude.{ℕ, List, map, take, drop}
 use Rattle.grammar.specs.Content.{Feature, Content}
 use Rattle.verdict.specs.Judge.{Row, Report}

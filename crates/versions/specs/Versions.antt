@@ -1,6 +1,5 @@
 -- The versions of a seal, their numbers and their bytes (document 01, Layout; Doc 9303-13, 2.2, Table 1): 02 is version 3, 03 is version 4.
 -- Assumes nothing.
-pub mod Laws
 use Rattle.std.specs.Prelude.{ℕ, eqb}
 use Rattle.std.proofs.Math.Option.{Option, none, some}
 use Rattle.format.specs.Choice.{pick}

@@ -14,7 +14,7 @@ use Rattle.reading.specs.Calls.{answer_of}
 use Rattle.walk_steps.specs.declared.Step.{Step}
 use Rattle.walk_steps.specs.Steps.{start_of, no_more, found, unless, feature_at, step_at}
 use Rattle.walk_steps.specs.Rows.{Finds}
-use Rattle.walk_steps.specs.Rows.Laws.{rows_found}
+use Rattle.walk_steps.proofs.Rows.Laws.{rows_found}
 use Rattle.walk.specs.declared.Walk.{Walk}
 use Rattle.walk.specs.Walks.{walk_at, opened_of, next_of, asked}
 

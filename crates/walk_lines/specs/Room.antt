@@ -6,14 +6,14 @@ use Rattle.format.specs.Bytes.{Bytes, All}
 use Rattle.grammar.specs.Content.{Version, Feature, Content}
 use Rattle.grammar.specs.Publish.{length_of, header_zone, message_zone}
 use Rattle.grammar.specs.Legal.{LegalFeatures, Legal}
-use Rattle.grammar.specs.Sizes.{features_most}
-use Rattle.grammar.specs.Theorems.{zones_add_up}
+use Rattle.grammar.proofs.Sizes.{features_most}
+use Rattle.grammar.proofs.Theorems.{zones_add_up}
 use Rattle.rows.specs.declared.Row.{Row}
 use Rattle.verdict.specs.Judge.{Verdict, accepted, refused, judge}
-use Rattle.verdict.specs.Judge.Complete.{report_of}
-use Rattle.verdict.specs.Judge.Features.{rows_of, feature_parts}
+use Rattle.verdict.proofs.Judge.Complete.{report_of}
+use Rattle.verdict.proofs.Judge.Features.{rows_of, feature_parts}
 use Rattle.verdict.specs.Judge.Listed.{FromList, from_list}
-use Rattle.verdict.specs.Judge.Seals.{accepted_only}
+use Rattle.verdict.proofs.Judge.Seals.{accepted_only}
 use Rattle.reading.specs.Calls.Reads.{length_rows_of}
 use Rattle.list_lines.specs.LineSize.{decimal_size}
 use Rattle.walk_steps.specs.Steps.{start_of}

@@ -1,6 +1,5 @@
 -- "It gives exactly the rows of the full reading, in order" (document 02, Ticket 2).
 -- Assumes nothing.
-pub mod Laws
 use Rattle.std.specs.Prelude.{◌≡◌, ℕ, List, [], ◌∷◌}
 use Rattle.rows.specs.declared.Row.{Row}
 use Rattle.verdict.specs.Frames.{end_of}

@@ -1,6 +1,5 @@
 -- The walk over the features of a seal (document 02, Ticket 2): where it starts, and what a step finds at a place.
 -- Assumes nothing.
-pub mod Laws
 use Rattle.std.specs.Prelude.{ℕ, List, eqb}
 use Rattle.format.specs.Choice.{pick}
 use Rattle.grammar.specs.Content.{Version}

@@ -1,3 +1,2 @@
 pub mod Told
-pub mod Theorems
 pub mod Pins

@@ -2,4 +2,3 @@
 -- Assumes nothing.
 pub mod Lines
 pub mod Pins
-pub mod Room

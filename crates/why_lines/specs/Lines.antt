@@ -1,7 +1,6 @@
 -- The text that tells why a seal is refused (document 02, Ticket 11): "the number, the name of the item, its place, the bytes judged and
 -- the broken rule in words. For an accepted seal it says so." And how far it is good (Ticket 12).
 -- Assumes nothing.
-pub mod Laws
 use Rattle.std.specs.Prelude.{◌≡◌, ℕ, List, [], eqb, ltb, length, take, drop}
 use Rattle.format.specs.Bytes.{Bytes}
 use Rattle.format.specs.Choice.{pick}

@@ -13,7 +13,7 @@ use Rattle.lines.specs.Line.{decimal_of, digits, ascii, ◌then◌}
 use Rattle.pages.specs.Rows.{sought}
 use Rattle.why.specs.Told.{told}
 use Rattle.hex_bytes.specs.Shown.{hex_bytes}
-use Rattle.grammar.specs.Sizes.{has}
+use Rattle.grammar.proofs.Sizes.{has}
 use Rattle.front_pairs.specs.Pairs.{pair_front, fits, opens}
 use Rattle.front_days.specs.Days.{day_front, some_day}
 use Rattle.front_message.specs.Message.{message_front, turn, length_front, signature_front}

@@ -13,7 +13,7 @@ use Rattle.versions.specs.Versions.{version_of}
 use Rattle.grammar.specs.Content.{three, four}
 use Rattle.rows.specs.declared.Row.{Row}
 use Rattle.rows.specs.Rows.{width, rows_of}
-use Rattle.rows.specs.Told.{told_of, ButSecond, same_told}
+use Rattle.rows.proofs.Told.{told_of, ButSecond, same_told}
 use Rattle.verdict.specs.Judge.{used}
 use Rattle.verdict.specs.Report.{feature_of}
 use Rattle.write_given.specs.Given.{given, content_as}

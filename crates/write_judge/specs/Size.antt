@@ -9,7 +9,7 @@ use Rattle.format.specs.Hex.{hex_digit}
 use Rattle.c40.specs.Text.{publish as c40}
 use Rattle.c40.specs.Text.Laws.{length_publish}
 use Rattle.dates.specs.Days.{publish as date}
-use Rattle.dates.specs.Days.Laws.{length_publish as length_date}
+use Rattle.dates.proofs.Days.Laws.{length_publish as length_date}
 use Rattle.der.specs.Length.{form}
 use Rattle.grammar.specs.Content.{Version, three, four}
 use Rattle.grammar.specs.Publish.{carried, names, length_of, feature, header_zone, message_zone, signature_zone, signed_bytes, publish}

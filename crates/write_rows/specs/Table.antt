@@ -9,7 +9,7 @@ use Rattle.format.specs.Choice.{both, either}
 use Rattle.grammar.specs.Content.{Version, three, four}
 use Rattle.rows.specs.declared.Row.{Row}
 use Rattle.rows.specs.Rows.{width, row_at, rows_of, Whole, is_whole}
-use Rattle.rows.specs.Rows.Laws.{rows_here, rows_end, whole_is}
+use Rattle.rows.proofs.Rows.Laws.{rows_here, rows_end, whole_is}
 use Rattle.verdict.specs.Judge.{used}
 use Rattle.write_rows.specs.Tests.{is_row, are_rows, is_table, are_short, are_values}
 

@@ -17,15 +17,15 @@ use Rattle.grammar.specs.Publish.{publish}
 use Rattle.grammar.specs.Legal.{Legal}
 use Rattle.format.specs.Choice.Laws.{both_true, both_are, within_true, within_both}
 use Rattle.rows.specs.Rows.{rows_of, Whole, is_whole}
-use Rattle.rows.specs.Rows.Laws.{whole_true, whole_is}
+use Rattle.rows.proofs.Rows.Laws.{whole_true, whole_is}
 use Rattle.write_rows.specs.Tests.{are_rows}
 use Rattle.write_given.specs.Given.{Given, content_as, content_of}
 use Rattle.write_given.specs.Given.Laws.{says, said}
 use Rattle.write_judge.specs.Calls.{writing}
 use Rattle.writer.specs.Legal.Order.{done_passes, passes_done}
 use Rattle.writer.specs.Legal.Names.{names_legal, names_pass}
-use Rattle.verdict.specs.Judge.Complete.{size_passes}
-use Rattle.verdict.specs.Judge.Sound.{size_of}
+use Rattle.verdict.proofs.Judge.Complete.{size_passes}
+use Rattle.verdict.proofs.Judge.Sound.{size_of}
 use Rattle.writer.specs.Legal.Features.{Inside, rows_legal, legal_rows}
 
 -- what the types of a call give

@@ -5,7 +5,7 @@ use Rattle.std.proofs.Common.{ap, sym, subst, ◌∙◌, arith, append_assoc, ap
 use Rattle.format.specs.Bytes.{All}
 use Rattle.format.specs.BigEndian.{be}
 use Rattle.format.specs.Buffer.{over}
-use Rattle.format.specs.Buffer.Laws.{over_none, length_over, over_over, set_over, over_two, over_three}
+use Rattle.format.proofs.Buffer.Laws.{over_none, length_over, over_over, set_over, over_two, over_three}
 use Rattle.dates.specs.Days.{number_of, publish as date}
 use Rattle.dates.specs.declared.Date.{Date}
 use Rattle.grammar.specs.Content.{Version}
@@ -14,7 +14,7 @@ use Rattle.grammar.specs.Publish.{length_of, feature, message_zone}
 use Rattle.verdict.specs.Report.{feature_of}
 use Rattle.rows.specs.declared.Row.{Row}
 use Rattle.rows.specs.Rows.{width, row_at, rows_of}
-use Rattle.rows.specs.Rows.Laws.{rows_here, rows_end}
+use Rattle.rows.proofs.Rows.Laws.{rows_here, rows_end}
 use Rattle.write_judge.specs.Needs.{Room, Measured, Fits, Fitting}
 use Rattle.write_judge.specs.Size.{zone_none, zone_cons}
 

@@ -6,7 +6,7 @@ use Rattle.format.specs.Bytes.{All}
 use Rattle.format.specs.Bytes.Laws.{all_append, all_at, all_of}
 use Rattle.format.specs.Choice.Laws.{by_test}
 use Rattle.format.specs.Hex.{hex_digit}
-use Rattle.format.specs.Hex.Laws.{digit_figure, digit_letter}
+use Rattle.format.proofs.Hex.Laws.{digit_figure, digit_letter}
 use Rattle.format.specs.BigEndian.Laws.{length_be}
 use Rattle.format.specs.Buffer.{over}
 use Rattle.format.specs.Places.{at_place, first_four}
@@ -16,10 +16,10 @@ use Rattle.pairs.specs.Pairs.{packed_of, triple}
 use Rattle.pairs.specs.declared.decode.Pair.TheVariants.{Three}
 use Rattle.c40.specs.Text.{publish as c40}
 use Rattle.c40.specs.Text.Laws.{length_publish, publish_three, publish_pair}
-use Rattle.c40.specs.Exact.{three_ahead}
+use Rattle.c40.proofs.Exact.{three_ahead}
 use Rattle.grammar.specs.Content.{Version, three, four}
 use Rattle.grammar.specs.Legal.{LetterOrDigit, ReferenceCharacter, Signer}
-use Rattle.grammar.specs.Parts.{reference_letter_or_digit, reference_text}
+use Rattle.grammar.proofs.Parts.{reference_letter_or_digit, reference_text}
 use Rattle.grammar.specs.Publish.{carried, names}
 use Rattle.octets.specs.Copy.{copied, reached}
 use Rattle.write_given.specs.Tests.Laws.{size_any, size_three, size_four}

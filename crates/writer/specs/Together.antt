@@ -5,11 +5,11 @@ use Rattle.std.proofs.Common.{ap, sym, subst, ◌∙◌, arith, zero-add, length
 use Rattle.format.specs.Bytes.{All}
 use Rattle.format.specs.Choice.{both}
 use Rattle.format.specs.Buffer.{over}
-use Rattle.format.specs.Buffer.Laws.{length_over, over_over, over_two, Held, held_more}
+use Rattle.format.proofs.Buffer.Laws.{length_over, over_over, over_two, Held, held_more}
 use Rattle.c40.specs.Text.{publish as c40}
 use Rattle.c40.specs.Text.Laws.{length_publish}
 use Rattle.dates.specs.Days.{is_day, publish as date}
-use Rattle.dates.specs.Days.Laws.{length_publish as length_date}
+use Rattle.dates.proofs.Days.Laws.{length_publish as length_date}
 use Rattle.grammar.specs.Content.{Version, four}
 use Rattle.versions.specs.Versions.{version_byte}
 use Rattle.grammar.specs.Publish.{carried, names, feature, message_zone, publish}
@@ -18,8 +18,8 @@ use Rattle.verdict.specs.Report.{feature_of}
 use Rattle.rows.specs.declared.Row.{Row}
 use Rattle.rows.specs.Rows.{rows_of}
 use Rattle.fields.specs.Signature.{is_signature}
-use Rattle.verdict.specs.Judge.Complete.{size_small}
-use Rattle.verdict.specs.Judge.Sound.{size_of}
+use Rattle.verdict.proofs.Judge.Complete.{size_small}
+use Rattle.verdict.proofs.Judge.Sound.{size_of}
 use Rattle.fields.specs.declared.Header.{Header}
 use Rattle.write_rows.specs.Tests.Laws.{sized_head}
 use Rattle.write_rows.specs.Tests.{are_sized}

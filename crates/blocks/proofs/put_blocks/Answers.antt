@@ -6,7 +6,7 @@ use Prim.Native.Nat.{◌+◌, ◌-◌}
 use lib.ListN.{length, take, drop, set, get_or}
 use lib.Seq.{length-take-le, take_all}
 use Rattle.format.specs.Buffer.{over}
-use Rattle.format.specs.Buffer.Laws.{over_none, length_over}
+use Rattle.format.proofs.Buffer.Laws.{over_none, length_over}
 use Rattle.octets.specs.Copy.Laws.{one_more}
 use Rattle.blocks.specs.Blocks.{over_again, block}
 use Rattle.blocks.proofs.put_blocks.Goals as goal

@@ -7,10 +7,10 @@ use Prim.Native.Nat.{ℕ, ◌%◌}
 use mathlib.Core.List.{List}
 use lib.Bits.{and_mask}
 use lib.ListN.{length}
-use Rattle.format.specs.Answers.Laws.{refuses, gives}
+use Rattle.format.proofs.Answers.Laws.{refuses, gives}
 use Rattle.c40.specs.Decode.{decode, wrong, text, text_of}
-use Rattle.c40.specs.Decode.Laws.{judged_wrong, judged_text}
-use Rattle.c40.specs.Calls.Laws.{reading_long, reading_odd, reading_wrong, reading_no_room, reading_done}
+use Rattle.c40.proofs.Decode.Laws.{judged_wrong, judged_text}
+use Rattle.c40.proofs.Calls.Laws.{reading_long, reading_odd, reading_wrong, reading_no_room, reading_done}
 use Rattle.c40_read.proofs.read.Goals as goal
 use Rattle.c40_read.proofs.read.Goals.{Else-n-eq1, In-Text, In-Wrong}
 

@@ -6,12 +6,12 @@ use Rattle.std.proofs.lemmas.Bool.{eqb-false}
 use Rattle.format.specs.Choice.Laws.{by_test}
 use Rattle.pairs.specs.Chart.{the_chart}
 use Rattle.pairs.specs.Pairs.{pair_of, chars_of}
-use Rattle.pairs.specs.Pairs.Laws.{pair_full, chars_some}
+use Rattle.pairs.proofs.Pairs.Laws.{pair_full, chars_some}
 use Rattle.pairs.specs.declared.decode.Fault.{Fault}
 use Rattle.pairs.specs.declared.decode.Pair.{Pair}
 use Rattle.pairs.specs.declared.decode.Pair.TheVariants.{Wrong}
 use Rattle.c40.specs.Decode.{decode, text, wrong}
-use Rattle.c40.specs.Decode.Laws.{Sofar, sofar_start, sofar_more, sofar_wrong, sofar_end}
+use Rattle.c40.proofs.Decode.Laws.{Sofar, sofar_start, sofar_more, sofar_wrong, sofar_end}
 use Rattle.c40_read.specs.Full.{inner, before, FullTo, Stopped}
 
 pub full_start : (s : List ℕ) → FullTo s 0

@@ -7,7 +7,7 @@ use mathlib.Core.Logic.{⊎_elim}
 use Prim.Native.Nat.{ℕ, ◌+◌, ◌-◌, ◌%◌, ◌≤◌}
 use mathlib.Core.List.{List}
 use lib.ListN.{length}
-use Rattle.pairs.specs.Pairs.Laws.{apart}
+use Rattle.pairs.proofs.Pairs.Laws.{apart}
 use Rattle.c40_read_long.specs.Laid.{Come}
 use Rattle.c40_read_long.specs.Laid.Laws.{come_start, come_same, come_more, bit_set, bit_clear}
 use Rattle.c40_read_long.proofs.put_front.Goals as goal

@@ -3,7 +3,7 @@
 use borrow.Author.Rules.{rules}
 use native.Mathlib.Omega.{arith}
 use mathlib.Core.Path.{refl}
-use Rattle.pairs.specs.Pairs.Laws.{apart}
+use Rattle.pairs.proofs.Pairs.Laws.{apart}
 use Rattle.c40_read_long.specs.Laid.Laws.{tail_fits, full_put}
 use Rattle.c40_read_long.proofs.put_full.Goals as goal
 

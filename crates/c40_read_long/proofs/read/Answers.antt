@@ -7,9 +7,9 @@ use mathlib.Core.List.{List}
 use Prim.Native.Nat.{ℕ, ◌%◌}
 use lib.Bits.{and_mask}
 use lib.ListN.{length, length-replicate}
-use Rattle.format.specs.Answers.Laws.{refuses, gives}
+use Rattle.format.proofs.Answers.Laws.{refuses, gives}
 use Rattle.octets.specs.Copy.Laws.{copied_all}
-use Rattle.c40.specs.Calls.Laws.{reading_long, reading_odd, reading_no_room, reading_done}
+use Rattle.c40.proofs.Calls.Laws.{reading_long, reading_odd, reading_no_room, reading_done}
 use Rattle.c40_read_long.specs.Laid.{Told, Decodes}
 use Rattle.c40_read_long.specs.Laid.Laws.{decodes_many}
 use Rattle.c40_read_long.proofs.read.Goals as goal

@@ -9,17 +9,17 @@ use Rattle.std.proofs.lemmas.List.{length-replicate, get_or-replicate}
 use Rattle.format.specs.Answers.{Outcome, done, told, filled}
 use Rattle.format.specs.Choice.Laws.{by_test}
 use Rattle.format.specs.Buffer.{over}
-use Rattle.format.specs.Buffer.Laws.{over_three, length_over}
+use Rattle.format.proofs.Buffer.Laws.{over_three, length_over}
 use Rattle.pairs.specs.Chart.{the_chart, char}
 use Rattle.pairs.specs.Chart.Laws.{char_in_lem, char_below}
 use Rattle.pairs.specs.Pairs.{number, first, second, third, pair_of, chars_of}
-use Rattle.pairs.specs.Pairs.Laws.{pair_values, values_three, by_pair}
+use Rattle.pairs.proofs.Pairs.Laws.{pair_values, values_three, by_pair}
 use Rattle.pairs.specs.declared.decode.Pair.{Pair}
 use Rattle.pairs.specs.declared.decode.Pair.TheVariants.{Three}
 use Rattle.c40.specs.Calls.{reading, reading_of}
-use Rattle.c40.specs.Calls.Laws.{fault_some, reading_wrong, reading_no_room, reading_done}
+use Rattle.c40.proofs.Calls.Laws.{fault_some, reading_wrong, reading_no_room, reading_done}
 use Rattle.c40.specs.Decode.{Decoded, decode, text, wrong, ahead, follow, none}
-use Rattle.c40.specs.Decode.Laws.{sofar_start, sofar_more, follow_good, ahead_text, wrong_text}
+use Rattle.c40.proofs.Decode.Laws.{sofar_start, sofar_more, follow_good, ahead_text, wrong_text}
 use Rattle.c40.specs.declared.Reading.TheVariants.{Done}
 use Rattle.c40_read_long.specs.Laid.{Sound, HeadAt, TailAt, Heads, Tails, Full, Come, Decodes}
 

@@ -8,10 +8,10 @@ use Prim.Native.Nat.{ℕ, ◌*◌, ◌<◌, ◌≤◌}
 use mathlib.Core.List.{List}
 use lib.ListN.{length}
 use Rattle.format.specs.Answers.{refused}
-use Rattle.format.specs.Answers.Laws.{refuses, gives}
+use Rattle.format.proofs.Answers.Laws.{refuses, gives}
 use Rattle.c40.specs.Text.Laws.{length_publish}
 use Rattle.c40.specs.Calls.{known}
-use Rattle.c40.specs.Calls.Laws.{known_text, writing_long, writing_stranger, writing_no_room, writing_done}
+use Rattle.c40.proofs.Calls.Laws.{known_text, writing_long, writing_stranger, writing_no_room, writing_done}
 use Rattle.c40_write.proofs.write.Goals as goal
 use Rattle.c40_write.proofs.write.Goals.{Else-not-all_known, Then-not-all_known}
 

@@ -14,7 +14,7 @@ use Rattle.pairs.specs.Chart.{char, value_of, in_chart, InChart}
 use Rattle.pairs.specs.Chart.Laws.{value_range, value_char, char_below}
 use Rattle.c40.specs.Text.{Text}
 use Rattle.c40.specs.Calls.{known}
-use Rattle.c40.specs.Calls.Laws.{known_more, known_here, known_end}
+use Rattle.c40.proofs.Calls.Laws.{known_more, known_here, known_end}
 use Rattle.c40_write.specs.Turned.{entry_of, entries, turned}
 
 length_entries : (n : ℕ) → length (entries n) ≡ n

@@ -10,7 +10,7 @@ use Rattle.std.proofs.Common.{Fits, w8}
 use Rattle.format.specs.Bytes.{Bytes}
 use Rattle.format.specs.Choice.Laws.{not_true}
 use Rattle.format.specs.Buffer.{over}
-use Rattle.format.specs.Buffer.Laws.{over_none}
+use Rattle.format.proofs.Buffer.Laws.{over_none}
 use Rattle.c40_write.specs.Turned.{turned}
 use Rattle.c40_write.specs.Turned.Laws.{looked, found_most}
 use Rattle.c40_write_long.specs.Passed.{left_over_none, left_over_one, left_over_two}

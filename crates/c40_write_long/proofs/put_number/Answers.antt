@@ -5,7 +5,7 @@ use native.Mathlib.Omega.{arith}
 use mathlib.Core.Path.{◌∙◌, ap}
 use Rattle.format.specs.BigEndian.Laws.{be_two_low}
 use Rattle.format.specs.Buffer.{over}
-use Rattle.format.specs.Buffer.Laws.{over_two}
+use Rattle.format.proofs.Buffer.Laws.{over_two}
 use Rattle.c40_write_long.proofs.put_number.Goals as goal
 
 pub returns : goal.returns

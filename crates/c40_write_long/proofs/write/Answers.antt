@@ -8,13 +8,13 @@ use Prim.Native.Nat.{ℕ, ◌*◌, ◌≤◌}
 use mathlib.Core.List.{List}
 use lib.ListN.{length, replicate, length-replicate}
 use Rattle.format.specs.Buffer.{over}
-use Rattle.format.specs.Answers.Laws.{refuses, gives}
+use Rattle.format.proofs.Answers.Laws.{refuses, gives}
 use Rattle.octets.specs.Copy.{copied}
 use Rattle.octets.specs.Copy.Laws.{copied_all}
 use Rattle.c40.specs.Text.{publish, width}
 use Rattle.c40.specs.Text.Laws.{length_publish}
 use Rattle.c40.specs.Calls.{known}
-use Rattle.c40.specs.Calls.Laws.{text_known, writing_long, writing_no_room, writing_done}
+use Rattle.c40.proofs.Calls.Laws.{text_known, writing_long, writing_no_room, writing_done}
 use Rattle.c40_write_long.specs.Passed.{whole_kept, whole_form}
 use Rattle.c40_write_long.proofs.write.Goals as goal
 use Rattle.c40_write_long.proofs.write.Goals.{After-put_text, Else-not-put_text}

@@ -12,7 +12,7 @@ use Rattle.std.proofs.Math.Dec.{eqb}
 use mathlib.Core.List.{List, [], ◌∷◌, ◌++◌, append_assoc, append-nil}
 use Rattle.std.proofs.Math.ListN.{length, get_or, drop, get_or-eq_default}
 use Rattle.format.specs.Hex.{hex_value}
-use Rattle.format.specs.Hex.Laws.{value_most}
+use Rattle.format.proofs.Hex.Laws.{value_most}
 use Rattle.lines.specs.Line.{Put}
 use Rattle.lines.specs.Line.Laws.{put_more}
 use Rattle.case_scan.specs.Scan.{Numeral, value_of, pairs_of, pairs_at, pairs_end, goes_on, number_of, width_of, number_at, number_end, times}

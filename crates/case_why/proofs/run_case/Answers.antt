@@ -2,7 +2,7 @@
 -- Assumes nothing.
 use Rattle.lines.specs.Line.{Counts}
 use Rattle.case_file.specs.Line.Laws.{within_more}
-use Rattle.why_lines.specs.Lines.Laws.{text_counts}
+use Rattle.why_lines.proofs.Lines.Laws.{text_counts}
 use Rattle.case_why.proofs.run_case.Goals as goal
 use Rattle.case_why.proofs.run_case.Goals.{After-tell-count}
 

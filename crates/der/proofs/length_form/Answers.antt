@@ -4,7 +4,7 @@ use native.Mathlib.Omega.{arith}
 use mathlib.Core.Path.{◌≡◌, ap₂, ◌∙◌}
 use Prim.Native.Nat.{◌/◌}
 use Rattle.der.specs.declared.Form.TheVariants.{Three}
-use Rattle.der.specs.Length.Written.{form_one, form_two, form_three, form_longer}
+use Rattle.der.proofs.Lengths.Written.{form_one, form_two, form_three, form_longer}
 use Rattle.der.proofs.length_form.Goals as goal
 
 pub returns-then-size-lt128 : goal.returns-then-size-lt128

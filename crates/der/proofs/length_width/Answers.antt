@@ -4,7 +4,7 @@ use native.Mathlib.Omega.{arith}
 use mathlib.Core.Path.{ap}
 use lib.ListN.{length}
 use Rattle.der.specs.Length.{bytes_of}
-use Rattle.der.specs.Length.Written.{form_one, form_two, form_three, form_longer}
+use Rattle.der.proofs.Lengths.Written.{form_one, form_two, form_three, form_longer}
 use Rattle.der.proofs.length_width.Goals as goal
 
 pub returns-then-size-lt128 : goal.returns-then-size-lt128

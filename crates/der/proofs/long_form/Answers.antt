@@ -9,7 +9,7 @@ use lib.ListN.{length, drop, length-drop}
 use Rattle.format.specs.BigEndian.{val}
 use Rattle.format.specs.BigEndian.Laws.{val_part}
 use Rattle.der.specs.Length.{least}
-use Rattle.der.specs.Length.Laws.{long_cut, long_loose, long_is}
+use Rattle.der.proofs.Lengths.Laws.{long_cut, long_loose, long_is}
 use Rattle.der.specs.declared.Length.TheVariants.{Is}
 use Rattle.der.proofs.long_form.Goals as goal
 use Rattle.der.proofs.long_form.Goals.{After-number-value}

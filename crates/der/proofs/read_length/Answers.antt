@@ -2,7 +2,7 @@
 -- Assumes nothing.
 use native.Mathlib.Omega.{arith}
 use mathlib.Core.Path.{◌∙◌}
-use Rattle.der.specs.Length.Laws.{length_none, length_short, length_bad, length_high, length_long}
+use Rattle.der.proofs.Lengths.Laws.{length_none, length_short, length_bad, length_high, length_long}
 use Rattle.der.proofs.read_length.Goals as goal
 
 pub returns-then-s-eq0 : goal.returns-then-s-eq0

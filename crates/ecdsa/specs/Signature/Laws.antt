@@ -7,7 +7,7 @@ use Rattle.format.specs.Choice.Laws.{by_test}
 use Rattle.format.specs.BigEndian.{be}
 use Rattle.format.specs.Places.{at_place, past_end}
 use Rattle.der.specs.Length.{form}
-use Rattle.der.specs.Length.Exact.{form_short, form_long}
+use Rattle.der.proofs.Lengths.Exact.{form_short, form_long}
 use Rattle.der.specs.Content.{shortest, integer}
 use Rattle.der.specs.Content.Laws.{shortest_drop, shortest_keep, shortest_one, zero_redundant, zero_needed, byte_needed}
 use Rattle.ecdsa.specs.Signature.{is_size, content_from}

@@ -9,7 +9,7 @@ use lib.ListN.{length, take, drop, length-drop}
 use lib.Seq.{length-take-le}
 use Rattle.format.specs.Places.{to_end}
 use Rattle.format.specs.Answers.{told, filled}
-use Rattle.format.specs.Answers.Laws.{refuses}
+use Rattle.format.proofs.Answers.Laws.{refuses}
 use Rattle.format.specs.Order.{in_room}
 use Rattle.ecdsa.specs.Signature.{is_size, signature}
 use Rattle.ecdsa.specs.Signature.Laws.{size_bounds}

@@ -4,7 +4,7 @@ use Rattle.std.specs.Prelude.{◌≡◌, ℕ, suc, ◌+◌, ◌<◌, ◌≤◌, 
 use Rattle.std.proofs.Common.{ap, ap₂, sym, ◌∙◌, arith, ltb-true, ltb-false, append_assoc, length-append}
 use Rattle.format.specs.Choice.Laws.{by_test}
 use Rattle.format.specs.Buffer.{over}
-use Rattle.format.specs.Buffer.Laws.{over_two, over_three, over_over, length_over}
+use Rattle.format.proofs.Buffer.Laws.{over_two, over_three, over_over, length_over}
 use Rattle.octets.specs.Copy.{copied, reached}
 use Rattle.octets.specs.Copy.Laws.{copied_all, reached_all}
 use Rattle.der.specs.Length.{form}

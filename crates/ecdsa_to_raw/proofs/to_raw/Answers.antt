@@ -4,11 +4,11 @@ use native.Mathlib.Omega.{arith}
 use mathlib.Core.Path.{◌≡◌, refl, ap, sym, ◌∙◌}
 use mathlib.Core.Bool.{true}
 use Rattle.format.specs.Answers.{told, filled}
-use Rattle.format.specs.Answers.Laws.{refuses}
-use Rattle.der.specs.Element.Exact.{Found, element_whole}
+use Rattle.format.proofs.Answers.Laws.{refuses}
+use Rattle.der.proofs.Elements.Exact.{Found, element_whole}
 use Rattle.ecdsa.specs.Signature.{is_size}
 use Rattle.ecdsa.specs.Signature.Laws.{size_bounds}
-use Rattle.ecdsa.specs.Strict.Laws.{raw_none, raw_more}
+use Rattle.ecdsa.proofs.Strict.Laws.{raw_none, raw_more}
 use Rattle.ecdsa.specs.Strict.ToRaw.{to_raw_no_size, to_raw_not_strict}
 use Rattle.ecdsa_to_raw.specs.Rawed.{to_raw_pair}
 use Rattle.ecdsa_to_raw.proofs.to_raw.Goals as goal

@@ -9,7 +9,7 @@ use lib.ListN.{length, drop, length-drop}
 use Rattle.format.specs.Places.{to_end}
 use Rattle.format.specs.Bytes.Laws.{bytes_drop}
 use Rattle.der.specs.Length.{read_length}
-use Rattle.der.specs.Length.Exact.{read_is_form}
+use Rattle.der.proofs.Lengths.Exact.{read_is_form}
 use Rattle.der.specs.Element.{body_in}
 use Rattle.der.specs.Element.Laws.{element_none, element_other, element_read}
 use Rattle.elements.proofs.element_of.Goals as goal

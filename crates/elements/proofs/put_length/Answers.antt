@@ -5,9 +5,9 @@ use native.Mathlib.Nat.{add-zero}
 use mathlib.Core.Path.{◌≡◌, ◌∙◌, ap, sym}
 use Prim.Native.Nat.{◌+◌, ◌≤◌}
 use lib.ListN.{length, length-set}
-use Rattle.format.specs.Buffer.Laws.{over_none, set_over, over_two, over_three}
+use Rattle.format.proofs.Buffer.Laws.{over_none, set_over, over_two, over_three}
 use Rattle.der.specs.Length.{bytes_of, written}
-use Rattle.der.specs.Length.Written.{put_not, put_all}
+use Rattle.der.proofs.Lengths.Written.{put_not, put_all}
 use Rattle.der.specs.declared.Form.{Form}
 use Rattle.elements.proofs.put_length.Goals as goal
 use Rattle.elements.proofs.put_length.Goals.{After-length_form}

@@ -7,8 +7,8 @@ use Rattle.format.specs.Choice.{pick}
 use Rattle.format.specs.Choice.Laws.{by_test}
 use Rattle.dates.specs.declared.Date.{Date}
 use Rattle.dates.specs.Days.{is_leap, has_thirty, days_in, Day, dated, number_of}
-use Rattle.dates.specs.Days.Calendar.{leap_by_4}
-use Rattle.dates.specs.Days.Laws.{last_test}
+use Rattle.dates.proofs.Days.Calendar.{leap_by_4}
+use Rattle.dates.proofs.Days.Laws.{last_test}
 use Rattle.front_days.specs.Days.{last_of, in_month}
 use Rattle.front_days.specs.Days.Runs.{inside}
 

@@ -6,7 +6,7 @@ use Rattle.format.specs.Choice.{within}
 use Rattle.format.specs.Choice.Laws.{by_test, not_true, both_true, both_are, within_both, within_true}
 use Rattle.dates.specs.declared.Date.{Date}
 use Rattle.dates.specs.Days.{is_leap, has_thirty, days_in, Day, number_of}
-use Rattle.dates.specs.Days.Laws.{day_bounds}
+use Rattle.dates.proofs.Days.Laws.{day_bounds}
 use Rattle.front_days.specs.Days.{last_of, in_month}
 
 -- a run ends in the same month, and holds more than 65,536 numbers

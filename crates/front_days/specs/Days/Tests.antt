@@ -15,7 +15,7 @@ use Rattle.format.specs.Answers.{result, refusal}
 use Rattle.dates.specs.declared.Date.{Date}
 use Rattle.dates.specs.Days.{is_day, date_of}
 use Rattle.dates.specs.Calls.{no_date, from_number}
-use Rattle.dates.specs.Exact.{from_given, from_day}
+use Rattle.dates.proofs.Exact.{from_given, from_day}
 use Rattle.front_days.specs.Days.{last_of, in_month, one_front, two_front, day_front}
 
 -- April, June, September and November

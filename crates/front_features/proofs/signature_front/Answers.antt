@@ -6,7 +6,7 @@ use mathlib.Core.Bool.{false}
 use Prim.Native.Nat.{ℕ}
 use lib.ListN.{get_or}
 use native.Mathlib.Omega.{arith}
-use Rattle.grammar.specs.Sizes.{has}
+use Rattle.grammar.proofs.Sizes.{has}
 use Rattle.front_features.specs.Signature.{short, signature_end, signature_size_lem, signature_other, signature_cramped, signature_long}
 use Rattle.front_features.specs.Signature.{has_here, has_more, has_none}
 use Rattle.front_features.proofs.signature_front.Goals as goal

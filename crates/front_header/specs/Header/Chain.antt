@@ -8,7 +8,7 @@ use Rattle.format.specs.Choice.{pick}
 use Rattle.format.specs.Choice.Laws.{by_test}
 use Rattle.format.specs.Cut.{Cut}
 use Rattle.front.specs.Front.{Begins, Longest}
-use Rattle.front.specs.Front.Laws.{longest_after, longest_some}
+use Rattle.front.proofs.Front.Laws.{longest_after, longest_some}
 use Rattle.front.specs.Items.{Reader, item_whole, longest_part}
 use Rattle.front_header.specs.Header.{past}
 

@@ -5,7 +5,7 @@ use Rattle.c40.specs.Text.{width, publish as c40}
 use Rattle.dates.specs.Days.{Day, publish as date}
 use Rattle.grammar.specs.Content.{Version, three, four}
 use Rattle.grammar.specs.Legal.{Country, LastByte}
-use Rattle.front.specs.Room.{Within}
+use Rattle.front.proofs.Room.{Within}
 use Rattle.front.specs.Items.{byte, Mark, AnyVersion, version_item, country_item, First, Characters, Counted, counted_item}
 use Rattle.front_message.specs.Message.Languages.{Msg}
 use Rattle.front_header.specs.Header.Chain.{Then}

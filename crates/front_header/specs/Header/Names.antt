@@ -6,11 +6,11 @@ use Rattle.format.specs.Bytes.{All}
 use Rattle.format.specs.Bytes.Laws.{all_append}
 use Rattle.c40.specs.Text.{width, publish as c40}
 use Rattle.c40.specs.Text.Laws.{publish_none}
-use Rattle.c40.specs.Exact.{three_ahead}
+use Rattle.c40.proofs.Exact.{three_ahead}
 use Rattle.grammar.specs.Content.{Version, three, four}
 use Rattle.grammar.specs.Publish.{hex_digits, names}
 use Rattle.grammar.specs.Legal.{LetterOrDigit, Signer}
-use Rattle.grammar.specs.Parts.{Names}
+use Rattle.grammar.proofs.Parts.{Names}
 use Rattle.front.specs.Items.{First, Characters, counted_item}
 use Rattle.front_header.specs.Header.Chain.{Then}
 use Rattle.front_header.specs.Header.Languages.{Issued, Texts, header_length, AfterCountry}

@@ -10,24 +10,24 @@ use Rattle.std.proofs.Math.ListN.{get_or}
 use Rattle.format.specs.Choice.{within}
 use Rattle.format.specs.Choice.Laws.{by_test, not_true, within_both, within_true}
 use Rattle.format.specs.Cut.{Cut}
-use Rattle.format.specs.Cut.Laws.{cut_byte}
+use Rattle.format.proofs.Cut.Laws.{cut_byte}
 use Rattle.format.specs.Hex.{hex_digit}
 use Rattle.pairs.specs.Chart.{value_of, InChart}
 use Rattle.pairs.specs.Chart.Laws.{value_digit, value_letter, value_range}
 use Rattle.pairs.specs.Pairs.{packed_of, number, second, third}
-use Rattle.pairs.specs.Pairs.Laws.{triple_is}
+use Rattle.pairs.proofs.Pairs.Laws.{triple_is}
 use Rattle.pairs.specs.declared.decode.Pair.TheVariants.{Three}
 use Rattle.c40.specs.Text.{Text, TextOf, publish as c40}
 use Rattle.c40.specs.Text.Laws.{publish_pair}
-use Rattle.c40.specs.Exact.{cut_text}
+use Rattle.c40.proofs.Exact.{cut_text}
 use Rattle.dates.specs.Days.{Day, publish as date}
-use Rattle.versions.specs.Versions.Laws.{one_version}
+use Rattle.versions.proofs.Versions.Laws.{one_version}
 use Rattle.versions.specs.Versions.{version_byte}
 use Rattle.grammar.specs.Publish.{hex_digits}
 use Rattle.grammar.specs.Legal.{Letter, LetterOrDigit, Country, LastByte}
-use Rattle.grammar.specs.Parts.{reference_text, hex_text}
+use Rattle.grammar.proofs.Parts.{reference_text, hex_text}
 use Rattle.front.specs.Front.{Begins, Longest}
-use Rattle.front.specs.Front.Laws.{longest_end, longest_stop}
+use Rattle.front.proofs.Front.Laws.{longest_end, longest_stop}
 use Rattle.front.specs.Items.{Item, Reader, longest_item, byte, Mark, AnyVersion, version_item, country_item}
 use Rattle.front.specs.Items.{First, Characters, Counted, counted_item}
 use Rattle.front_pairs.specs.Pairs.{pair_front, length_in}

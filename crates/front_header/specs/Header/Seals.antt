@@ -7,14 +7,14 @@ use Rattle.format.specs.Cut.{counted}
 use Rattle.c40.specs.Text.{width, publish as c40}
 use Rattle.c40.specs.Text.Laws.{length_publish}
 use Rattle.dates.specs.Days.{publish as date}
-use Rattle.dates.specs.Days.Laws.{length_publish as length_date}
+use Rattle.dates.proofs.Days.Laws.{length_publish as length_date}
 use Rattle.der.specs.Length.{form}
 use Rattle.versions.specs.Versions.{version_byte}
 use Rattle.grammar.specs.Content.{Version, three, four, Header, Content}
 use Rattle.grammar.specs.Publish.{carried, names, header_zone, message_zone, signature_zone, signed_bytes, publish}
 use Rattle.grammar.specs.Legal.{LegalHeader, Legal}
-use Rattle.grammar.specs.Zones.{header_parts, legal_names}
-use Rattle.grammar.specs.Sizes.{length_names, header_size, header_three}
+use Rattle.grammar.proofs.Zones.{header_parts, legal_names}
+use Rattle.grammar.proofs.Sizes.{length_names, header_size, header_three}
 use Rattle.front.specs.Front.{Sealed}
 use Rattle.front.specs.Items.{byte, version_item, country_item}
 use Rattle.front_header.specs.Header.Chain.{put}

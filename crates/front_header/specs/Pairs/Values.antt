@@ -6,7 +6,7 @@ use Rattle.format.specs.Choice.Laws.{by_test}
 use Rattle.pairs.specs.Chart.{value_of}
 use Rattle.pairs.specs.Chart.Laws.{value_space, value_digit, value_letter, value_range}
 use Rattle.pairs.specs.Pairs.{packed_of, triple, number}
-use Rattle.pairs.specs.Pairs.Laws.{triple_is}
+use Rattle.pairs.proofs.Pairs.Laws.{triple_is}
 use Rattle.pairs.specs.declared.decode.Pair.TheVariants as pair
 use Rattle.c40.specs.Text.{publish as c40}
 use Rattle.c40.specs.Text.Laws.{publish_pair}

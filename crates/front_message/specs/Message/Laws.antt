@@ -9,11 +9,11 @@ use Rattle.format.specs.BigEndian.Laws.{be_two}
 use Rattle.format.specs.Choice.{either}
 use Rattle.format.specs.Choice.Laws.{by_test, not_true}
 use Rattle.der.specs.Length.{form}
-use Rattle.der.specs.Length.Exact.{form_short, form_long, form_some}
+use Rattle.der.proofs.Lengths.Exact.{form_short, form_long, form_some}
 use Rattle.grammar.specs.Content.{Version, three, four, Feature}
 use Rattle.grammar.specs.Publish.{length_of, message_zone}
 use Rattle.grammar.specs.Legal.{Unused}
-use Rattle.grammar.specs.Sizes.{has}
+use Rattle.grammar.proofs.Sizes.{has}
 
 -- the same first byte
 pub head_is : {x y : ℕ} {s t : List ℕ} → x ∷ s ≡ y ∷ t → x ≡ y

@@ -7,11 +7,11 @@ use Rattle.std.proofs.lemmas.List.{length-replicate}
 use Rattle.format.specs.Bytes.{Bytes}
 use Rattle.format.specs.Bytes.Laws.{bytes_nil, bytes_replicate}
 use Rattle.der.specs.Length.{form}
-use Rattle.der.specs.Length.Exact.{form_short, form_some}
+use Rattle.der.proofs.Lengths.Exact.{form_short, form_some}
 use Rattle.grammar.specs.Content.{Version, three, four}
 use Rattle.grammar.specs.Publish.{length_of, message_zone}
 use Rattle.grammar.specs.Legal.{ValueSize, SignatureSize, n28, n32, n48, n64, n66}
-use Rattle.front.specs.Room.{Cheapest}
+use Rattle.front.proofs.Room.{Cheapest}
 use Rattle.front_message.specs.Message.Laws.{length_some, zero_is}
 use Rattle.front_message.specs.Message.Languages.{Raw, Sig, Msg, Value, Tagged}
 use Rattle.front_message.specs.Message.Steps.{mark_msg, msg_value, value_tagged}

@@ -6,9 +6,9 @@ use Rattle.std.proofs.Common.{sym, ap, ◌∙◌, subst, arith, ltb-true, ltb-fa
 use Rattle.std.proofs.Math.ListN.{get_or-append}
 use Rattle.format.specs.Choice.Laws.{by_test}
 use Rattle.der.specs.Length.{form}
-use Rattle.der.specs.Length.Exact.{form_short, form_some}
+use Rattle.der.proofs.Lengths.Exact.{form_short, form_some}
 use Rattle.grammar.specs.Content.{four}
-use Rattle.front.specs.Room.{Cheapest}
+use Rattle.front.proofs.Room.{Cheapest}
 use Rattle.front_message.specs.Message.Laws.{head_is, tail_is, form_one, form_two, form_bytes, form_great}
 use Rattle.front_message.specs.Message.Languages.{Value, Tagged}
 use Rattle.front_message.specs.Message.Steps.{value_tagged}

@@ -2,7 +2,7 @@
 -- Assumes nothing.
 use Rattle.std.specs.Prelude.{◌≡◌, refl, [], ◌∷◌, replicate}
 use Rattle.grammar.specs.Content.{three, four}
-use Rattle.grammar.specs.Sizes.{has}
+use Rattle.grammar.proofs.Sizes.{has}
 use Rattle.front_message.specs.Message.{long_front, signature_front, after_one, after_high, after_two, length_front, turn, message_front}
 
 -- 59 bytes left: FF can be completed, a tag cannot (tag, length and 58 more do not fit)

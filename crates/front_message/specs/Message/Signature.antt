@@ -7,11 +7,11 @@ use Rattle.format.specs.Bytes.Laws.{bytes_append, bytes_take}
 use Rattle.format.specs.Choice.{pick}
 use Rattle.format.specs.Choice.Laws.{by_test, either_true, not_true}
 use Rattle.der.specs.Length.{form}
-use Rattle.der.specs.Length.Exact.{form_short, cut_form}
+use Rattle.der.proofs.Lengths.Exact.{form_short, cut_form}
 use Rattle.grammar.specs.Legal.{SignatureSize, n28, n32, n48, n64, n66}
-use Rattle.grammar.specs.Sizes.{has}
+use Rattle.grammar.proofs.Sizes.{has}
 use Rattle.front.specs.Front.{Longest}
-use Rattle.front.specs.Room.{Within, Cheapest, step, stop, end}
+use Rattle.front.proofs.Room.{Within, Cheapest, step, stop, end}
 use Rattle.front_message.specs.Message.{any_front, long_front, signature_front}
 use Rattle.front_message.specs.Message.Laws.{head_is, tail_is, not_both, form_one}
 use Rattle.front_message.specs.Message.Languages.{Raw, Sig}

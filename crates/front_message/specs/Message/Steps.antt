@@ -7,11 +7,11 @@ use mathlib.Core.List.{List, [], ◌∷◌, ◌++◌}
 use Prim.Native.Nat.{ℕ, ◌≤◌}
 use Rattle.std.proofs.Math.ListN.{length}
 use Rattle.format.specs.Bytes.{Bytes}
-use Rattle.format.specs.Cut.Laws.{cut_sized}
+use Rattle.format.proofs.Cut.Laws.{cut_sized}
 use Rattle.grammar.specs.Content.{Version, three, Feature}
 use Rattle.grammar.specs.Publish.{length_of, message_zone}
 use Rattle.grammar.specs.Legal.{ValueSize, LegalFeatures}
-use Rattle.grammar.specs.Sizes.{has, unused_not}
+use Rattle.grammar.proofs.Sizes.{has, unused_not}
 use Rattle.front_message.specs.Message.Laws.{head_is, tail_is, not_unused, message_cons}
 use Rattle.front_message.specs.Message.Languages.{Sig, Msg, Value, Tagged}
 

@@ -7,7 +7,7 @@ use Rattle.format.specs.Bytes.Laws.{bytes_append, bytes_take, bytes_drop}
 use Rattle.format.specs.Choice.Laws.{by_test}
 use Rattle.grammar.specs.Content.{Version}
 use Rattle.front.specs.Front.{Longest}
-use Rattle.front.specs.Room.{Within, Cheapest, after, stop}
+use Rattle.front.proofs.Room.{Within, Cheapest, after, stop}
 use Rattle.front_message.specs.Message.{is, last_of, value_front, tagged}
 use Rattle.front_message.specs.Message.Languages.{Msg, Value, Tagged}
 use Rattle.front_message.specs.Message.Steps.{value_msg, msg_value}

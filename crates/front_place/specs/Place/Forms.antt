@@ -6,7 +6,7 @@ use Rattle.std.proofs.lemmas.Bool.{eqb-false}
 use Rattle.std.proofs.Math.ListN.{get_or-append}
 use Rattle.format.specs.Choice.Laws.{by_test}
 use Rattle.der.specs.Length.{form}
-use Rattle.der.specs.Length.Exact.{form_short, form_some}
+use Rattle.der.proofs.Lengths.Exact.{form_short, form_some}
 use Rattle.grammar.specs.Content.{Version, four}
 use Rattle.grammar.specs.Legal.{Unused, SignatureSize}
 use Rattle.rules.specs.Rules.{Here, Rule, Keeps, der_size}

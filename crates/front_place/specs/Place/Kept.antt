@@ -4,17 +4,17 @@ use Rattle.std.specs.Prelude.{◌≡◌, refl, List, [], ◌∷◌, ◌++◌, ma
 use Rattle.std.proofs.Common.{sym, ap, ap₂, ◌∙◌, subst, append_assoc, arith, add-zero, length-append, take_at, drop_at, get_or-take, get_or-drop}
 use Rattle.format.specs.Bytes.{All}
 use Rattle.format.specs.Bytes.Laws.{all_append}
-use Rattle.format.specs.Cut.Laws.{cut_sized}
+use Rattle.format.proofs.Cut.Laws.{cut_sized}
 use Rattle.c40.specs.Text.{TextOf, width, publish as c40}
 use Rattle.c40.specs.Text.Laws.{length_publish}
-use Rattle.c40.specs.Exact.{three_ahead}
+use Rattle.c40.proofs.Exact.{three_ahead}
 use Rattle.pairs.specs.Chart.{InChart}
 use Rattle.dates.specs.Days.{Day, publish as date}
-use Rattle.dates.specs.Days.Laws.{length_publish as length_date}
+use Rattle.dates.proofs.Days.Laws.{length_publish as length_date}
 use Rattle.grammar.specs.Content.{Version, three, four}
 use Rattle.grammar.specs.Publish.{carried, hex_digits}
 use Rattle.grammar.specs.Legal.{Signer, LetterOrDigit, LastByte}
-use Rattle.grammar.specs.Parts.{country_text, signer_text, reference_text, hex_text}
+use Rattle.grammar.proofs.Parts.{country_text, signer_text, reference_text, hex_text}
 use Rattle.rules.specs.Rules.{Here, Carries, Digits, Rule, Keeps}
 use Rattle.front.specs.Items.{byte, Mark, AnyVersion, version_item}
 use Rattle.front_header.specs.Header.Chain.{Then}

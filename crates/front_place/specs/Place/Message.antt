@@ -5,11 +5,11 @@ use Rattle.std.proofs.Common.{sym, ap, ◌∙◌, subst, arith, length-append, g
 use Rattle.format.specs.Bytes.{Bytes}
 use Rattle.format.specs.Bytes.Laws.{bytes_append}
 use Rattle.der.specs.Length.{Sized, form}
-use Rattle.der.specs.Length.Exact.{cut_form}
+use Rattle.der.proofs.Lengths.Exact.{cut_form}
 use Rattle.grammar.specs.Content.{Version, three, four}
 use Rattle.grammar.specs.Publish.{length_of}
 use Rattle.grammar.specs.Legal.{ValueSize, Unused, SignatureSize}
-use Rattle.grammar.specs.Sizes.{unused_not}
+use Rattle.grammar.proofs.Sizes.{unused_not}
 use Rattle.front_message.specs.Message.Laws.{head_is, tail_is}
 use Rattle.front_message.specs.Message.Languages.{Raw, Sig, Msg, Value, Tagged}
 use Rattle.front_message.specs.Message.Least.{value_cheapest, signature_range, raw_sig}

@@ -5,7 +5,7 @@ use Rattle.std.proofs.Common.{sym, subst, arith, ltb-true, ltb-false}
 use Rattle.format.specs.Bytes.{All}
 use Rattle.format.specs.Choice.Laws.{by_test}
 use Rattle.c40.specs.Text.{TextOf, width, publish as c40}
-use Rattle.c40.specs.Exact.{three_ahead, cut_text}
+use Rattle.c40.proofs.Exact.{three_ahead, cut_text}
 use Rattle.grammar.specs.Content.{three, four}
 use Rattle.grammar.specs.Publish.{hex_digits}
 use Rattle.grammar.specs.Legal.{Signer, LetterOrDigit}

@@ -7,14 +7,14 @@ use Rattle.format.specs.Bytes.Laws.{bytes_take, bytes_drop}
 use Rattle.c40.specs.Text.{width, publish as c40}
 use Rattle.c40.specs.Text.Laws.{length_publish}
 use Rattle.dates.specs.Days.{Day, publish as date}
-use Rattle.dates.specs.Days.Laws.{cut_date, length_publish as length_date}
+use Rattle.dates.proofs.Days.Laws.{cut_date, length_publish as length_date}
 use Rattle.der.specs.Length.{Sized, form}
-use Rattle.der.specs.Length.Exact.{cut_form}
+use Rattle.der.proofs.Lengths.Exact.{cut_form}
 use Rattle.versions.specs.Versions.{version_byte}
 use Rattle.grammar.specs.Content.{Version, three, four}
 use Rattle.grammar.specs.Publish.{carried, length_of}
 use Rattle.grammar.specs.Legal.{Country, LastByte, SignatureSize, ValueSize}
-use Rattle.grammar.specs.Parts.{cut_country, country_text}
+use Rattle.grammar.proofs.Parts.{cut_country, country_text}
 use Rattle.rules.specs.Rules.{Here, Rule, Keeps}
 use Rattle.rules.specs.Layout.{Item, At, start, on, Follows, to_mark, to_version, to_country, to_names, to_issued_3}
 use Rattle.rules.specs.Layout.{to_signer, to_reference, to_issued_4, to_signed, to_definition, to_category, to_tag, to_length}

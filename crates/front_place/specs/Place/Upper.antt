@@ -5,7 +5,7 @@ use Rattle.std.proofs.Common.{sym, ap, ◌∙◌, subst, append_assoc, arith, lt
 use Rattle.format.specs.Bytes.{All, Bytes}
 use Rattle.format.specs.Choice.Laws.{by_test}
 use Rattle.format.specs.Hex.{hex_digit, hex_value}
-use Rattle.format.specs.Hex.Laws.{digit_value}
+use Rattle.format.proofs.Hex.Laws.{digit_value}
 use Rattle.c40.specs.Text.{width}
 use Rattle.grammar.specs.Content.{three, four}
 use Rattle.grammar.specs.Publish.{hex_digits}
@@ -13,7 +13,7 @@ use Rattle.grammar.specs.Legal.{LetterOrDigit, SignatureSize}
 use Rattle.rules.specs.Rules.{Carries, Digits, Rule, Keeps, Placed, called, size_of, der_size}
 use Rattle.rules.specs.Layout.{Item, rules_of, At}
 use Rattle.front.specs.Front.{Sealed, Longest}
-use Rattle.front.specs.Front.Laws.{begins_take}
+use Rattle.front.proofs.Front.Laws.{begins_take}
 use Rattle.front_header.specs.Header.Languages.{Issued, Signed, Definition, Category, Rest}
 use Rattle.front_place.specs.Place.{OfBytes}
 use Rattle.front_place.specs.Place.State.{State}

@@ -8,9 +8,9 @@ use Rattle.pairs.specs.Pairs.{pair_of, chars_of}
 use Rattle.pairs.specs.Faults.{Has}
 use Rattle.c40.specs.Text.{TextOf, width, publish as c40}
 use Rattle.c40.specs.Text.Laws.{length_publish}
-use Rattle.c40.specs.Exact.{published_decodes}
-use Rattle.c40.specs.Decode.First.{text_faultless, text_size}
-use Rattle.c40.specs.Wrong.{WronglyCoded, FirstWrong}
+use Rattle.c40.proofs.Exact.{published_decodes}
+use Rattle.c40.proofs.Decode.First.{text_faultless, text_size}
+use Rattle.c40.proofs.Wrong.{WronglyCoded, FirstWrong}
 use Rattle.front_place.specs.Place.Kept.{Ahead, part, Whole}
 
 -- no pair of a published text is wrongly coded

@@ -5,13 +5,13 @@ use Rattle.std.proofs.Common.{sym, subst, inl, inr, arith}
 use Rattle.format.specs.Bytes.{Bytes}
 use Rattle.verdict.specs.Judge.{Report, Verdict, accepted, refused, judge}
 use Rattle.verdict.specs.Judge.Listed.{from_list, FromList}
-use Rattle.verdict.specs.Judge.Sound.{accepted_published}
+use Rattle.verdict.proofs.Judge.Sound.{accepted_published}
 use Rattle.reading.specs.Calls.{answer_of, given, reading}
 use Rattle.reading.specs.declared.Reading.{Reading}
 use Rattle.front.specs.Front.{Sealed}
-use Rattle.front.specs.Front.Crew.{whole_exactly}
+use Rattle.front.proofs.Front.Crew.{whole_exactly}
 use Rattle.front_header.specs.Header.{front}
-use Rattle.front_header.specs.Exact.{front_is}
+use Rattle.front_header.proofs.Exact.{front_is}
 use Rattle.front_reading.specs.Fronted.{Whole}
 
 -- the bytes of an accepted seal

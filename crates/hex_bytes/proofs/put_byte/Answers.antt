@@ -4,7 +4,7 @@ use native.Mathlib.Omega.{arith}
 use mathlib.Core.Path.{◌≡◌, ap, ◌∙◌}
 use Prim.Native.Nat.{◌/◌, ◌%◌}
 use Rattle.format.specs.Hex.{hex_digit}
-use Rattle.hex_bytes.specs.Shown.Laws.{byte_put}
+use Rattle.hex_bytes.proofs.Shown.Laws.{byte_put}
 use Rattle.hex_bytes.proofs.put_byte.Goals as goal
 
 pub returns : goal.returns

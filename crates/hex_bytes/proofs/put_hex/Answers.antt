@@ -7,7 +7,7 @@ use lib.ListN.{length}
 use lib.Seq.{take_all}
 use Rattle.lines.specs.Line.Laws.{put_none}
 use Rattle.hex_bytes.specs.Shown.{hex_bytes}
-use Rattle.hex_bytes.specs.Shown.Laws.{hex_turn}
+use Rattle.hex_bytes.proofs.Shown.Laws.{hex_turn}
 use Rattle.hex_bytes.proofs.put_hex.Goals as goal
 
 pub loop-i-init : goal.loop-i-init

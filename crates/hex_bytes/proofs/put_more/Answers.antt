@@ -1,7 +1,7 @@
 -- `hex_bytes::put_more` meets its contract: there are none, or the words are put down around their number.
 -- Assumes nothing.
 use Rattle.lines.specs.Line.Laws.{put_none, put_more}
-use Rattle.hex_bytes.specs.Shown.Laws.{more_none, more_some}
+use Rattle.hex_bytes.proofs.Shown.Laws.{more_none, more_some}
 use Rattle.hex_bytes.proofs.put_more.Goals as goal
 
 pub returns-then-more-eq0 : goal.returns-then-more-eq0

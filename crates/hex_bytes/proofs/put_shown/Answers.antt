@@ -4,7 +4,7 @@ use native.Mathlib.Omega.{arith}
 use mathlib.Core.Path.{sym}
 use lib.Seq.{length-take-le}
 use Rattle.lines.specs.Line.Laws.{put_more}
-use Rattle.hex_bytes.specs.Shown.Laws.{shown_none, shown_some, shown_all}
+use Rattle.hex_bytes.proofs.Shown.Laws.{shown_none, shown_some, shown_all}
 use Rattle.hex_bytes.proofs.put_shown.Goals as goal
 
 pub returns-then-size-eq0 : goal.returns-then-size-eq0

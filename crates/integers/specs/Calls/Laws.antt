@@ -5,15 +5,15 @@ use Rattle.std.proofs.Math.Path.{ap}
 use Rattle.std.proofs.Common.{sym, ◌∙◌, arith, lt-ltb, le-ltb, eq-eqb, ne_eqb, length-drop, length-set, take_all}
 use Rattle.format.specs.Order.Laws.{in_no_room, in_room_lem}
 use Rattle.format.specs.Answers.{Result, done, refused, told, filled, result, refusal}
-use Rattle.format.specs.Answers.Laws.{refuses, gives}
+use Rattle.format.proofs.Answers.Laws.{refuses, gives}
 use Rattle.format.specs.Buffer.{over}
-use Rattle.format.specs.Buffer.Laws.{over_two, over_over, length_over}
+use Rattle.format.proofs.Buffer.Laws.{over_two, over_over, length_over}
 use Rattle.octets.specs.Copy.{copied}
 use Rattle.octets.specs.Copy.Laws.{copied_all}
 use Rattle.format.specs.Choice.{pick}
 use Rattle.format.specs.BigEndian.{be}
 use Rattle.format.specs.BigEndian.Laws.{length_be}
-use Rattle.der.specs.Length.Exact.{form_short}
+use Rattle.der.proofs.Lengths.Exact.{form_short}
 use Rattle.der.specs.Element.{element_in}
 use Rattle.der.specs.declared.Element.TheVariants.{Body, Nothing}
 use Rattle.der.specs.Content.{strict, shortest, integer}

@@ -6,7 +6,7 @@ use Prim.Native.Nat.{◌-◌}
 use lib.ListN.{length, get_or, drop, length-drop}
 use lib.Seq.{take_all}
 use Rattle.integers.specs.Calls.{content}
-use Rattle.integers.specs.Exact.{small_reads, not_small}
+use Rattle.integers.proofs.Exact.{small_reads, not_small}
 use Rattle.integers_read.proofs.read.Goals as goal
 
 pub returns-then-n-lt3 : goal.returns-then-n-lt3

@@ -5,7 +5,7 @@ use Rattle.std.proofs.Common.{arith, not-suc-le-zero, le_of_suc-le-suc, lt-ltb, 
 use Rattle.std.proofs.Math.Decide.{dec_le}
 use Rattle.format.specs.Answers.{done, filled}
 use Rattle.format.specs.Buffer.{over}
-use Rattle.format.specs.Buffer.Laws.{over_none, over_start, set_over, over_over}
+use Rattle.format.proofs.Buffer.Laws.{over_none, over_start, set_over, over_over}
 use Rattle.lines.specs.Line.{Line, line, with, with_all, Within, Counts, Put, digits, decimal_of}
 
 -- a store past the end changes nothing

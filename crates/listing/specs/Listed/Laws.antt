@@ -9,7 +9,7 @@ use Rattle.lines.specs.Line.{Put, Counts}
 use Rattle.lines.specs.Line.Laws.{counts_filled, filled_length, put_start}
 use Rattle.rows.specs.declared.Row.{Row}
 use Rattle.rows.specs.Rows.{width, table}
-use Rattle.rows.specs.Rows.Laws.{rows_taken}
+use Rattle.rows.proofs.Rows.Laws.{rows_taken}
 use Rattle.list_lines.specs.ListLine.{name_lines, date_lines, refusal}
 use Rattle.verdict.specs.Judge.{Verdict, accepted, refused, judge}
 use Rattle.verdict.specs.Judge.Listed.{FromList, from_list}

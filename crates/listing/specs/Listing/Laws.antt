@@ -9,7 +9,7 @@ use Rattle.lines.specs.Line.{Put}
 use Rattle.lines.specs.Line.Laws.{put_none, put_more}
 use Rattle.rows.specs.declared.Row.{Row}
 use Rattle.rows.specs.Rows.{width, row_at, rows_of}
-use Rattle.rows.specs.Rows.Laws.{rows_here, rows_end}
+use Rattle.rows.proofs.Rows.Laws.{rows_here, rows_end}
 use Rattle.listing.specs.Listed.{feature, feature_lines}
 use Rattle.listing.specs.Listing.{features}
 

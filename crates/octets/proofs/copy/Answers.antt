@@ -6,7 +6,7 @@ use Prim.Native.Nat.{◌+◌, ◌-◌, ◌≤◌}
 use lib.ListN.{length, take, set, get_or}
 use lib.Seq.{length-take-le, take_all}
 use Rattle.format.specs.Buffer.{over}
-use Rattle.format.specs.Buffer.Laws.{over_none, length_over}
+use Rattle.format.proofs.Buffer.Laws.{over_none, length_over}
 use Rattle.octets.specs.Copy.Laws.{copied_not, copied_all, reached_not, reached_all, one_more}
 use Rattle.octets.proofs.copy.Goals as goal
 use Rattle.octets.proofs.copy.Goals.{At-loop-i}

@@ -5,7 +5,7 @@ use native.Mathlib.Omega.{arith}
 use mathlib.Core.Path.{ap, ◌∙◌}
 use lib.Bits.{and_mask, mask_lt}
 use Rattle.format.specs.Hex.{hex_digit}
-use Rattle.format.specs.Hex.Laws.{digit_figure, digit_letter}
+use Rattle.format.proofs.Hex.Laws.{digit_figure, digit_letter}
 use Rattle.octets.proofs.hex_digit.Goals as goal
 
 pub returns-then-last-lt10 : goal.returns-then-last-lt10

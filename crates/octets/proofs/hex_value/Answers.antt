@@ -3,7 +3,7 @@
 use borrow.Author.Rules.{rules}
 use native.Mathlib.Omega.{arith}
 use mathlib.Core.Path.{◌∙◌}
-use Rattle.format.specs.Hex.Laws.{value_below, value_figure, value_between, value_letter, value_above}
+use Rattle.format.proofs.Hex.Laws.{value_below, value_figure, value_between, value_letter, value_above}
 use Rattle.octets.proofs.hex_value.Goals as goal
 
 pub returns-then-c-lt48 : goal.returns-then-c-lt48

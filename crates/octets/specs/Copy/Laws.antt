@@ -4,7 +4,7 @@ use Rattle.std.specs.Prelude.{◌≡◌, ℕ, ◌+◌, ◌<◌, ◌≤◌, List,
 use Rattle.std.proofs.Common.{ap, sym, ◌∙◌, lt-ltb, le-ltb, length-take-le, take-suc, arith, add-one}
 use Rattle.std.proofs.Math.ListN.{length}
 use Rattle.format.specs.Buffer.{over}
-use Rattle.format.specs.Buffer.Laws.{over_set}
+use Rattle.format.proofs.Buffer.Laws.{over_set}
 use Rattle.octets.specs.Copy.{copied, reached}
 
 module _ (from out : List ℕ) (at : ℕ) where

@@ -3,7 +3,7 @@
 use Rattle.std.specs.Prelude.{◌≡◌, refl, true, ℕ, ◌<◌, ◌≤◌, List, length}
 use Rattle.std.proofs.Common.{sym, ap, subst, ◌∙◌, arith}
 use Rattle.format.specs.Answers.{done, refused}
-use Rattle.format.specs.Answers.Laws.{refuses, gives}
+use Rattle.format.proofs.Answers.Laws.{refuses, gives}
 use Rattle.format.specs.Order.{in_room}
 use Rattle.format.specs.Order.Laws.{in_no_room, in_room_lem}
 use Rattle.octets.specs.Copy.{copied}

@@ -3,8 +3,8 @@
 use Rattle.std.specs.Prelude.{◌≡◌, ℕ, List, length}
 use Rattle.std.proofs.Common.{ap, sym}
 use Rattle.verdict.specs.Items.{Read, Way, is, not}
-use Rattle.verdict.specs.Items.Laws.{unread}
-use Rattle.verdict.specs.Items.Sound.{same_value, same_place}
+use Rattle.verdict.proofs.Items.Laws.{unread}
+use Rattle.verdict.proofs.Items.Sound.{same_value, same_place}
 use Rattle.verdict.specs.Judge.{Row}
 use Rattle.read_items.specs.Meaning.{through}
 

@@ -7,7 +7,7 @@ use Rattle.grammar.specs.Content.{Version, Header}
 use Rattle.causes.specs.declared.Item.{Item as Name}
 use Rattle.causes.specs.declared.Item.TheVariants as item
 use Rattle.verdict.specs.Items.{Item, Way, is, not, next, pass, mark, version, country, names, date, last, Names}
-use Rattle.verdict.specs.Items.Sound.{steps, steps_on, same_value}
+use Rattle.verdict.proofs.Items.Sound.{steps, steps_on, same_value}
 use Rattle.read_names.specs.Meaning.{measured}
 use Rattle.verdict.specs.Judge.{header}
 use Rattle.read_header.specs.Steps.{Fields, Dated, fields, dated}

@@ -21,7 +21,7 @@ use Rattle.causes.specs.declared.Why.{Why}
 use Rattle.read_items.specs.declared.cursor.Refusal.{Refusal}
 use Rattle.verdict.specs.Items.{Item, Way, why, next, is, not, whole, byte, mark, version, last, last_in, date, date_in, plain_in, der_of}
 use Rattle.verdict.specs.Items.{der_length, mark_in, version_at, version_in}
-use Rattle.verdict.specs.Items.Laws.{whole_read, unread}
+use Rattle.verdict.proofs.Items.Laws.{whole_read, unread}
 use Rattle.read_items.specs.Meaning.{because, past}
 
 -- an item that is not read ends the reading, under its name

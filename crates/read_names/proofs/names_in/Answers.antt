@@ -7,7 +7,7 @@ use mathlib.Core.List.{List, ◌++◌}
 use Prim.Native.Nat.{ℕ, ◌+◌, ◌*◌, ◌-◌, ◌≤◌}
 use lib.ListN.{length, take, drop, get_or, length-append, length-drop}
 use lib.Seq.{length-take-le}
-use Rattle.format.specs.Hex.Laws.{value_most}
+use Rattle.format.proofs.Hex.Laws.{value_most}
 use Rattle.causes.specs.declared.Item.TheVariants as item
 use Rattle.verdict.specs.Items.{names, field, in_nine, in_six}
 use Rattle.read_items.specs.Meaning.{step_of, refused, through}

@@ -11,8 +11,8 @@ use Rattle.c40.specs.Decode.{decode}
 use Rattle.causes.specs.declared.Rule.{Rule}
 use Rattle.causes.specs.declared.Rule.TheVariants as rule
 use Rattle.verdict.specs.Items.{Item, Exact, exact, wrong_at, is, not, pass, whole, exactly, judged_by, field_in, field}
-use Rattle.verdict.specs.Items.Sound.{length_taken}
-use Rattle.verdict.specs.Items.Wrong.{wrong_first}
+use Rattle.verdict.proofs.Items.Sound.{length_taken}
+use Rattle.verdict.proofs.Items.Wrong.{wrong_first}
 use Rattle.read_items.specs.Meaning.Laws.{whole_is, whole_none, past_whole}
 use Rattle.read_items.specs.Meaning.{whole_of, past}
 use Rattle.read_names.specs.Meaning.{any_text}

@@ -15,7 +15,7 @@ use Rattle.octets.specs.Copy.{copied}
 use Rattle.causes.specs.declared.Rule.{Rule}
 use Rattle.causes.specs.declared.Why.{Why}
 use Rattle.verdict.specs.Items.{Item, Way, is, not, Names}
-use Rattle.verdict.specs.Items.Laws.{unread}
+use Rattle.verdict.proofs.Items.Laws.{unread}
 use Rattle.read_items.specs.Meaning.{through, value_or}
 use Rattle.read_names.specs.Meaning.{Measured, measured, text_over}
 use Rattle.read_items.specs.declared.cursor.Refusal.{Refusal}

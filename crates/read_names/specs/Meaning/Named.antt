@@ -15,8 +15,8 @@ use Rattle.causes.specs.declared.Rule.{Rule}
 use Rattle.causes.specs.declared.Rule.TheVariants as rule
 use Rattle.verdict.specs.Items.{Way, is, not, why, next, pass, field, in_country, country, length_in, is_hex, in_six, in_nine, in_reference}
 use Rattle.verdict.specs.Items.{named, after, names, Names}
-use Rattle.verdict.specs.Items.Fields.{letter_shown}
-use Rattle.verdict.specs.Items.FieldsSound.{field_keeps, kept_all}
+use Rattle.verdict.proofs.Items.Fields.{letter_shown}
+use Rattle.verdict.proofs.Items.FieldsSound.{field_keeps, kept_all}
 use Rattle.read_items.specs.Meaning.{because, through}
 use Rattle.read_items.specs.Meaning.Laws.{unread_on}
 use Rattle.read_names.specs.Meaning.{measured}

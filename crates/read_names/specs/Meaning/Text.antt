@@ -8,7 +8,7 @@ use Rattle.format.specs.Answers.{told, filled}
 use Rattle.format.specs.Places.{past_end}
 use Rattle.c40.specs.Decode.{Decoded, text, wrong, decode}
 use Rattle.c40.specs.Calls.{reading, reading_of}
-use Rattle.c40.specs.Calls.Laws.{reading_wrong, reading_no_room, reading_done}
+use Rattle.c40.proofs.Calls.Laws.{reading_wrong, reading_no_room, reading_done}
 use Rattle.c40.specs.OneToOne.{reading_one}
 use Rattle.pairs.specs.declared.decode.Fault.{Fault}
 use Rattle.c40.specs.declared.Reading.{Reading}

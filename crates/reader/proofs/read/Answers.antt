@@ -5,7 +5,8 @@ use native.Mathlib.Omega.{arith}
 use mathlib.Core.Path.{◌≡◌, ap, sym}
 use lib.ListN.{length}
 use lib.Seq.{length-take-le}
-use Rattle.reading.specs.Calls.Reads.{Accepted, accepted_version, reads_judged, named_room}
+use Rattle.reading.specs.Calls.Reads.{Accepted, accepted_version, named_room}
+use Rattle.reading.proofs.Calls.Reads.{reads_judged}
 use Rattle.reader.specs.Given.{given}
 use Rattle.reader.proofs.read.Goals as goal
 use Rattle.reader.proofs.read.Goals.{In-Good}

@@ -4,9 +4,9 @@ use Rattle.std.specs.Prelude.{◌≡◌, refl, ℕ, List, ◌++◌, map, length,
 use Rattle.std.proofs.Common.{ap, ◌∙◌, append_assoc, take_at, drop_at}
 use Rattle.std.proofs.Math.Option
 use Rattle.std.proofs.Math.Option.{some}
-use Rattle.versions.specs.Versions.Laws.{number_back_lem}
+use Rattle.versions.proofs.Versions.Laws.{number_back_lem}
 use Rattle.rows.specs.Rows.{table, rows_of}
-use Rattle.rows.specs.Rows.Laws.{rows_taken}
+use Rattle.rows.proofs.Rows.Laws.{rows_taken}
 use Rattle.verdict.specs.Judge.{Report, accepted}
 use Rattle.verdict.specs.Report.{content_of, feature_of}
 use Rattle.reading.specs.Calls.{answer_of, text, then}

@@ -10,21 +10,21 @@ use Rattle.octets.specs.Copy.{copied}
 use Rattle.grammar.specs.Content.{Version, three, four, Feature}
 use Rattle.grammar.specs.Publish.{length_of, header_zone}
 use Rattle.grammar.specs.Legal.{ReferenceSize}
-use Rattle.grammar.specs.Sizes.{features_most}
+use Rattle.grammar.proofs.Sizes.{features_most}
 use Rattle.rows.specs.Rows.{width, table}
 use Rattle.causes.specs.declared.Item.TheVariants as item
 use Rattle.causes.specs.declared.Rule.TheVariants as rule
 use Rattle.verdict.specs.Items.{Way, is, not, why}
-use Rattle.verdict.specs.Items.Sound.{steps, same_value}
+use Rattle.verdict.proofs.Items.Sound.{steps, same_value}
 use Rattle.verdict.specs.Judge.{Report, Verdict, accepted, refused, header, features, signature, verdict, reading as reading_of, judging}
 use Rattle.verdict.specs.Judge.{judge}
-use Rattle.verdict.specs.Judge.Complete.{report_of}
-use Rattle.verdict.specs.Judge.Features.{rows_of}
-use Rattle.verdict.specs.Judge.Sound.{verdict_read, unaccepted}
+use Rattle.verdict.proofs.Judge.Complete.{report_of}
+use Rattle.verdict.proofs.Judge.Features.{rows_of}
+use Rattle.verdict.proofs.Judge.Sound.{verdict_read, unaccepted}
 use Rattle.reading.specs.FeatureRows.{rows_at, rows_read, AreRead}
 use Rattle.reading.specs.FeatureRows.Laws.{rows_there, rows_are}
 use Rattle.reading.specs.Calls.{answer_of, outcome_of, judgement_of, text, given, reading, rows_in, text_in, then, Named}
-use Rattle.verdict.specs.Judge.Seals.{accepted_only}
+use Rattle.verdict.proofs.Judge.Seals.{accepted_only}
 use Rattle.reading.specs.declared.Reading.{Reading}
 use Rattle.reading.specs.declared.Judgement.{Judgement}
 use Rattle.reading.specs.declared.Outcome.TheVariants as outcome
@@ -37,7 +37,7 @@ Reads s rows names r rows' names' =
     × ((rows' ≡ then (rows_in (reading s (length rows) (length names))) rows)
     × (names' ≡ then (text_in (reading s (length rows) (length names))) names))
 
-abbrev Leaves : List ℕ → List ℕ → Reading → List ℕ → List ℕ → Verdict → Type 0
+abbrev pub Leaves : List ℕ → List ℕ → Reading → List ℕ → List ℕ → Verdict → Type 0
 Leaves rows names r rows' names' v = (r ≡ answer_of v) × ((rows' ≡ then (rows_in v) rows) × (names' ≡ then (text_in v) names))
 
 -- a refusal leaves both as they were
@@ -61,25 +61,6 @@ reads_accepted s rows names r rows' names' report e a t x = subst (Leaves rows n
 pub judged_answer : (s : List ℕ) (q : Judgement) → q ≡ judgement_of (judging s) → q.reading ≡ answer_of (judge s)
 unfolding judge
 judged_answer s q a = ap (λ j. j.reading) a
-
--- a refusal is answered whatever the room
-leaves :
-    (rows names : List ℕ) (i : Way Report) (r : Reading) (w : Refusal) →
-    outcome_of i ≡ outcome.Not w →
-    r ≡ answer_of (verdict i) →
-    Leaves rows names r rows names (given (length rows) (length names) (verdict i))
-leaves rows names (is q at) r w without a = let z : ◌≡◌ {A = ℕ} 0 1 = cc in absurd (omega arith)
-leaves rows names (not y place) r w without a = (a, (refl, refl))
-
-pub reads_judged :
-    (s rows names : List ℕ) (q : Judgement) →
-    q ≡ judgement_of (judging s) →
-    (w : Refusal) →
-    q.outcome ≡ outcome.Not w →
-    Reads s rows names q.reading rows names
-unfolding judge
-reads_judged s rows names q a w without =
-    leaves rows names (judging s) q.reading w (sym (ap (λ j. j.outcome) a) ∙ without) (ap (λ j. j.reading) a)
 
 -- a seal that was accepted: its report, and the sizes that its content has
 pub record Accepted (s : List ℕ) (r : Reading) (v : Version) : Type 0 where

@@ -8,8 +8,8 @@ use Rattle.grammar.specs.Content.{Version}
 use Rattle.causes.specs.declared.Item.TheVariants as item
 use Rattle.causes.specs.declared.Rule.TheVariants as rule
 use Rattle.verdict.specs.Items.{Way, is, not, why, pass, byte, plain_in}
-use Rattle.verdict.specs.Items.Laws.{unread, whole_read}
-use Rattle.verdict.specs.Items.Sound.{steps, steps_on, same_value, same_place}
+use Rattle.verdict.proofs.Items.Laws.{unread, whole_read}
+use Rattle.verdict.proofs.Items.Sound.{steps, steps_on, same_value, same_place}
 use Rattle.read_items.specs.Meaning.Laws.{whole_is, read_byte}
 use Rattle.verdict.specs.Judge.{Row, used, tag_in, tag, row, features}
 use Rattle.reading.specs.FeatureRows.{rows_at, rows_read, AreRead}

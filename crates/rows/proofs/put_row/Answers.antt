@@ -4,9 +4,9 @@ use borrow.Author.Rules.{rules}
 use native.Mathlib.Omega.{arith}
 use mathlib.Core.Path.{refl, ◌∙◌}
 use lib.ListN.{length-set}
-use Rattle.format.specs.Buffer.Laws.{over_four}
+use Rattle.format.proofs.Buffer.Laws.{over_four}
 use Rattle.rows.specs.Rows.{numbers}
-use Rattle.rows.specs.Rows.Laws.{put_none, put_row}
+use Rattle.rows.proofs.Rows.Laws.{put_none, put_row}
 use Rattle.rows.proofs.put_row.Goals as goal
 
 pub returns-then-n-at : goal.returns-then-n-at

@@ -3,7 +3,7 @@
 use borrow.Author.Rules.{rules}
 use native.Mathlib.Omega.{arith}
 use Rattle.rows.specs.Rows.{row_at}
-use Rattle.rows.specs.Rows.Laws.{no_row, one_row}
+use Rattle.rows.proofs.Rows.Laws.{no_row, one_row}
 use Rattle.rows.proofs.row_at.Goals as goal
 
 pub returns-then-n-lt-WIDTH : goal.returns-then-n-lt-WIDTH

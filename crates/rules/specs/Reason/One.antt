@@ -9,15 +9,15 @@ use Rattle.format.specs.Choice.{pick}
 use Rattle.format.specs.Choice.Laws.{by_test}
 use Rattle.format.specs.Cut.{Cut}
 use Rattle.c40.specs.Text.{Text, TextOf, width, publish as c40}
-use Rattle.c40.specs.Exact.{cut_text}
+use Rattle.c40.proofs.Exact.{cut_text}
 use Rattle.der.specs.Length.{Sized, form}
-use Rattle.der.specs.Length.Exact.{cut_form}
+use Rattle.der.proofs.Lengths.Exact.{cut_form}
 use Rattle.grammar.specs.Content.{Version, three, four}
 use Rattle.format.specs.Hex.{hex_digit, hex_value}
-use Rattle.format.specs.Hex.Laws.{digit_value}
+use Rattle.format.proofs.Hex.Laws.{digit_value}
 use Rattle.versions.specs.Versions.{version_byte}
 use Rattle.grammar.specs.Publish.{length_of, hex_digits}
-use Rattle.c40.specs.Wrong.{one_first}
+use Rattle.c40.proofs.Wrong.{one_first}
 use Rattle.rules.specs.Rules.{Here, Carries, Digits, Rule, Keeps, Placed}
 use Rattle.rules.specs.Layout.{Item, rules_of, At, start, on, Follows, to_mark, to_version, to_country, to_names, to_issued_3}
 use Rattle.rules.specs.Layout.{to_signer, to_reference, to_issued_4, to_signed, to_definition, to_category, to_tag, to_length}

@@ -6,13 +6,13 @@ use Rattle.std.proofs.Math.Option.{some}
 use Rattle.format.specs.Bytes.{All}
 use Rattle.grammar.specs.Content.{Version, Feature, Content}
 use Rattle.grammar.specs.Publish.{header_zone, message_zone, publish, length_of}
-use Rattle.grammar.specs.Theorems.{zones_add_up}
-use Rattle.versions.specs.Versions.Laws.{number_back_lem}
+use Rattle.grammar.proofs.Theorems.{zones_add_up}
+use Rattle.versions.proofs.Versions.Laws.{number_back_lem}
 use Rattle.rows.specs.Rows.{width, table}
-use Rattle.rows.specs.Rows.Laws.{rows_of_table, length_table, table_whole}
+use Rattle.rows.proofs.Rows.Laws.{rows_of_table, length_table, table_whole}
 use Rattle.verdict.specs.Judge.{Report, accepted}
-use Rattle.verdict.specs.Judge.Complete.{report_of}
-use Rattle.verdict.specs.Judge.Features.{rows_of as rows_from, zone_size}
+use Rattle.verdict.proofs.Judge.Complete.{report_of}
+use Rattle.verdict.proofs.Judge.Features.{rows_of as rows_from, zone_size}
 use Rattle.verdict.specs.Report.{part, feature_of, content_of as content_read}
 use Rattle.reading.specs.Calls.{answer_of, text, then}
 use Rattle.write_given.specs.Given.{content_as, content_of}

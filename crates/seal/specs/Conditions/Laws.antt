@@ -12,19 +12,19 @@ use Rattle.grammar.specs.Content.{Content}
 use Rattle.grammar.specs.Publish.{signature_zone, signed_bytes, publish}
 use Rattle.versions.specs.declared.Version.{Version}
 use Rattle.versions.specs.Versions.{version_number, version_of}
-use Rattle.versions.specs.Versions.Laws.{number_of_lem}
+use Rattle.versions.proofs.Versions.Laws.{number_of_lem}
 use Rattle.verdict.specs.Judge.{Report, Verdict, accepted, refused, judge}
 use Rattle.verdict.specs.Judge.Listed.{FromList, from_list}
-use Rattle.verdict.specs.Judge.Complete.{report_of}
-use Rattle.verdict.specs.Judge.Seals.{accepted_only}
+use Rattle.verdict.proofs.Judge.Complete.{report_of}
+use Rattle.verdict.proofs.Judge.Seals.{accepted_only}
 use Rattle.verdict.specs.Report.{content_of as content_read, feature_of}
-use Rattle.verdict.specs.Report.Laws.{reported}
+use Rattle.verdict.proofs.Report.Laws.{reported}
 use Rattle.rows.specs.Rows.{width, table, rows_of}
-use Rattle.rows.specs.Rows.Laws.{rows_most}
+use Rattle.rows.proofs.Rows.Laws.{rows_most}
 use Rattle.reading.specs.Calls.{answer_of, text, given, reading, rows_in, text_in, then}
 use Rattle.reading.specs.Answer.{content_in}
 use Rattle.reading.specs.Answer.Laws.{held}
-use Rattle.reading.specs.Theorems.{accepted_when}
+use Rattle.reading.proofs.Theorems.{accepted_when}
 use Rattle.writer.specs.Legal.Names.{three_of_lem}
 use Rattle.write_given.specs.Given.{Given, features_of, content_as, content_of}
 use Rattle.write_given.specs.Given.Laws.{Says, says}

@@ -1,7 +1,7 @@
 -- `shown::value_from` meets its contract: each way out and each turn by its law.
 -- Assumes nothing.
 use Rattle.std.proofs.Common.{arith}
-use Rattle.walk_steps.specs.Rows.Laws.{step_goes}
+use Rattle.walk_steps.proofs.Rows.Laws.{step_goes}
 use Rattle.shown.specs.Found.Laws.{left_none, left_is, left_more}
 use Rattle.shown.proofs.value_from.Goals as goal
 

@@ -9,7 +9,7 @@ use Rattle.reading.specs.declared.Part.{Part}
 use Rattle.walk_steps.specs.declared.Step.{Step}
 use Rattle.walk_steps.specs.Steps.{step_at}
 use Rattle.walk_steps.specs.Rows.{Finds}
-use Rattle.walk_steps.specs.Rows.Laws.{none_ahead, one_ahead}
+use Rattle.walk_steps.proofs.Rows.Laws.{none_ahead, one_ahead}
 use Rattle.shown.specs.declared.Value.{Value}
 use Rattle.shown.specs.declared.Value.TheVariants.{Is, NoValue}
 use Rattle.shown.specs.declared.Where.TheVariants.{Extension, Main, Neither}

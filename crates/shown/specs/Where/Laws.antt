@@ -10,7 +10,7 @@ use Rattle.verdict.specs.Judge.Listed.{FromList, from_list}
 use Rattle.walk_steps.specs.declared.Start.{Start}
 use Rattle.walk_steps.specs.Steps.{start_of}
 use Rattle.walk_steps.specs.Rows.{Finds}
-use Rattle.walk_steps.specs.Rows.Laws.{rows_found}
+use Rattle.walk_steps.proofs.Rows.Laws.{rows_found}
 use Rattle.shown.specs.declared.Where.{Where}
 use Rattle.shown.specs.declared.Where.TheVariants.{NotMain, NotExtension}
 use Rattle.shown.specs.Where.{look_up, where_is, IsShown}

@@ -14,7 +14,7 @@ use Rattle.format.specs.Quotient.{left_test}
 use Rattle.format.specs.Choice.Laws.{by_test}
 use Rattle.pairs.specs.Chart.{the_chart}
 use Rattle.pairs.specs.Pairs.{number, first, second, third, pair_of, chars_of}
-use Rattle.pairs.specs.Pairs.Laws.{pair_cases, pair_values, values_three, fault_told, apart}
+use Rattle.pairs.proofs.Pairs.Laws.{pair_cases, pair_values, values_three, fault_told, apart}
 use Rattle.unpack.proofs.is_full.Goals as goal
 use Rattle.unpack.proofs.is_full.Goals.{Else-number-gt64000}
 

@@ -4,8 +4,8 @@ use native.Mathlib.Omega.{arith}
 use mathlib.Core.Path.{◌≡◌, ◌∙◌}
 use Prim.Native.Nat.{◌+◌, ◌*◌, ◌-◌}
 use Rattle.pairs.specs.Pairs.{number, values, pair_of}
-use Rattle.pairs.specs.Pairs.Laws.{pair_zero, pair_values}
-use Rattle.pairs.specs.Pairs.Laws.{values_first, values_second, values_three, values_two, values_inner, values_third}
+use Rattle.pairs.proofs.Pairs.Laws.{pair_zero, pair_values}
+use Rattle.pairs.proofs.Pairs.Laws.{values_first, values_second, values_three, values_two, values_inner, values_third}
 use Rattle.unpack.proofs.pair_of.Goals as goal
 use Rattle.unpack.proofs.pair_of.Goals.{After-split-v}
 

@@ -5,7 +5,7 @@ use mathlib.Core.Path.{◌≡◌, ◌∙◌, ap, sym}
 use Prim.Native.Nat.{◌-◌}
 use lib.ListN.{get_or}
 use Rattle.pairs.specs.Chart.{char_in, value_of}
-use Rattle.pairs.specs.Pairs.Laws.{pair_large, pair_single, single_inner, single_none, single_stranger, single_one}
+use Rattle.pairs.proofs.Pairs.Laws.{pair_large, pair_single, single_inner, single_none, single_stranger, single_one}
 use Rattle.unpack.proofs.single.Goals as goal
 use Rattle.unpack.proofs.single.Goals.{After-t13-1}
 

@@ -5,7 +5,7 @@ use borrow.Author.Rules.{rules}
 use native.Mathlib.Omega.{arith}
 use Prim.Native.Nat.{◌-◌}
 use lib.ListN.{length}
-use Rattle.walk_steps.specs.Rows.Laws.{step_goes}
+use Rattle.walk_steps.proofs.Rows.Laws.{step_goes}
 use Rattle.walk_lines.specs.Lines.Laws.{Telling, telling_start, telling_end, telling_more}
 use Rattle.walk_lines.proofs.put_features.Goals as goal
 

@@ -17,7 +17,7 @@ use Rattle.walk_steps.specs.declared.Start.{Start}
 use Rattle.walk_steps.specs.declared.Step.{Step}
 use Rattle.walk_steps.specs.Steps.{start_of, step_at}
 use Rattle.walk_steps.specs.Rows.{Finds}
-use Rattle.walk_steps.specs.Rows.Laws.{rows_found, none_ahead, one_ahead}
+use Rattle.walk_steps.proofs.Rows.Laws.{rows_found, none_ahead, one_ahead}
 use Rattle.walk_lines.specs.Lines.{feature, feature_lines, text_of, Tells, Enough}
 
 -- the line of a feature, as it is put together

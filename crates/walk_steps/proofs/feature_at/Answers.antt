@@ -4,7 +4,7 @@ use borrow.Author.Rules.{rules}
 use mathlib.Core.Path.{◌≡◌, ap, sym, ◌∙◌}
 use Rattle.verdict.specs.Items.{is, byte, plain_in, feature_length}
 use Rattle.read_items.specs.Meaning.{byte_of, number_of, whole_of}
-use Rattle.walk_steps.specs.Steps.Laws.{no_tag, at_mark, no_length, no_value, whole_feature}
+use Rattle.walk_steps.proofs.Steps.Laws.{no_tag, at_mark, no_length, no_value, whole_feature}
 use Rattle.walk_steps.proofs.feature_at.Goals as goal
 use Rattle.walk_steps.proofs.feature_at.Goals.{In-Is, In-Is-feature_length}
 

@@ -3,7 +3,7 @@
 use borrow.Author.Rules.{rules}
 use mathlib.Core.Path.{subst, ◌∙◌}
 use Rattle.walk_steps.specs.Short.{IsShort}
-use Rattle.walk_steps.specs.Steps.Laws.{step_closed}
+use Rattle.walk_steps.proofs.Steps.Laws.{step_closed}
 use Rattle.walk_steps.proofs.quick_step.Goals as goal
 
 pub returns-then-at-eq0 : goal.returns-then-at-eq0

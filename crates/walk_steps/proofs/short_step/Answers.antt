@@ -4,7 +4,7 @@ use borrow.Author.Rules.{rules}
 use native.Mathlib.Omega.{arith}
 use mathlib.Core.Path.{ap, sym, ◌∙◌}
 use Rattle.read_items.specs.Meaning.{edition_of, byte_of, whole_of}
-use Rattle.walk_steps.specs.Steps.Laws.{short_feature}
+use Rattle.walk_steps.proofs.Steps.Laws.{short_feature}
 use Rattle.walk_steps.proofs.short_step.Goals as goal
 
 pub returns : goal.returns

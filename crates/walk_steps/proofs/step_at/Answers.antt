@@ -3,7 +3,7 @@
 use borrow.Author.Rules.{rules}
 use mathlib.Core.Path.{ap, sym, ◌∙◌}
 use Rattle.read_items.specs.Meaning.{edition_of}
-use Rattle.walk_steps.specs.Steps.Laws.{step_closed, no_version, step_versioned}
+use Rattle.walk_steps.proofs.Steps.Laws.{step_closed, no_version, step_versioned}
 use Rattle.walk_steps.proofs.step_at.Goals as goal
 
 pub returns-then-at-eq0 : goal.returns-then-at-eq0

@@ -3,7 +3,7 @@
 use borrow.Author.Rules.{rules}
 use lib.ListN.{replicate}
 use Rattle.why_words.specs.Calls.Laws.{longest_words}
-use Rattle.why_lines.specs.Lines.Laws.{words_back}
+use Rattle.why_lines.proofs.Lines.Laws.{words_back}
 use Rattle.why_lines.proofs.put_rule.Goals as goal
 
 pub returns : goal.returns

@@ -4,8 +4,8 @@ use borrow.Author.Rules.{rules}
 use native.Mathlib.Omega.{arith}
 use mathlib.Core.Path.{ap}
 use Rattle.why.specs.Told.{told}
-use Rattle.why_lines.specs.Lines.Laws.{whole, enough}
-use Rattle.why_lines.specs.Room.{Word, room}
+use Rattle.why_lines.proofs.Lines.Laws.{whole, enough}
+use Rattle.why_lines.proofs.Room.{Word, room}
 use Rattle.why_lines.proofs.tell.Goals as goal
 
 pub returns : goal.returns

@@ -7,7 +7,7 @@ use Rattle.pairs.specs.Chart.{InChart}
 use Rattle.c40.specs.Text.{Text}
 use Rattle.grammar.specs.Content.{Version}
 use Rattle.grammar.specs.Legal.{ReferenceCharacter, ReferenceSize}
-use Rattle.grammar.specs.Parts.{Names, signer_text, reference_text}
+use Rattle.grammar.proofs.Parts.{Names, signer_text, reference_text}
 use Rattle.fields.specs.Characters.{is_reference}
 use Rattle.fields.specs.Characters.Grammar.{reference_of, all_of, signer_of}
 use Rattle.write_given.specs.Tests.Laws.{size_any, reference_size}

@@ -9,7 +9,7 @@ use Prim.Native.Nat.{ℕ, ◌+◌, ◌-◌, ◌≤◌}
 use mathlib.Core.List.{List}
 use lib.ListN.{length}
 use Rattle.rows.specs.Rows.{width, row_at}
-use Rattle.rows.specs.Rows.Laws.{found_none, found_row_lem}
+use Rattle.rows.proofs.Rows.Laws.{found_none, found_row_lem}
 use Rattle.write_rows.specs.Table.{Judged, judged_start, judged_end, judged_tag, judged_used, judged_outside, judged_more}
 use Rattle.write_rows.proofs.are_rows.Goals as goal
 use Rattle.write_rows.proofs.are_rows.Goals.{At-loop-row, In-Is}

@@ -7,7 +7,7 @@ use Prim.Native.Nat.{ℕ, ◌+◌, ◌-◌, ◌≤◌}
 use mathlib.Core.List.{List}
 use lib.ListN.{length, drop}
 use Rattle.rows.specs.Rows.{width, row_at, rows_of}
-use Rattle.rows.specs.Rows.Laws.{found_none, found_row_lem}
+use Rattle.rows.proofs.Rows.Laws.{found_none, found_row_lem}
 use Rattle.write_rows.specs.Tests.{are_short}
 use Rattle.write_rows.specs.Table.{values_four, short_end, short_stops, short_more}
 use Rattle.write_rows.proofs.are_values.Goals as goal

@@ -8,7 +8,7 @@ use Prim.Native.Nat.{ℕ, ◌+◌, ◌-◌, ◌≤◌}
 use mathlib.Core.List.{List}
 use lib.ListN.{length}
 use Rattle.rows.specs.Rows.{width, row_at}
-use Rattle.rows.specs.Rows.Laws.{found_none, found_row_lem}
+use Rattle.rows.proofs.Rows.Laws.{found_none, found_row_lem}
 use Rattle.write_size.specs.SealSize.Laws.{Summed, summed_start, summed_end, summed_great, summed_past, summed_more, width_small}
 use Rattle.write_size.proofs.rows_size.Goals as goal
 use Rattle.write_size.proofs.rows_size.Goals.{After-width_of, At-loop-row, In-Is}

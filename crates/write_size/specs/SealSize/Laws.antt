@@ -3,11 +3,11 @@
 use Rattle.std.specs.Prelude.{◌≡◌, refl, ℕ, ◌+◌, ◌*◌, ◌/◌, ◌<◌, ◌≤◌, min, List, [], ◌∷◌, length, drop}
 use Rattle.std.proofs.Common.{ap, sym, ◌∙◌, arith}
 use Rattle.der.specs.Length.{written}
-use Rattle.der.specs.Length.Written.{written_form, written_some}
+use Rattle.der.proofs.Lengths.Written.{written_form, written_some}
 use Rattle.grammar.specs.Publish.{length_of}
 use Rattle.rows.specs.declared.Row.{Row}
 use Rattle.rows.specs.Rows.{width, row_at, rows_of}
-use Rattle.rows.specs.Rows.Laws.{rows_here, rows_end}
+use Rattle.rows.proofs.Rows.Laws.{rows_here, rows_end}
 use Rattle.grammar.specs.Content.{Version, three, four}
 use Rattle.write_size.specs.SealSize.{rows_size, names_size}
 

@@ -6,7 +6,7 @@ use Rattle.std.proofs.Common.{sym, ◌∙◌, arith, append_assoc, append-nil, l
 use Rattle.format.specs.BigEndian.{be}
 use Rattle.format.specs.BigEndian.Laws.{length_be, be_two}
 use Rattle.format.specs.Buffer.{over}
-use Rattle.format.specs.Buffer.Laws.{over_none, length_over, over_over}
+use Rattle.format.proofs.Buffer.Laws.{over_none, length_over, over_over}
 use Rattle.format.specs.Places.{at_place, past_end}
 use Rattle.octets.specs.Copy.{copied, reached}
 use Rattle.octets.specs.Copy.Laws.{copied_all, reached_all}

@@ -7,7 +7,7 @@ use mathlib.Core.Option.{some}
 use Prim.Native.Nat.{ℕ}
 use lib.ListN.{length}
 use Rattle.format.specs.Answers.{filled}
-use Rattle.format.specs.Answers.Laws.{gives}
+use Rattle.format.proofs.Answers.Laws.{gives}
 use Rattle.versions.specs.declared.Version.{Version}
 use Rattle.versions.specs.Versions.{version_of, stated_of}
 use Rattle.grammar.specs.Publish.{publish}

@@ -15,7 +15,7 @@ use Rattle.grammar.specs.Legal.{ValueSize, Unused, LegalFeatures}
 use Rattle.verdict.specs.Report.{feature_of}
 use Rattle.rows.specs.declared.Row.{Row}
 use Rattle.verdict.specs.Judge.{used}
-use Rattle.verdict.specs.Items.Sound.{length_taken}
+use Rattle.verdict.proofs.Items.Sound.{length_taken}
 use Rattle.write_rows.specs.Tests.{is_row, are_rows, are_sized}
 use Rattle.write_rows.specs.Tests.Laws.{sized_head, sized_cons, sized_none}
 

@@ -6,7 +6,7 @@ use Rattle.format.specs.Choice.{both, either}
 use Rattle.format.specs.Bytes.{All}
 use Rattle.grammar.specs.Content.{Version, three, four}
 use Rattle.grammar.specs.Legal.{Letter, Filler, Country, Signer, ReferenceCharacter, ReferenceSize}
-use Rattle.grammar.specs.Pins.{filled_three}
+use Rattle.grammar.proofs.Pins.{filled_three}
 use Rattle.format.specs.Choice.Laws.{both_true, both_are, either_true, either_left, either_right, within_true, within_both}
 use Rattle.fields.specs.Characters.Grammar.{letter, reference_passes, all_pass, signer_passes}
 use Rattle.fields.specs.Characters.{is_letter, is_reference, all, is_signer, is_country}

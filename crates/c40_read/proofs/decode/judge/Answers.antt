@@ -9,12 +9,12 @@ use lib.Dec.{eqb}
 use lib.ListN.{length, get_or}
 use Rattle.pairs.specs.Chart.{the_chart}
 use Rattle.pairs.specs.Pairs.{pair_of, chars_of}
-use Rattle.pairs.specs.Pairs.Laws.{chars_most, by_chart}
+use Rattle.pairs.proofs.Pairs.Laws.{chars_most, by_chart}
 use Rattle.pairs.specs.declared.decode.Fault.{Fault}
 use Rattle.pairs.specs.declared.decode.Pair.{Pair}
 use Rattle.pairs.specs.declared.decode.Pair.TheVariants.{Three, Two, One, Wrong}
 use Rattle.c40.specs.Decode.{judged_of}
-use Rattle.c40.specs.Decode.Laws.{sofar_start, sofar_end}
+use Rattle.c40.proofs.Decode.Laws.{sofar_start, sofar_end}
 use Rattle.c40.specs.declared.Judged.TheVariants.{Text}
 use Rattle.c40_read.specs.Full.Laws.{Whole, stopped_wrong, stopped_whole}
 use Rattle.c40_read.proofs.decode.judge.Goals as goal

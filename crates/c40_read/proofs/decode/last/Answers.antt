@@ -9,7 +9,7 @@ use mathlib.Core.List.{List}
 use lib.ListN.{get_or}
 use Rattle.pairs.specs.Chart.{char}
 use Rattle.pairs.specs.Pairs.{number, first, second, third}
-use Rattle.pairs.specs.Pairs.Laws.{last_one, last_some, last_two, last_three}
+use Rattle.pairs.proofs.Pairs.Laws.{last_one, last_some, last_two, last_three}
 use Rattle.pairs.specs.declared.decode.Pair.TheVariants.{Two, Three}
 use Rattle.c40_read.proofs.decode.last.Goals as goal
 use Rattle.c40_read.proofs.decode.last.Goals.{After-split-v, Else-number-gt64000}

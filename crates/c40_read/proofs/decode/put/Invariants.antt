@@ -5,10 +5,10 @@ use Prim.Native.Nat.{ℕ, ◌+◌, ◌-◌, ◌%◌, ◌≤◌}
 use mathlib.Core.List.{List, [], ◌++◌}
 use lib.ListN.{length}
 use Rattle.format.specs.Buffer.{over}
-use Rattle.format.specs.Buffer.Laws.{Held, held_start, held_more, held_length}
+use Rattle.format.proofs.Buffer.Laws.{Held, held_start, held_more, held_length}
 use Rattle.pairs.specs.Pairs.{chars_of}
 use Rattle.c40.specs.Decode.{text_of, decode}
-use Rattle.c40.specs.Decode.Laws.{Sofar, Inner, Last, sofar_start, sofar_inner, sofar_last, sofar_end}
+use Rattle.c40.proofs.Decode.Laws.{Sofar, Inner, Last, sofar_start, sofar_inner, sofar_last, sofar_end}
 use Rattle.c40_read.proofs.decode.put.Given as goal
 
 abbrev pub invariant-loop-i : goal.invariant-loop-i

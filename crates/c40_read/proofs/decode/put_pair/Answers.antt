@@ -6,7 +6,7 @@ use mathlib.Core.Path.{◌∙◌, ap, sym}
 use Prim.Native.Nat.{◌+◌, ◌≤◌}
 use lib.ListN.{length, length-set}
 use Rattle.format.specs.Buffer.{over}
-use Rattle.format.specs.Buffer.Laws.{over_none, set_over, over_two, over_three}
+use Rattle.format.proofs.Buffer.Laws.{over_none, set_over, over_two, over_three}
 use Rattle.pairs.specs.Pairs.{chars_of}
 use Rattle.c40_read.proofs.decode.put_pair.Goals as goal
 use Rattle.c40_read.proofs.decode.put_pair.Goals.{In-One, In-Three, In-Two}

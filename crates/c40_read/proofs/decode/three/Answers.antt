@@ -10,7 +10,7 @@ use mathlib.Core.List.{List}
 use lib.ListN.{get_or}
 use Rattle.pairs.specs.Chart.{the_chart, char}
 use Rattle.pairs.specs.Pairs.{number, first, second, third, pair_of}
-use Rattle.pairs.specs.Pairs.Laws.{pair_full, chars_some}
+use Rattle.pairs.proofs.Pairs.Laws.{pair_full, chars_some}
 use Rattle.pairs.specs.declared.decode.Pair.TheVariants.{Three}
 use Rattle.c40_read.proofs.decode.three.Goals as goal
 use Rattle.c40_read.proofs.decode.three.Goals.{Start}

@@ -6,7 +6,7 @@ use mathlib.Core.Path.{◌≡◌}
 use Prim.Native.Nat.{ℕ, ◌+◌, ◌-◌, ◌<◌, ◌≤◌}
 use lib.ListN.{length, get_or, drop}
 use Rattle.c40.specs.Calls.{known}
-use Rattle.c40.specs.Calls.Laws.{known_more, known_here, known_end}
+use Rattle.c40.proofs.Calls.Laws.{known_more, known_here, known_end}
 use Rattle.c40_write.specs.Turned.{turned}
 use Rattle.c40_write.specs.Turned.Laws.{looked, no_mark, a_mark}
 use Rattle.c40_write.proofs.encode.known.Goals as goal

@@ -11,7 +11,7 @@ use Rattle.format.specs.BigEndian.{be}
 use Rattle.format.specs.BigEndian.Laws.{length_be}
 use Rattle.format.specs.Bytes.Laws.{all_at}
 use Rattle.format.specs.Buffer.{over}
-use Rattle.format.specs.Buffer.Laws.{Held, held_start, held_more, held_length}
+use Rattle.format.proofs.Buffer.Laws.{Held, held_start, held_more, held_length}
 use Rattle.pairs.specs.Chart.{InChart, value_of}
 use Rattle.pairs.specs.Chart.Laws.{char_below}
 use Rattle.c40.specs.Text.{publish}

@@ -6,7 +6,7 @@ use mathlib.Core.Path.{◌∙◌, ap}
 use lib.ListN.{length-set}
 use Rattle.format.specs.BigEndian.Laws.{be_two_low}
 use Rattle.format.specs.Buffer.{over}
-use Rattle.format.specs.Buffer.Laws.{over_two}
+use Rattle.format.proofs.Buffer.Laws.{over_two}
 use Rattle.c40_write.proofs.encode.put_number.Goals as goal
 
 pub bounds-out-at-2 : goal.bounds-out-at-2

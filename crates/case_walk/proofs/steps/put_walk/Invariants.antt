@@ -6,7 +6,7 @@ use Prim.Native.Nat.{◌-◌}
 use lib.ListN.{length}
 use Rattle.case_file.specs.Line.{Within}
 use Rattle.case_file.specs.Line.Laws.{within_more}
-use Rattle.walk_steps.specs.Rows.Laws.{step_goes}
+use Rattle.walk_steps.proofs.Rows.Laws.{step_goes}
 use Rattle.case_walk.proofs.steps.put_walk.Given as goal
 
 abbrev pub invariant-loop-start : goal.invariant-loop-start

@@ -3,7 +3,7 @@
 use borrow.Author.Rules.{rules}
 use mathlib.Core.Path.{◌∙◌, ap}
 use Rattle.dates.specs.Calls.{from_number}
-use Rattle.dates.specs.Days.Laws.{val_three}
+use Rattle.dates.proofs.Days.Laws.{val_three}
 use Rattle.dates.proofs.Date.from_bytes.Goals as goal
 
 pub returns : goal.returns

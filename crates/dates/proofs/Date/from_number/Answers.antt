@@ -9,8 +9,8 @@ use Prim.Native.Nat.{ℕ, ◌-◌, ◌*◌, ◌/◌, ◌%◌, ◌<◌, ◌≤◌
 use Rattle.format.specs.Answers.{result}
 use Rattle.format.specs.Quotient.{quotient}
 use Rattle.dates.specs.Days.{is_day, dated, date_of}
-use Rattle.dates.specs.Days.Laws.{no_day}
-use Rattle.dates.specs.Exact.{from_day, from_none}
+use Rattle.dates.proofs.Days.Laws.{no_day}
+use Rattle.dates.proofs.Exact.{from_day, from_none}
 use Rattle.dates.proofs.Date.from_number.Goals as goal
 
 -- past eight digits the month is past the last

@@ -3,7 +3,7 @@
 use native.Mathlib.Omega.{arith}
 use mathlib.Core.Path.{ap, ◌∙◌}
 use lib.Dec.{leb}
-use Rattle.dates.specs.Days.Laws.{no_day, last_test}
+use Rattle.dates.proofs.Days.Laws.{no_day, last_test}
 use Rattle.dates.proofs.Date.is_day.Goals as goal
 
 pub returns-then-self-first : goal.returns-then-self-first

@@ -4,8 +4,8 @@ use borrow.Author.Rules.{rules}
 use native.Mathlib.Omega.{arith}
 use mathlib.Core.Path.{◌∙◌, sym}
 use Rattle.dates.specs.Days.{Day}
-use Rattle.dates.specs.Days.Laws.{number_below}
-use Rattle.dates.specs.Exact.{to_day, to_none}
+use Rattle.dates.proofs.Days.Laws.{number_below}
+use Rattle.dates.proofs.Exact.{to_day, to_none}
 use Rattle.dates.proofs.Date.number.Goals as goal
 use Rattle.dates.proofs.Date.number.Goals.{Then-is_day}
 

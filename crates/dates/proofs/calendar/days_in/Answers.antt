@@ -9,7 +9,7 @@ use mir.Syntax.{w64}
 use mir.Val.{Fits}
 use Rattle.format.specs.Choice.{pick}
 use Rattle.dates.specs.Days.{days_in}
-use Rattle.dates.specs.Days.Calendar.{by_turns}
+use Rattle.dates.proofs.Days.Calendar.{by_turns}
 use Rattle.dates.proofs.calendar.days_in.Goals as goal
 use Rattle.dates.proofs.calendar.days_in.Goals.{Then-month-eq-FEBRUARY}
 

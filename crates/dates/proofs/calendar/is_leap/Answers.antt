@@ -5,7 +5,7 @@ use native.Mathlib.Omega.{arith}
 use mathlib.Core.Path.{ap, ◌∙◌}
 use lib.Bits.{and_mask}
 use lib.Dec.{eqb}
-use Rattle.dates.specs.Days.Calendar.{leap_by_16, leap_by_4, divided, not_divided}
+use Rattle.dates.proofs.Days.Calendar.{leap_by_16, leap_by_4, divided, not_divided}
 use Rattle.dates.proofs.calendar.is_leap.Goals as goal
 
 pub returns-then-year : goal.returns-then-year

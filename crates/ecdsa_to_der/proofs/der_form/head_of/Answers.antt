@@ -6,7 +6,7 @@ use mathlib.Core.List.{◌∷◌}
 use Prim.Native.Nat.{◌+◌}
 use lib.ListN.{length}
 use Rattle.der.specs.Length.{form}
-use Rattle.der.specs.Length.Written.{written_form}
+use Rattle.der.proofs.Lengths.Written.{written_form}
 use Rattle.ecdsa.specs.Signature.Laws.{head_most}
 use Rattle.ecdsa_to_der.proofs.der_form.head_of.Goals as goal
 use Rattle.ecdsa_to_der.proofs.der_form.head_of.Goals.{After-length_width}

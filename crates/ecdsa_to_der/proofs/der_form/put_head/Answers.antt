@@ -4,10 +4,10 @@ use native.Mathlib.Omega.{arith}
 use mathlib.Core.Path.{◌∙◌, ap}
 use mathlib.Core.List.{[], ◌∷◌}
 use lib.ListN.{set}
-use Rattle.format.specs.Buffer.Laws.{set_over}
+use Rattle.format.proofs.Buffer.Laws.{set_over}
 use Rattle.octets.specs.Copy.{copied}
 use Rattle.der.specs.Length.{form}
-use Rattle.der.specs.Length.Written.{written_form}
+use Rattle.der.proofs.Lengths.Written.{written_form}
 use Rattle.ecdsa_to_der.specs.Places.Laws.{behind}
 use Rattle.ecdsa_to_der.proofs.der_form.put_head.Goals as goal
 

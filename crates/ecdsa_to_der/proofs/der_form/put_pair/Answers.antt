@@ -6,10 +6,10 @@ use Prim.Native.Nat.{ℕ, ◌+◌, ◌<◌, ◌≤◌}
 use native.Mathlib.Nat.{zero-add}
 use mathlib.Core.List.{List, [], ◌∷◌, ◌++◌}
 use lib.ListN.{length}
-use Rattle.format.specs.Answers.Laws.{refuses, gives}
+use Rattle.format.proofs.Answers.Laws.{refuses, gives}
 use Rattle.format.specs.Order.Laws.{in_no_room, in_room_lem}
 use Rattle.format.specs.Buffer.{over}
-use Rattle.format.specs.Buffer.Laws.{Held, held_start, held_more, held_length}
+use Rattle.format.proofs.Buffer.Laws.{Held, held_start, held_more, held_length}
 use Rattle.der.specs.Length.{form}
 use Rattle.der.specs.Content.{integer}
 use Rattle.ecdsa.specs.Signature.{content_from}

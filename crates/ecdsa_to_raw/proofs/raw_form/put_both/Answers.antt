@@ -1,6 +1,6 @@
 -- `raw_form::put_both` meets its contract: no room, or r put down at the start and s after it.
 -- Assumes nothing.
-use Rattle.format.specs.Answers.Laws.{refuses, gives}
+use Rattle.format.proofs.Answers.Laws.{refuses, gives}
 use Rattle.ecdsa_to_raw.specs.Rawed.{rawed_no_room, rawed_done, both_many, both_put}
 use Rattle.ecdsa_to_raw.proofs.raw_form.put_both.Goals as goal
 

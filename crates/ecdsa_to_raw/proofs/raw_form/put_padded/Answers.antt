@@ -6,10 +6,10 @@ use Prim.Native.Nat.{ℕ, ◌+◌, ◌-◌}
 use mathlib.Core.List.{◌++◌}
 use lib.ListN.{length, take, drop, set, replicate, length-replicate}
 use Rattle.format.specs.Buffer.{over}
-use Rattle.format.specs.Buffer.Laws.{over_none, length_over}
+use Rattle.format.proofs.Buffer.Laws.{over_none, length_over}
 use Rattle.blocks.specs.Blocks.{part}
 use Rattle.ecdsa.specs.Strict.{padded}
-use Rattle.ecdsa.specs.Strict.Laws.{zero_more, length_padded, padded_put}
+use Rattle.ecdsa.proofs.Strict.Laws.{zero_more, length_padded, padded_put}
 use Rattle.ecdsa_to_raw.proofs.raw_form.put_padded.Goals as goal
 use Rattle.ecdsa_to_raw.proofs.raw_form.put_padded.Goals.{After-copy_lent, At-loop-i}
 

@@ -3,9 +3,9 @@
 use mathlib.Core.Path.{ap, sym, ◌∙◌}
 use lib.ListN.{length}
 use Rattle.format.specs.Answers.{told, filled}
-use Rattle.format.specs.Answers.Laws.{refuses}
+use Rattle.format.proofs.Answers.Laws.{refuses}
 use Rattle.ecdsa.specs.Strict.{padded, lastly}
-use Rattle.ecdsa.specs.Strict.Laws.{Inside, number_inside}
+use Rattle.ecdsa.proofs.Strict.Laws.{Inside, number_inside}
 use Rattle.ecdsa_to_raw.specs.Rawed.{rawed, rawed_none, second_left, second_is, number_fits}
 use Rattle.ecdsa_to_raw.proofs.raw_form.put_second.Goals as goal
 use Rattle.ecdsa_to_raw.proofs.raw_form.put_second.Goals.{In-Digits}

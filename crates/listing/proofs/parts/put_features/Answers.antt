@@ -8,7 +8,7 @@ use Prim.Native.Nat.{ℕ, ◌+◌, ◌-◌, ◌≤◌}
 use mathlib.Core.List.{List}
 use lib.ListN.{length}
 use Rattle.rows.specs.Rows.{width, row_at}
-use Rattle.rows.specs.Rows.Laws.{found_none, found_row_lem}
+use Rattle.rows.proofs.Rows.Laws.{found_none, found_row_lem}
 use Rattle.listing.specs.Listing.Laws.{Listing, listing_start, listing_all, listing_end, listing_more}
 use Rattle.listing.proofs.parts.put_features.Goals as goal
 use Rattle.listing.proofs.parts.put_features.Goals.{In-Is}

@@ -8,7 +8,7 @@ use mathlib.Core.List.{List}
 use Prim.Native.Nat.{ℕ, ◌≤◌, ◌<◌}
 use lib.ListN.{take, get_or}
 use Rattle.format.specs.Hex.{hex_value}
-use Rattle.format.specs.Hex.Laws.{value_most}
+use Rattle.format.proofs.Hex.Laws.{value_most}
 use Rattle.fields.specs.Characters.{is_signer}
 use Rattle.format.specs.Places.{first_four}
 use Rattle.causes.specs.declared.Rule.TheVariants as rule

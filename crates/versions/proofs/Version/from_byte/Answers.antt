@@ -1,6 +1,6 @@
 -- `Version::from_byte` meets its contract, test by test.
 -- Assumes nothing.
-use Rattle.versions.specs.Versions.Laws.{is_three, is_four, is_none}
+use Rattle.versions.proofs.Versions.Laws.{is_three, is_four, is_none}
 use Rattle.versions.proofs.Version.from_byte.Goals as goal
 
 pub returns-then-byte-eq2 : goal.returns-then-byte-eq2

@@ -1,6 +1,6 @@
 -- `Version::from_number` meets its contract, test by test.
 -- Assumes nothing.
-use Rattle.versions.specs.Versions.Laws.{is_three, is_four, is_none}
+use Rattle.versions.proofs.Versions.Laws.{is_three, is_four, is_none}
 use Rattle.versions.proofs.Version.from_number.Goals as goal
 
 pub returns-then-number-eq3 : goal.returns-then-number-eq3

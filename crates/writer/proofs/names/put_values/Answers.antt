@@ -6,7 +6,7 @@ use mathlib.Core.Path.{refl, ◌∙◌, ap}
 use lib.ListN.{length-set}
 use Rattle.format.specs.BigEndian.Laws.{be_two_low}
 use Rattle.format.specs.Buffer.{over}
-use Rattle.format.specs.Buffer.Laws.{over_two}
+use Rattle.format.proofs.Buffer.Laws.{over_two}
 use Rattle.pairs.specs.Pairs.{packed_of, triple}
 use Rattle.writer.proofs.names.put_values.Goals as goal
 

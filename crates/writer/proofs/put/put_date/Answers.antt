@@ -6,7 +6,7 @@ use mathlib.Core.Path.{refl}
 use Prim.Native.Nat.{◌+◌, ◌≤◌}
 use lib.ListN.{length, length-set}
 use Rattle.dates.specs.Days.{number_of}
-use Rattle.dates.specs.Days.Laws.{length_publish, number_below}
+use Rattle.dates.proofs.Days.Laws.{length_publish, number_below}
 use Rattle.writer.specs.Put.{put_date}
 use Rattle.writer.proofs.put.put_date.Goals as goal
 use Rattle.writer.proofs.put.put_date.Goals.{Start}

@@ -6,7 +6,7 @@ use Prim.Native.Nat.{ℕ, ◌+◌}
 use mathlib.Core.List.{List}
 use lib.ListN.{length}
 use Rattle.format.specs.Buffer.{over}
-use Rattle.format.specs.Buffer.Laws.{length_over}
+use Rattle.format.proofs.Buffer.Laws.{length_over}
 use Rattle.grammar.specs.Publish.{feature}
 use Rattle.writer.specs.Put.{feature_room, value_room, put_feature}
 use Rattle.writer.proofs.put.put_feature.Goals as goal

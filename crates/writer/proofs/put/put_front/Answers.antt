@@ -7,7 +7,7 @@ use Prim.Native.Nat.{ℕ, ◌<◌}
 use mathlib.Core.List.{List}
 use lib.ListN.{length, set, length-set}
 use Rattle.format.specs.Buffer.{over}
-use Rattle.format.specs.Buffer.Laws.{length_over}
+use Rattle.format.proofs.Buffer.Laws.{length_over}
 use Rattle.write_judge.specs.Needs.{front}
 use Rattle.write_judge.specs.Size.{headed_country, headed_named}
 use Rattle.writer.specs.Together.{front_room, names_room, put_front}

@@ -5,7 +5,7 @@ use native.Mathlib.Omega.{arith}
 use mathlib.Core.Path.{◌≡◌, ◌∙◌, ap, sym, subst}
 use lib.ListN.{length, length-set}
 use Rattle.der.specs.Length.{bytes_of}
-use Rattle.der.specs.Length.Written.{written_some}
+use Rattle.der.proofs.Lengths.Written.{written_some}
 use Rattle.der.specs.declared.Form.{Form}
 use Rattle.grammar.specs.Legal.{ValueSize}
 use Rattle.grammar.specs.Publish.{length_of}

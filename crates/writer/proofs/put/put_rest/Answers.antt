@@ -6,7 +6,7 @@ use Prim.Native.Nat.{◌+◌, ◌≤◌, ◌<◌}
 use mathlib.Core.List.{◌∷◌, [], ◌++◌}
 use lib.ListN.{length, set, length-set}
 use Rattle.format.specs.Buffer.{over}
-use Rattle.format.specs.Buffer.Laws.{length_over}
+use Rattle.format.proofs.Buffer.Laws.{length_over}
 use Rattle.dates.specs.Days.{publish as date}
 use Rattle.fields.specs.declared.Header.{Header}
 use Rattle.write_judge.specs.Needs.{rest}

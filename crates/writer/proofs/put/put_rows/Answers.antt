@@ -7,7 +7,7 @@ use Prim.Native.Nat.{ℕ, ◌+◌, ◌-◌, ◌≤◌}
 use mathlib.Core.List.{List}
 use lib.ListN.{length, take, drop}
 use Rattle.rows.specs.Rows.{width, row_at}
-use Rattle.rows.specs.Rows.Laws.{found_none, found_row_lem}
+use Rattle.rows.proofs.Rows.Laws.{found_none, found_row_lem}
 use Rattle.write_judge.specs.Needs.{Fits}
 use Rattle.writer.specs.Put.{Putting, putting_start, putting_length, putting_end, putting_fits, putting_asks, putting_more}
 use Rattle.writer.proofs.put.put_rows.Goals as goal

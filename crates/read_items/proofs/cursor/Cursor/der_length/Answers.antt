@@ -8,7 +8,7 @@ use lib.ListN.{length, drop, length-drop}
 use Rattle.format.specs.Places.{to_end}
 use Rattle.format.specs.Bytes.Laws.{bytes_drop}
 use Rattle.der.specs.Length.{read_length}
-use Rattle.der.specs.Length.Exact.{read_is_form}
+use Rattle.der.proofs.Lengths.Exact.{read_is_form}
 use Rattle.verdict.specs.Items.{not, der_of}
 use Rattle.read_items.specs.Meaning.Laws.{der_past}
 use Rattle.read_items.proofs.cursor.Cursor.der_length.Goals as goal

@@ -1,0 +1,5 @@
+pub mod Calls
+pub mod Decode
+pub mod Exact
+pub mod Refused
+pub mod Wrong

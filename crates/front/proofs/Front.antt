@@ -1,0 +1,3 @@
+-- Theorems on the module of this name in specs/, and an index.
+pub mod Crew
+pub mod Laws
