@@ -1,8 +1,13 @@
 -- `blocks::put_blocks` meets its contract. The loops' invariant: the first i bytes stand in `out`.
-use mathlib.Core.Path.{◌≡◌}
-use Prim.Native.Nat.{◌-◌, ◌≤◌}
-use lib.ListN.{length, take}
+use native.Mathlib.Omega.{arith}
+use mathlib.Core.Path.{◌≡◌, ap, sym, ◌∙◌}
+use Prim.Native.Nat.{◌+◌, ◌-◌, ◌≤◌}
+use lib.ListN.{length, take, drop, set, get_or}
+use lib.Seq.{length-take-le, take_all}
 use Rattle.format.specs.Buffer.{over}
+use Rattle.format.proofs.Buffer.Laws.{over_none, length_over}
+use Rattle.octets.specs.Copy.Laws.{one_more}
+use Rattle.blocks.specs.Blocks.{over_again, block}
 use Rattle.blocks.proofs.put_blocks.Given as goal
 
 abbrev pub invariant-loop-i : goal.invariant-loop-i

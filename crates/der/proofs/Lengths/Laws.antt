@@ -3,6 +3,7 @@
 use Rattle.std.specs.Prelude.{◌≡◌, refl, ℕ, ◌+◌, ◌-◌, ◌<◌, ◌≤◌, List, [], ◌∷◌, length, get_or, drop}
 use Rattle.std.proofs.Common.{ap, sym, ◌∙◌, arith, drop-cons}
 use borrow.Author.Tests.{lt-ltb, le-ltb}
+use Rattle.format.specs.Cut.{Cut}
 use Rattle.format.specs.BigEndian.{val}
 use Rattle.der.specs.Length.{least, long_form, read_length}
 use Rattle.der.specs.declared.Fault.TheVariants as fault

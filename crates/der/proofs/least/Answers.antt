@@ -1,8 +1,13 @@
 -- `der::least` meets its contract, one width a case.
 -- Assumes nothing.
-use mathlib.Core.Path.{ap, sym}
+use native.Mathlib.Omega.{arith}
+use Prim.Native.Nat.{ℕ, ◌<◌}
+use mathlib.Core.Path.{◌≡◌, ap, sym}
 use Rattle.der.specs.Length.{least}
 use Rattle.der.proofs.least.Goals as goal
+
+four : (k : ℕ) → 0 < k → k < 5 → (k ≡ 1 → ⊥) → (k ≡ 2 → ⊥) → (k ≡ 3 → ⊥) → 4 ≡ k
+four k low high one two three = omega arith
 
 pub returns-in-1 : goal.returns-in-1
 returns-in-1 c = ap least (sym c.in-1.is)

@@ -1,5 +1,6 @@
 -- `der::long_form` meets its contract: each `return` is one case of the definition, with the tests that led there.
 -- Assumes nothing.
+use borrow.Author.Rules.{rules}
 use native.Mathlib.Omega.{arith}
 use native.Mathlib.Nat.{add-sub_cancel}
 use mathlib.Core.Path.{◌≡◌, ◌∙◌, ap, sym, subst}
@@ -36,6 +37,12 @@ value c =
 
 pub returns-then-s-k : goal.returns-then-s-k
 returns-then-s-k c = let a = c.args in sym (long_cut a.k (drop 1 a.s.now) (missing a.s.now a.k c.if-s-k.true))
+
+-- GONE overflow-sub-number
+
+-- GONE slice-bounds-number-start
+
+-- GONE slice-bounds-number-end
 
 pub returns-then-value-least : goal.returns-then-value-least
 returns-then-value-least c =

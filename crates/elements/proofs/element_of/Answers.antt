@@ -1,6 +1,7 @@
 -- `elements::element_of` meets its contract: each answer is one case of the definition. A length that was read is whole, so
 -- the body starts inside.
 -- Assumes nothing.
+use borrow.Author.Rules.{rules}
 use native.Mathlib.Omega.{arith}
 use mathlib.Core.Path.{◌≡◌, ◌∙◌, ap, sym}
 use Prim.Native.Nat.{ℕ, ◌-◌}
@@ -30,10 +31,16 @@ returns-then-n-eq0 c = element_none _ _ (omega arith)
 pub returns-then-s-tag : goal.returns-then-s-tag
 returns-then-s-tag c = element_other _ _ (omega arith) c.if-s-tag.true
 
+-- GONE overflow-sub-read-length
+
+-- GONE slice-bounds-read-length-start
+
+-- GONE slice-bounds-read-length-end
+
 pub body_in-requires : goal.body_in-requires
 body_in-requires c =
     let s = whole (goal.at.body_in-requires c).After-read_length-read in
-    let bytes = bytes_drop 1 s (λ i. (c.type_inv.s i).fits) in
+    let bytes = bytes_drop 1 s (λ i. (c.shared_slice_known-1.given i).fits) in
     let taken = read_is_form (drop 1 s) bytes c.in-Is.size c.in-Is.width
     (sym (rest (goal.at.body_in-requires c).After-read_length-read) ∙ c.in-Is.is) in
     (omega (arith, taken.there, length-drop 1 s), omega arith)

@@ -1,5 +1,6 @@
 -- `elements::put_length` meets its contract: the bytes of the form in stores one after another, where there is room for all of them.
 -- Assumes nothing.
+use borrow.Author.Rules.{rules}
 use native.Mathlib.Omega.{arith}
 use native.Mathlib.Nat.{add-zero}
 use mathlib.Core.Path.{◌≡◌, ◌∙◌, ap, sym}

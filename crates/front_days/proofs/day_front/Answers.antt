@@ -1,5 +1,6 @@
 -- `front_days::day_front` meets its contract: by how many bytes are left, and of three by whether they are a day.
 -- Assumes nothing.
+use borrow.Author.Rules.{rules}
 use native.Mathlib.Omega.{arith}
 use mathlib.Core.Path.{ap, sym, ◌∙◌}
 use Prim.Native.Nat.{◌+◌, ◌≤◌}

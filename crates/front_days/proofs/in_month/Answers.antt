@@ -1,5 +1,6 @@
 -- `front_days::in_month` meets its contract: the month is a product and a shift, and each test is the definition's.
 -- Assumes nothing.
+use borrow.Author.Rules.{rules}
 use native.Mathlib.Omega.{arith}
 use mathlib.Core.Path.{ap, ap₂, ◌∙◌}
 use Prim.Native.Nat.{◌-◌, ◌*◌}

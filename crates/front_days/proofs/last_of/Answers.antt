@@ -2,7 +2,7 @@
 -- Assumes nothing.
 use mathlib.Core.Path.{ap, sym}
 use Rattle.front_days.specs.Days.{last_of}
-use Rattle.front_days.specs.Days.Tests.{last_thirty}
+use Rattle.front_days.specs.Days.Tests.{last_thirty, last_other}
 use Rattle.front_days.proofs.last_of.Goals as goal
 
 pub returns-in-4 : goal.returns-in-4

@@ -1,5 +1,6 @@
 -- `front_days::one_front` meets its contract.
 -- Assumes nothing.
+use borrow.Author.Rules.{rules}
 use mathlib.Core.Path.{ap, sym, ◌∙◌}
 use Prim.Native.Nat.{◌*◌}
 use Rattle.format.specs.Choice.{pick}

@@ -1,5 +1,6 @@
 -- `front_days::some_day` meets its contract: the first number is in a month's run, or the last tells.
 -- Assumes nothing.
+use borrow.Author.Rules.{rules}
 use mathlib.Core.Path.{ap, sym, ◌∙◌}
 use Prim.Native.Nat.{◌+◌}
 use Rattle.format.specs.Choice.{either}

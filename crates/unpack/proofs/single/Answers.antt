@@ -1,5 +1,6 @@
 -- `unpack::single` meets its contract: each `return` is one case of the definition.
 -- Assumes nothing.
+use borrow.Author.Rules.{rules}
 use native.Mathlib.Omega.{arith}
 use mathlib.Core.Path.{◌≡◌, ◌∙◌, ap, sym}
 use Prim.Native.Nat.{◌-◌}

@@ -1,5 +1,6 @@
 -- `places::ends` meets its contract: the place of a number is its second value, forty times, and its third.
 -- Assumes nothing.
+use borrow.Author.Rules.{rules}
 use Prim.Native.Nat.{◌+◌}
 use Rattle.front_pairs.specs.Pairs.Laws.{place_values}
 use Rattle.front_pairs.proofs.places.ends.Goals as goal

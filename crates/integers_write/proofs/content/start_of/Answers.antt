@@ -1,7 +1,12 @@
 -- `content::start_of` meets its contract. The loop's invariant: the bytes passed are redundant.
 -- Assumes nothing.
+use borrow.Author.Rules.{rules}
+use borrow.Author.Tests.{not-true, not-false}
 use native.Mathlib.Omega.{arith}
-use mathlib.Core.Path.{◌∙◌, refl, sym}
+use mathlib.Core.Path.{◌≡◌, ◌∙◌, refl, sym}
+use Prim.Native.Nat.{◌-◌, ◌≤◌}
+use lib.ListN.{drop}
+use Rattle.der.specs.Content.{shortest}
 use Rattle.integers.specs.Integer.Laws.{start_drop, start_keep, start_last}
 use Rattle.integers_write.proofs.content.start_of.Goals as goal
 
