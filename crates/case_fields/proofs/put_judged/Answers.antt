@@ -7,5 +7,5 @@ use Rattle.case_fields.proofs.put_judged.Goals as goal
 pub returns : goal.returns
 returns c =
     within_more _ _ _ _ _ c.put_text-o.ensures.within c.put_text-o.auto.out
-    (within_more _ _ _ _ _ c.put_reading-o.ensures c.put_reading-o.auto.1.0
+    (within_more _ _ _ _ _ c.put_reading-o.ensures c.put_reading-o.auto.out
     c.put.ensures.within)

@@ -6,20 +6,14 @@ use Rattle.case_fields.proofs.put_reading.Goals as goal
 
 pub returns-then-same : goal.returns-then-same
 returns-then-same c =
-    let place = (c) in
-    let word = place in
-    let number = word in
-    within_more _ _ _ _ _ number.put_number-o.ensures.within number.put_number-o.auto.out
-    (within_more _ _ _ _ _ word.put_text-o.ensures.within word.put_text-o.auto.out
-    (within_more _ _ _ _ _ place.put_number-o-2.ensures.within place.put_number-o-2.auto.out
+    within_more _ _ _ _ _ c.put_number-o.ensures.within c.put_number-o.auto.out
+    (within_more _ _ _ _ _ c.put_text-o.ensures.within c.put_text-o.auto.out
+    (within_more _ _ _ _ _ c.put_number-o-2.ensures.within c.put_number-o-2.auto.out
     c.put_text.ensures.within))
 
 pub returns : goal.returns
 returns c =
-    let place = (c) in
-    let word = place in
-    let number = word in
-    within_more _ _ _ _ _ number.put_number-o.ensures.within number.put_number-o.auto.out
-    (within_more _ _ _ _ _ word.put_text-o.ensures.within word.put_text-o.auto.out
-    (within_more _ _ _ _ _ place.put_number-o-2.ensures.within place.put_number-o-2.auto.out
+    within_more _ _ _ _ _ c.put_number-o.ensures.within c.put_number-o.auto.out
+    (within_more _ _ _ _ _ c.put_text-o.ensures.within c.put_text-o.auto.out
+    (within_more _ _ _ _ _ c.put_number-o-2.ensures.within c.put_number-o-2.auto.out
     c.put_fields.ensures))

@@ -13,19 +13,19 @@ use Rattle.verdict.specs.Judge.{header}
 use Rattle.read_header.specs.Steps.{Fields, Dated, fields, dated}
 
 -- an item after another, and after that one more
-next_next : {A B C : Type 0} (name : Name) (i : Item A) (f : A → ℕ → Way B) (g : B → ℕ → Way C)
-    → pass (next name i f) g ≡ next name i (λ a at. pass (f a at) g)
-next_next name (is a at) f g = refl
-next_next name (not rule place) f g = refl
+next_next : {A B C : Type 0} (which : Name) (i : Item A) (f : A → ℕ → Way B) (g : B → ℕ → Way C)
+    → pass (next which i f) g ≡ next which i (λ a at. pass (f a at) g)
+next_next which (is a at) f g = refl
+next_next which (not rule place) f g = refl
 
 pass_pass : {A B C : Type 0} (i : Way A) (f : A → ℕ → Way B) (g : B → ℕ → Way C) → pass (pass i f) g ≡ pass i (λ a at. pass (f a at) g)
 pass_pass (is a at) f g = refl
 pass_pass (not why place) f g = refl
 
-next_same : {A B : Type 0} (name : Name) (i : Item A) (f g : A → ℕ → Way B) → ((a : A) (at : ℕ) → f a at ≡ g a at)
-    → next name i f ≡ next name i g
-next_same name (is a at) f g e = e a at
-next_same name (not rule place) f g e = refl
+next_same : {A B : Type 0} (which : Name) (i : Item A) (f g : A → ℕ → Way B) → ((a : A) (at : ℕ) → f a at ≡ g a at)
+    → next which i f ≡ next which i g
+next_same which (is a at) f g e = e a at
+next_same which (not rule place) f g e = refl
 
 pass_same : {A B : Type 0} (i : Way A) (f g : A → ℕ → Way B) → ((a : A) (at : ℕ) → f a at ≡ g a at) → pass i f ≡ pass i g
 pass_same (is a at) f g e = e a at
