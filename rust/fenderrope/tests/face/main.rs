@@ -31,7 +31,7 @@ fn header_text() -> String {
 
 /// All Rattle sources of the face, one after another: the structs, then the calls.
 fn rattle_text() -> String {
-    let crates = ["face", "face_seals", "face_why", "face_walk", "capi"];
+    let crates = ["face", "face_seals", "face_why", "face_walk", "capi_c"];
     crates.iter().map(|name| sources_of(&in_repository(&format!("crates/{name}/src")))).collect()
 }
 

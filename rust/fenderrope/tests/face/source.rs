@@ -10,17 +10,18 @@ pub fn face(text: &str, prefix: &str) -> Result<Face, String> {
     let (mut tokens, mut face) = (Tokens::of(&text), Face::default());
     while !tokens.done() {
         if tokens.take("pub struct") {
-            let laid_out = tokens.came_before("#[repr(C)]", 2);
+            let forms = ["#[repr(C)]", "#[repr(C)] #[derive(Clone, Copy)]"];
+            let laid_out = forms.iter().any(|form| tokens.came_before(form, 2));
             let name = tokens.next()?;
             if !laid_out {
                 return Err(format!("{name} is not repr(C)"));
             }
             face.add_struct(word(name, prefix), fields(&mut tokens, prefix)?)?;
         } else if tokens.take("extern \"C\" fn") {
-            let plain = tokens.came_before("#[no_mangle] pub", 5);
+            let plain = tokens.came_before("#[unsafe(no_mangle)] pub", 5);
             let (name, call) = call(&mut tokens, prefix)?;
             if !plain {
-                return Err(format!("{name} is not `#[no_mangle] pub`"));
+                return Err(format!("{name} is not `#[unsafe(no_mangle)] pub`"));
             }
             face.add_call(name, call)?;
         } else if tokens.take("extern \"C\" {") {
