@@ -79,7 +79,11 @@ fn fields_in_the_sources() {
     source_noticed("pub country: [u8; 3],", "pub country: [u8; 4],", "header: ");
     source_noticed("pub value: i64,", "pub value: usize,", "integer: ");
     source_noticed("pub bits: usize,", "pub bits: u32,", "hashed: ");
-    source_noticed("#[repr(C)]\n#[derive(Clone, Copy)]\npub struct FrPart", "pub struct FrPart", "FrPart is not repr(C)");
+    source_noticed(
+        "#[repr(C)]\n#[derive(Clone, Copy)]\npub struct FrPart",
+        "pub struct FrPart",
+        "FrPart is not repr(C)",
+    );
     source_noticed("pub struct FrEnds {", "pub struct FrBorders {", "borders: ");
 }
 
@@ -87,7 +91,11 @@ fn fields_in_the_sources() {
 fn calls_in_the_sources() {
     source_noticed("fn fr_hash(n: usize)", "fn fr_hash(n: u32)", "fr_hash: ");
     source_noticed("fn fr_hash(n: usize) -> FrHashed", "fn fr_hash(n: usize) -> FrFilled", "fr_hash: ");
-    source_noticed("#[unsafe(no_mangle)]\npub extern \"C\" fn fr_hash", "pub extern \"C\" fn fr_hash", "fr_hash is not");
+    source_noticed(
+        "#[unsafe(no_mangle)]\npub extern \"C\" fn fr_hash",
+        "pub extern \"C\" fn fr_hash",
+        "fr_hash is not",
+    );
     source_noticed("pub extern \"C\" fn fr_hash", "pub fn fr_hash", "fr_hash: ");
     source_noticed("fn fr_judge(seal: &[u8])", "fn fr_judge(seal: &mut [u8])", "fr_judge: ");
     source_noticed("fn fr_judge(seal: &[u8])", "fn fr_judge(seal: &[usize])", "fr_judge: ");
