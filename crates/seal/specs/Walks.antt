@@ -20,10 +20,10 @@ use Rattle.reading.specs.Calls.{answer_of, rows_in, then}
 use Rattle.reading.proofs.Calls.Rooms.{given_accepted}
 use Rattle.walk_steps.specs.Steps.{no_more}
 use Rattle.walk.specs.Walks.{opened_of, asked}
-use Rattle.walk.specs.Theorems.{found_row, same_rows}
+use Rattle.walk.proofs.Theorems.{found_row, same_rows}
 use Rattle.shown.specs.Where.{where_is}
 use Rattle.shown.specs.Values.{seen, seen_in}
-use Rattle.shown.specs.Theorems.{shown_contents}
+use Rattle.shown.proofs.Theorems.{shown_contents}
 use Rattle.seal.specs.Conditions.{answer, table_after, content_held, accepted_published, reports}
 use Rattle.seal.specs.Conditions.Laws.{zero_accepted}
 use Rattle.seal.specs.Frames.{rows_held}

@@ -1,6 +1,5 @@
 -- What the search by the walk's steps finds, wherever it starts: the value of the tag among the rows that the walk finds from there on.
 -- Assumes nothing.
-pub mod Laws
 use Rattle.std.specs.Prelude.{◌≡◌, ℕ, List}
 use Rattle.std.proofs.Math.Option.{Option, none, some}
 use Rattle.rows.specs.declared.Row.{Row}

@@ -1,6 +1,5 @@
 -- The value of a tag among the features of a content: what it is to have one, and that a legal content has one at the most.
 -- Assumes nothing.
-pub mod Laws
 use Rattle.std.specs.Prelude.{◌≡◌, ◌⊎◌, ℕ, List, [], ◌∷◌, eqb}
 use Rattle.std.proofs.Math.Option.{Option, none, some}
 use Rattle.format.specs.Choice.{pick}

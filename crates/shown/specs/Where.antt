@@ -1,7 +1,6 @@
 -- The value of a tag in a main seal and its extension (document 02, Ticket 2): "For a given tag number, show the value out of the extension
 -- seal if it has that feature, otherwise out of the main seal, as that part of the lent bytes and no copy."
 -- Assumes nothing.
-pub mod Laws
 use Rattle.std.specs.Prelude.{ℕ, List, [], ◌∷◌, eqb}
 use Rattle.std.proofs.Math.Option.{Option, none, some}
 use Rattle.std.specs.Borrow.{Bor}

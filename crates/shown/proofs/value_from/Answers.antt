@@ -2,7 +2,7 @@
 -- Assumes nothing.
 use Rattle.std.proofs.Common.{arith}
 use Rattle.walk_steps.proofs.Rows.Laws.{step_goes}
-use Rattle.shown.specs.Found.Laws.{left_none, left_is, left_more}
+use Rattle.shown.proofs.Found.Laws.{left_none, left_is, left_more}
 use Rattle.shown.proofs.value_from.Goals as goal
 
 pub returns-then-step-ne0 : goal.returns-then-step-ne0

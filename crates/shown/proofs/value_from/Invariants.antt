@@ -1,7 +1,7 @@
 -- `shown::value_from` meets its contract: the loop keeps that the rows passed do not have the tag; what is left of the seal falls.
 -- Assumes nothing.
 use Rattle.std.proofs.Common.{◌-◌, length}
-use Rattle.shown.specs.Found.Laws.{Left}
+use Rattle.shown.proofs.Found.Laws.{Left}
 use Rattle.shown.proofs.value_from.Given as goal
 
 abbrev pub invariant-loop-step : goal.invariant-loop-step

@@ -1,6 +1,6 @@
 -- `shown::where_is` meets its contract: each way out by its law. What both walks find are the rows of the two seals.
 -- Assumes nothing.
-use Rattle.shown.specs.Where.Laws.{where_not_main, where_not_extension, where_first}
+use Rattle.shown.proofs.LookUp.Laws.{where_not_main, where_not_extension, where_first}
 use Rattle.shown.proofs.where_is.Goals as goal
 
 pub returns-then-first-ne0 : goal.returns-then-first-ne0

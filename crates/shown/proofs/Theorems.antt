@@ -22,7 +22,7 @@ use Rattle.shown.specs.declared.Where.{Where}
 use Rattle.shown.specs.declared.Where.TheVariants.{Extension, Main, NotMain, NotExtension, Neither}
 use Rattle.shown.specs.Where.{value_in, first_of, look_up, where_is, empty, answer_of, IsShown}
 use Rattle.shown.specs.Values.{Has, value_of, Seen, bytes_of, seen, seen_of, seen_in}
-use Rattle.shown.specs.Values.Laws.{none_some, value_has, none_has, has_value, seen_rows}
+use Rattle.shown.proofs.Values.Laws.{none_some, value_has, none_has, has_value, seen_rows}
 
 -- "For a given tag number, show the value out of the extension seal if it has that feature, otherwise out of the main seal": what is seen
 -- of two seals is what their contents say

@@ -1,0 +1,4 @@
+pub mod Found
+pub mod Theorems
+pub mod Values
+pub mod LookUp
