@@ -7,74 +7,67 @@ ghost use Rattle.dates.specs.Calls.{taken_of, numbered_of as given_number};
 ghost use Rattle.integers.specs.Calls.{reading_of, writing_of};
 ghost use Rattle.face.specs.Face.{filled_of, dated_of, numbered_of, integer_of};
 
-use dates::{Numbered, Taken};
+use dates::{Date, NoSuchDate};
 use face::{FrDate, FrDated, FrFilled, FrInteger, FrNumbered};
-use integers::{Reading, Writing};
+use integers::NotOne;
+use octets::NoRoom;
 
 // What is taken for a date, with its number; 6 is no such date.
-pub fn date_taken(answer: Taken) -> FrDated
+pub fn date_taken(answer: Result<Date, NoSuchDate>) -> FrDated
     ensures { result ≡ dated_of (taken_of answer) }
 {
-    match answer {
-        Taken::Day(day) => FrDated {
-            number: 0,
-            place: 0,
-            date: FrDate::of(day),
-        },
-        Taken::NoSuchDate => FrDated {
-            number: 6,
-            place: 0,
-            date: FrDate {
-                month: 0,
-                day: 0,
-                year: 0,
-            },
-        },
+    let none = FrDate {
+        month: 0,
+        day: 0,
+        year: 0,
+    };
+    let (number, date) = match answer {
+        Ok(day) => (0, FrDate::from(day)),
+        Err(NoSuchDate) => (6, none),
+    };
+    FrDated {
+        number,
+        place: 0,
+        date,
     }
 }
 
 // A date's number, with the answer's; 22 is no such date.
-pub fn date_numbered(answer: Numbered) -> FrNumbered
+pub fn date_numbered(answer: Result<usize, NoSuchDate>) -> FrNumbered
     ensures { result ≡ numbered_of (given_number answer) }
 {
-    match answer {
-        Numbered::Number(date_number) => FrNumbered {
-            number: 0,
-            place: 0,
-            value: date_number,
-        },
-        Numbered::NoSuchDate => FrNumbered {
-            number: 22,
-            place: 0,
-            value: 0,
-        },
+    let (number, value) = match answer {
+        Ok(date_number) => (0, date_number),
+        Err(NoSuchDate) => (22, 0),
+    };
+    FrNumbered {
+        number,
+        place: 0,
+        value,
     }
 }
 
 // An INTEGER's value, with its number.
-pub fn integer_read(answer: Reading) -> FrInteger
+pub fn integer_read(answer: Result<i64, NotOne>) -> FrInteger
     ensures { result ≡ integer_of (reading_of answer) }
 {
-    match answer {
-        Reading::Value(read) => FrInteger {
-            number: 0,
-            place: 0,
-            value: read,
-        },
-        Reading::NotOne => FrInteger {
-            number: 65,
-            place: 0,
-            value: 0,
-        },
+    let (number, value) = match answer {
+        Ok(read) => (0, read),
+        Err(NotOne) => (65, 0),
+    };
+    FrInteger {
+        number,
+        place: 0,
+        value,
     }
 }
 
 // A writing's number and count.
-pub fn integer_written(answer: Writing) -> FrFilled
+pub fn integer_written(answer: Result<usize, NoRoom>) -> FrFilled
     ensures { result ≡ filled_of (writing_of answer) }
 {
     match answer {
-        Writing::Done(count) => FrFilled::done(count),
-        Writing::NoRoom => FrFilled::refused(63, 0),
+        Ok(count) => FrFilled::done(count),
+        Err(NoRoom) => FrFilled::refused(63, 0),
     }
 }

@@ -2,23 +2,25 @@
 // table stands once, for the exported calls of `capi` and for the cases that are run.
 #![tactic(auto)]
 
-ghost use Rattle.std.specs.Prelude.{◌≡◌};
+ghost use Rattle.std.specs.Prelude.{◌≡◌, Err};
 ghost use Rattle.c40.specs.Calls.{reading_of, writing_of};
-ghost use Rattle.c40.specs.declared.Reading.TheVariants.{WrongPair};
+ghost use Rattle.c40.specs.declared.ReadError.TheVariants as read;
+ghost use Rattle.pages.specs.Calls.{placed_of};
 ghost use Rattle.words.specs.Calls.{told_of};
 ghost use Rattle.why_words.specs.Calls as names;
 ghost use Rattle.face.specs.Face.{filled_of};
 
-use c40::{Reading, Writing};
+use c40::{ReadError, WriteError, WrongPair};
 use face::FrFilled;
+use octets::NoRoom;
 use pairs::Fault;
-use words::Told;
 
 // The number of a pair's fault, at the pair.
-fn wrong_pair(fault: Fault, at: usize) -> FrFilled
-    ensures { result ≡ filled_of (reading_of (WrongPair fault at)) }
+fn wrong_pair(wrong: WrongPair) -> FrFilled
+    ensures { result ≡ filled_of (reading_of (Err (read.WrongPair wrong))) }
 {
-    match fault {
+    let at = wrong.place;
+    match wrong.fault {
         Fault::OutOfRange => FrFilled::refused(41, at),
         Fault::Shift => FrFilled::refused(46, at),
         Fault::Single => FrFilled::refused(47, at),
@@ -26,46 +28,50 @@ fn wrong_pair(fault: Fault, at: usize) -> FrFilled
 }
 
 // A reading's number, place and count.
-pub fn text_read(answer: Reading) -> FrFilled
+pub fn text_read(answer: Result<usize, ReadError>) -> FrFilled
     ensures { result ≡ filled_of (reading_of answer) }
 {
     match answer {
-        Reading::Done(count) => FrFilled::done(count),
-        Reading::TooLong => FrFilled::refused(45, 0),
-        Reading::Odd(at) => FrFilled::refused(40, at),
-        Reading::WrongPair(fault, at) => wrong_pair(fault, at),
-        Reading::NoRoom => FrFilled::refused(42, 0),
+        Ok(characters) => FrFilled::done(characters),
+        Err(ReadError::TooLong) => FrFilled::refused(45, 0),
+        Err(ReadError::Odd(at)) => FrFilled::refused(40, at),
+        Err(ReadError::WrongPair(wrong)) => wrong_pair(wrong),
+        Err(ReadError::NoRoom) => FrFilled::refused(42, 0),
     }
 }
 
 // A writing's number, place and count.
-pub fn text_written(answer: Writing) -> FrFilled
+pub fn text_written(answer: Result<usize, WriteError>) -> FrFilled
     ensures { result ≡ filled_of (writing_of answer) }
 {
     match answer {
-        Writing::Done(count) => FrFilled::done(count),
-        Writing::TooLong => FrFilled::refused(45, 0),
-        Writing::Stranger(at) => FrFilled::refused(43, at),
-        Writing::NoRoom => FrFilled::refused(44, 0),
+        Ok(bytes) => FrFilled::done(bytes),
+        Err(WriteError::TooLong) => FrFilled::refused(45, 0),
+        Err(WriteError::Stranger(at)) => FrFilled::refused(43, at),
+        Err(WriteError::NoRoom) => FrFilled::refused(44, 0),
+    }
+}
+
+// Number and count of words put down, or this number for no room.
+fn placed(answer: Result<usize, NoRoom>, no_room: usize) -> FrFilled
+    ensures { result ≡ filled_of (placed_of no_room answer) }
+{
+    match answer {
+        Ok(count) => FrFilled::done(count),
+        Err(NoRoom) => FrFilled::refused(no_room, 0),
     }
 }
 
 // Number and count of the words told.
-pub fn words_told(answer: Told) -> FrFilled
+pub fn words_told(answer: Result<usize, NoRoom>) -> FrFilled
     ensures { result ≡ filled_of (told_of answer) }
 {
-    match answer {
-        Told::Done(count) => FrFilled::done(count),
-        Told::NoRoom => FrFilled::refused(63, 0),
-    }
+    placed(answer, 63)
 }
 
 // Number and count of an item's name told, or of a rule's words.
-pub fn name_told(answer: why_words::Told) -> FrFilled
+pub fn name_told(answer: Result<usize, NoRoom>) -> FrFilled
     ensures { result ≡ filled_of (names.told_of answer) }
 {
-    match answer {
-        why_words::Told::Done(size) => FrFilled::done(size),
-        why_words::Told::NoRoom => FrFilled::refused(42, 0),
-    }
+    placed(answer, 42)
 }

@@ -47,6 +47,7 @@ fn put_blocks(from: &[u8], out: &mut [u8], at: usize)
     if 16 < n {
         let last = n - 16;
         copy_sixteen(from, 0, out, at);
+        // by sixteen: `step_by` would leave the loop in two ways, behind a block and before one
         let mut i: usize = 16;
         while i < last {
             copy_sixteen(from, i, out, at + i);
@@ -61,10 +62,8 @@ fn put_blocks(from: &[u8], out: &mut [u8], at: usize)
         copy_eight(from, last, out, at + last);
         return;
     }
-    let mut i: usize = 0;
-    while i < n {
-        out[at + i] = from[i];
-        i += 1;
+    for (i, byte) in from.iter().enumerate() {
+        out[at + i] = *byte;
     }
 }
 

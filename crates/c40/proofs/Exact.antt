@@ -2,7 +2,7 @@
 -- text of k characters can be
 -- cut off the front of a byte string in one way only.
 -- Assumes nothing.
-use Rattle.std.specs.Prelude.{◌≡◌, refl, false, ℕ, suc, ◌+◌, ◌%◌, ◌<◌, ◌≤◌, List, [], ◌∷◌, ◌++◌, ltb, eqb, length}
+use Rattle.std.specs.Prelude.{◌≡◌, refl, false, ℕ, suc, ◌+◌, ◌%◌, ◌<◌, ◌≤◌, List, [], ◌∷◌, ◌++◌, ltb, eqb, length, Result, Err}
 use Rattle.std.proofs.Common.{ap, sym, subst, ◌∙◌, arith, ltb-true, ltb-false, eqb-true, append-nil}
 use Rattle.std.proofs.lemmas.Bool.{eqb-false}
 use Rattle.format.specs.Bytes.{Byte, Bytes}
@@ -22,7 +22,6 @@ use Rattle.c40.proofs.Decode.Laws.{follow_good, ahead_text, wrong_text}
 use Rattle.pairs.specs.declared.decode.Fault.{Fault}
 use Rattle.pairs.specs.declared.decode.Fault.TheVariants.{OutOfRange}
 use Rattle.pairs.specs.declared.decode.Pair.{Pair}
-use Rattle.pairs.specs.declared.decode.Pair.TheVariants.{Wrong}
 use Rattle.c40.specs.Calls.{fault_number, known, reading, writing}
 use Rattle.c40.proofs.Calls.Laws.{known_text, text_known, fault_some, reading_long, reading_odd, reading_wrong, reading_no_room}
 use Rattle.c40.proofs.Calls.Laws.{reading_done}
@@ -73,7 +72,7 @@ turn : (x y : ℕ) (s : List ℕ) → Byte x → Byte y → (at : ℕ) (t : List
     → Text t × (publish t ≡ x ∷ y ∷ s)
 turn x y s hx hy at t e rest = by_pair pair some nothing
   where
-    pair : Pair
+    pair : Result Pair Fault
     pair = pair_of the_chart (none s) x y
 
     some : 0 < length (chars_of pair) → Text t × (publish t ≡ x ∷ y ∷ s)
@@ -86,7 +85,7 @@ turn x y s hx hy at t e rest = by_pair pair some nothing
           ap publish (sym u.2) ∙ joined s p u.0 c.whole r.1 ∙ ap (λ q. q ++ s) (publish_pair pair ∙ c.form),
         )
 
-    nothing : (fault : Fault) → pair ≡ Wrong fault → Text t × (publish t ≡ x ∷ y ∷ s)
+    nothing : (fault : Fault) → pair ≡ Err fault → Text t × (publish t ≡ x ∷ y ∷ s)
     nothing fault bad = absurd (wrong_text (ap (λ p. follow at p (decode (at + 2) s)) bad) e)
 
 -- what decodes as text is the published form of that text

@@ -1,7 +1,7 @@
 -- What the two calls answer, for every input (document 01, numbers 40 to 45; document 02, Ticket 1, 46 and 47), and the number and place of
 -- each case of their answers.
 -- Assumes nothing.
-use Rattle.std.specs.Prelude.{ℕ, suc, ◌%◌, List, [], ◌∷◌, leb, eqb, length}
+use Rattle.std.specs.Prelude.{ℕ, suc, ◌%◌, List, [], ◌∷◌, leb, eqb, length, Result, Ok, Err}
 use Rattle.format.specs.Choice.{pick}
 use Rattle.format.specs.Answers.{Outcome, Answer, done}
 use Rattle.format.specs.Order.{Test, test, in_order}
@@ -11,10 +11,10 @@ use Rattle.pairs.specs.declared.decode.Fault.{Fault}
 use Rattle.pairs.specs.declared.decode.Fault.TheVariants as fault
 use Rattle.c40.specs.Decode.{Decoded, decode, text_of, is_text, wrong_at}
 use Rattle.c40.specs.Decode as decoded
-use Rattle.c40.specs.declared.Reading.{Reading}
-use Rattle.c40.specs.declared.Reading.TheVariants as read
-use Rattle.c40.specs.declared.Writing.{Writing}
-use Rattle.c40.specs.declared.Writing.TheVariants as write
+use Rattle.c40.specs.declared.ReadError.{ReadError}
+use Rattle.c40.specs.declared.ReadError.TheVariants as read
+use Rattle.c40.specs.declared.WriteError.{WriteError}
+use Rattle.c40.specs.declared.WriteError.TheVariants as write
 
 -- the number of each fault of a pair: its value is 0 or over 64,000; a shift value where none may stand; FE misplaced, or a code outside
 -- the chart after it
@@ -56,15 +56,15 @@ unfoldable pub writing : List ℕ → ℕ → Outcome
 writing text room = in_order (writing_tests text room) (done (publish text))
 
 -- number, place and count of each case
-abbrev pub reading_of : Reading → Answer
-reading_of (read.Done count) = record { number = 0; place = 0; count = count }
-reading_of read.TooLong = record { number = 45; place = 0; count = 0 }
-reading_of (read.Odd at) = record { number = 40; place = at; count = 0 }
-reading_of (read.WrongPair fault at) = record { number = fault_number fault; place = at; count = 0 }
-reading_of read.NoRoom = record { number = 42; place = 0; count = 0 }
+abbrev pub reading_of : Result ℕ ReadError → Answer
+reading_of (Ok count) = record { number = 0; place = 0; count = count }
+reading_of (Err read.TooLong) = record { number = 45; place = 0; count = 0 }
+reading_of (Err (read.Odd at)) = record { number = 40; place = at; count = 0 }
+reading_of (Err (read.WrongPair wrong)) = record { number = fault_number wrong.fault; place = wrong.place; count = 0 }
+reading_of (Err read.NoRoom) = record { number = 42; place = 0; count = 0 }
 
-abbrev pub writing_of : Writing → Answer
-writing_of (write.Done count) = record { number = 0; place = 0; count = count }
-writing_of write.TooLong = record { number = 45; place = 0; count = 0 }
-writing_of (write.Stranger at) = record { number = 43; place = at; count = 0 }
-writing_of write.NoRoom = record { number = 44; place = 0; count = 0 }
+abbrev pub writing_of : Result ℕ WriteError → Answer
+writing_of (Ok count) = record { number = 0; place = 0; count = count }
+writing_of (Err write.TooLong) = record { number = 45; place = 0; count = 0 }
+writing_of (Err (write.Stranger at)) = record { number = 43; place = at; count = 0 }
+writing_of (Err write.NoRoom) = record { number = 44; place = 0; count = 0 }

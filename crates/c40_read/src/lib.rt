@@ -7,30 +7,26 @@ ghost use Rattle.c40.specs.Calls.{reading, reading_of};
 
 mod decode;
 
-use c40::{Judged, Reading};
+use c40::ReadError;
 
-// Reads C40 bytes into `out` as text: all pairs are judged before the room is, and both before the first byte is written.
-pub fn read(bytes: &[u8], out: &mut [u8]) -> Reading
+// Reads C40 bytes into `out` as text, and answers the count of its characters: all pairs are judged before the room is, and both before
+// the first byte is written.
+pub fn read(bytes: &[u8], out: &mut [u8]) -> Result<usize, ReadError>
     ensures answer { reading_of result ≡ told (reading bytes.now (length out.old)) }
     ensures buffer { out.new ≡ filled (reading bytes.now (length out.old)) out.old }
 {
     let n = bytes.len();
     if 4096 < n {
-        return Reading::TooLong;
+        return Err(ReadError::TooLong);
     }
     if n & 1 == 1 {
-        return Reading::Odd(n);
+        return Err(ReadError::Odd(n));
     }
-    let chart = pairs::the_chart();
-    let judged = decode::judge(&chart, bytes);
-    match judged {
-        Judged::Wrong(fault, at) => Reading::WrongPair(fault, at),
-        Judged::Text(count) => {
-            if out.len() < count {
-                return Reading::NoRoom;
-            }
-            decode::put(&chart, bytes, out);
-            Reading::Done(count)
-        }
+    let chart = decode::Chart::new();
+    let count = chart.judge(bytes)?;
+    if out.len() < count {
+        return Err(ReadError::NoRoom);
     }
+    chart.put(bytes, out);
+    Ok(count)
 }

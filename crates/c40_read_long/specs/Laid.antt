@@ -2,14 +2,12 @@
 -- put down by them.
 -- Assumes nothing.
 pub mod Laws
-use Rattle.std.specs.Prelude.{◌≡◌, Bool, true, false, ℕ, ◌+◌, ◌-◌, ◌*◌, ◌/◌, ◌%◌, ◌<◌, ◌≤◌, List, length, get_or, take}
+use Rattle.std.specs.Prelude.{◌≡◌, Bool, true, false, ℕ, ◌+◌, ◌-◌, ◌*◌, ◌/◌, ◌%◌, ◌<◌, ◌≤◌, List, length, get_or, take, Option, Some, None}
 use Rattle.format.specs.Buffer.{over}
 use Rattle.pairs.specs.Chart.{the_chart, char}
 use Rattle.pairs.specs.Pairs.{pair_of, chars_of}
 use Rattle.c40.specs.Decode.{decode, text}
 use Rattle.c40.proofs.Decode.Laws.{Sofar}
-use Rattle.c40_read_long.specs.declared.Laid.{Laid}
-use Rattle.c40_read_long.specs.declared.Laid.TheVariants.{Text, Not}
 
 -- a table of n entries, each right at its index or 0
 pub record Sound (Right : ℕ → ℕ → Type 0) (n : ℕ) (t : List ℕ) : Type 0 where
@@ -63,6 +61,6 @@ pub record Decodes (bytes out : List ℕ) (count : ℕ) : Type 0 where
   pub is_text_lem : decode 0 bytes ≡ text (take count out)
 
 -- what is said is right; nothing is said where some pair is wrongly coded
-abbrev pub Told : Laid → List ℕ → List ℕ → Type 0
-Told (Text count) bytes out = Decodes bytes out count
-Told Not bytes out = Unit
+abbrev pub Told : Option ℕ → List ℕ → List ℕ → Type 0
+Told (Some count) bytes out = Decodes bytes out count
+Told None bytes out = Unit

@@ -8,26 +8,27 @@ ghost use Rattle.c40.specs.Calls.{writing, writing_of};
 mod encode;
 mod turned;
 
-use c40::Writing;
-pub use turned::turned_chart;
+use c40::WriteError;
+pub use turned::{Turned, turned_chart};
 
-// Writes text into `out` as C40 bytes: all characters are judged before the room is, and both before the first byte is written.
-pub fn write(text: &[u8], out: &mut [u8]) -> Writing
+// Writes text into `out` as C40 bytes, and answers their count: all characters are judged before the room is, and both before the first
+// byte is written.
+pub fn write(text: &[u8], out: &mut [u8]) -> Result<usize, WriteError>
     ensures answer { writing_of result ≡ told (writing text.now (length out.old)) }
     ensures buffer { out.new ≡ filled (writing text.now (length out.old)) out.old }
 {
     let n = text.len();
     if 6144 < n {
-        return Writing::TooLong;
+        return Err(WriteError::TooLong);
     }
     let values = turned_chart();
-    if !encode::all_known(&values, text) {
-        return Writing::Stranger(encode::known(&values, text));
+    if !values.all_known(text) {
+        return Err(WriteError::Stranger(values.known(text)));
     }
     let size = octets::threes(n + 2) * 2;
     if out.len() < size {
-        return Writing::NoRoom;
+        return Err(WriteError::NoRoom);
     }
-    encode::put(&values, text, out);
-    Writing::Done(size)
+    values.put(text, out);
+    Ok(size)
 }

@@ -8,65 +8,65 @@ ghost use Rattle.format.specs.Buffer.{over};
 ghost use Rattle.format.specs.Answers.{told, filled};
 ghost use Rattle.c40.specs.Text.{Text, publish, width};
 ghost use Rattle.c40.specs.Calls.{writing, writing_of};
-ghost use Rattle.c40_write.specs.Turned.{turned};
 
-use c40::Writing;
+use c40::WriteError;
+use c40_write::Turned;
 use octets::{low, wide};
 
-// Puts down a number in two bytes, big-endian, from a place on.
-fn put_number(number: usize, bytes: &mut [u8; 4096], at: usize)
-    requires { (length bytes.old ≡ 4096) × (at + 2 ≤ 4096) }
-    ensures { bytes.new ≡ over bytes.old at (be 2 number) }
+// Puts down the last two bytes of a number, big-endian, from a place on. What the crates share asks nothing of a caller, so there it
+// would test for the room of each pair.
+fn put_two(number: usize, out: &mut [u8], at: usize)
+    requires { at + 2 ≤ length out.old }
+    ensures { out.new ≡ over out.old at (be 2 number) }
 {
-    bytes[at] = low(number >> 8);
-    bytes[at + 1] = low(number);
+    out[at] = low(number >> 8);
+    out[at + 1] = low(number);
 }
 
 // Puts down the last pair, for the one or two characters that are left over, if any, and says whether they are in the chart: two are
 // completed with 0, one is FE and its code plus 1.
-fn put_left(values: &[u8; 256], left: &[u8], bytes: &mut [u8; 4096], at: usize) -> bool
-    requires table { values.now ≡ turned }
-    requires room { (length bytes.old ≡ 4096) × (length left.now ≤ 2) × (at + width (length left.now) ≤ 4096) }
+fn put_left(values: &Turned, left: &[u8], bytes: &mut [u8; 4096], at: usize) -> bool
+    requires { (length bytes.old ≡ 4096) × (length left.now ≤ 2) × (at + width (length left.now) ≤ 4096) }
     ensures good { result ≡ true → Text left.now }
     ensures put { result ≡ true → bytes.new ≡ over bytes.old at (publish left.now) }
 {
     if left.len() == 2 {
-        let a = values[wide(left[0])];
-        let b = values[wide(left[1])];
+        let a = values.entry(left[0]);
+        let b = values.entry(left[1]);
         if 128 <= (a | b) {
             return false;
         }
-        put_number(1600 * wide(a) + 40 * wide(b) + 1, bytes, at);
+        put_two(1600 * wide(a) + 40 * wide(b) + 1, bytes, at);
         return true;
     }
     if left.len() == 1 {
         let a = left[0];
-        if 128 <= values[wide(a)] {
+        if 128 <= values.entry(a) {
             return false;
         }
-        put_number(0xFE00 + wide(a) + 1, bytes, at);
+        put_two(0xFE00 + wide(a) + 1, bytes, at);
     }
     true
 }
 
 // Puts down text of at most 6,144 characters, three at a time, with no test for each, and says whether all are in the chart: their values
 // together have no mark.
-fn put_text(values: &[u8; 256], text: &[u8], bytes: &mut [u8; 4096]) -> bool
-    requires table { values.now ≡ turned }
-    requires room { (length bytes.old ≡ 4096) × (length text.now ≤ 6144) }
+fn put_text(values: &Turned, text: &[u8], bytes: &mut [u8; 4096]) -> bool
+    requires { (length bytes.old ≡ 4096) × (length text.now ≤ 6144) }
     ensures good { result ≡ true → Text text.now }
     ensures put { result ≡ true → bytes.new ≡ over bytes.old 0 (publish text.now) }
 {
     let n = text.len();
     let mut marks: u8 = 0;
+    // two indices, as three characters make two bytes: chunks of the text would leave the second
     let mut i: usize = 0;
     let mut at: usize = 0;
     while i + 2 < n {
-        let a = values[wide(text[i])];
-        let b = values[wide(text[i + 1])];
-        let c = values[wide(text[i + 2])];
+        let a = values.entry(text[i]);
+        let b = values.entry(text[i + 1]);
+        let c = values.entry(text[i + 2]);
         marks = marks | a | b | c;
-        put_number(1600 * wide(a) + 40 * wide(b) + wide(c) + 1, bytes, at);
+        put_two(1600 * wide(a) + 40 * wide(b) + wide(c) + 1, bytes, at);
         i += 3;
         at += 2;
     }
@@ -76,8 +76,9 @@ fn put_text(values: &[u8; 256], text: &[u8], bytes: &mut [u8; 4096]) -> bool
     put_left(values, &text[i..], bytes, at)
 }
 
-// Writes text into `out` as C40 bytes: all characters are judged before the room is, and both before the first byte is written.
-pub fn write(text: &[u8], out: &mut [u8]) -> Writing
+// Writes text into `out` as C40 bytes, and answers their count: all characters are judged before the room is, and both before the first
+// byte is written.
+pub fn write(text: &[u8], out: &mut [u8]) -> Result<usize, WriteError>
     ensures answer { writing_of result ≡ told (writing text.now (length out.old)) }
     ensures buffer { out.new ≡ filled (writing text.now (length out.old)) out.old }
 {
@@ -87,7 +88,7 @@ pub fn write(text: &[u8], out: &mut [u8]) -> Writing
         return c40_write::write(text, out);
     }
     if 6144 < n {
-        return Writing::TooLong;
+        return Err(WriteError::TooLong);
     }
     let values = c40_write::turned_chart();
     let mut bytes = [0u8; 4096];
@@ -96,8 +97,8 @@ pub fn write(text: &[u8], out: &mut [u8]) -> Writing
     }
     let size = octets::threes(n + 2) * 2;
     if out.len() < size {
-        return Writing::NoRoom;
+        return Err(WriteError::NoRoom);
     }
     octets::copy(&bytes[..size], out, 0);
-    Writing::Done(size)
+    Ok(size)
 }

@@ -19,7 +19,7 @@ pub fn fr_date_from_number(number: usize) -> FrDated
 pub fn fr_date_to_number(date: FrDate) -> FrNumbered
     ensures { result ≡ numbered_of (to_number (inner_date date)) }
 {
-    answers_numbers::date_numbered(date.inner().number())
+    answers_numbers::date_numbered(Date::from(date).number())
 }
 
 // Reads one whole INTEGER, 1 to 8 bytes of content: `integers_read::read`.

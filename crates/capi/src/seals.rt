@@ -42,7 +42,7 @@ pub fn fr_judge(seal: &[u8]) -> FrReading
 pub fn fr_why(seal: &[u8]) -> FrReason
     ensures { result ≡ reason_of (reason seal.now) }
 {
-    FrReason::of(why::why(seal))
+    FrReason::from(why::why(seal))
 }
 
 // Writes a seal from the start of `out`: `writer::write`. The rows are the reader's, over `values`; a refusal leaves `out` as it was.
@@ -61,5 +61,5 @@ pub fn fr_write(
         (given (inner_header header) text.now rows.now values.now signature.now)
         (length out.old)) out.old }
 {
-    answers_seals::written(writer::write(header.inner(), text, rows, values, signature, out))
+    answers_seals::written(writer::write(header.into(), text, rows, values, signature, out))
 }

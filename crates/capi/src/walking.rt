@@ -11,19 +11,19 @@ use face_walk::{FrStart, FrStep, FrWhere};
 pub fn fr_walk_open(seal: &[u8]) -> FrStart
     ensures { result ≡ startIs (start_of (judge seal.now)) }
 {
-    FrStart::of(walk::start_at(seal))
+    FrStart::from(walk::start_at(seal))
 }
 
 // The next feature of a walk that is at a place: `walk::next_at`.
 pub fn fr_walk_next(seal: &[u8], at: usize) -> FrStep
     ensures { result ≡ step_of (step_at seal.now at) }
 {
-    FrStep::of(walk::next_at(seal, at))
+    FrStep::from(walk::next_at(seal, at))
 }
 
 // Where the value of a tag stands, in the extension or else in the main seal: `shown::where_is`.
 pub fn fr_shown(main_seal: &[u8], extension: &[u8], tag: usize) -> FrWhere
     ensures { result ≡ where_of (answer_of (where_is main_seal.now extension.now tag)) }
 {
-    FrWhere::of(shown::where_is(main_seal, extension, tag))
+    FrWhere::from(shown::where_is(main_seal, extension, tag))
 }

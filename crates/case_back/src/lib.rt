@@ -2,10 +2,10 @@
 #![tactic(auto)]
 
 ghost use Rattle.std.specs.Prelude.{◌≡◌, ◌≤◌, length, take};
-ghost use Rattle.case_file.specs.Line.{Within};
+ghost use Rattle.case_file.specs.Line.{Onward};
 ghost use Rattle.case_file.specs.Tells.{Tells};
 
-use case_file::{at, put_call, put_text};
+use case_file::{Line, at, put_call};
 use face::FrFilled;
 use fields::Header;
 use reader::Reading;
@@ -14,29 +14,20 @@ use reader::Reading;
 fn begins(buffer: &[u8], seal: &[u8]) -> bool
     ensures { Tells result (take (length seal.now) buffer.now ≡ seal.now) }
 {
-    if buffer.len() < seal.len() {
-        return false;
-    }
-    let mut i: usize = 0;
-    while i < seal.len() {
-        if buffer[i] != seal[i] {
-            return false;
-        }
-        i += 1;
-    }
-    true
+    buffer.starts_with(seal)
 }
 
 // Puts down whether the writer made the seal again, and the line of its answer.
-fn put_back(a: FrFilled, buffer: &[u8], seal: &[u8], out: &mut [u8], to: usize) -> usize
-    ensures { Within out.old to result }
+fn put_back(a: FrFilled, buffer: &[u8], seal: &[u8], out: &mut Line)
+    ensures { Onward out.old out.new }
 {
-    if begins(buffer, seal) {
-        let o = put_text(out, to, b"same ");
-        return put_call(a.number, a.count, buffer, out, o);
-    }
-    let o = put_text(out, to, b"other ");
-    put_call(a.number, a.count, buffer, out, o)
+    let word: &[u8] = if begins(buffer, seal) {
+        b"same "
+    } else {
+        b"other "
+    };
+    out.text(word);
+    put_call(a.number, a.count, buffer, out);
 }
 
 // Writes with the seal as the values, and exactly its room of the buffer.
@@ -61,29 +52,22 @@ fn write_again(
     rows: &[usize],
     signature: &[u8],
     seal: &[u8],
-    out: &mut [u8],
-    to: usize,
-) -> usize
-    ensures { Within out.old to result }
+    out: &mut Line,
+)
+    ensures { Onward out.old out.new }
 {
     if case_file::MOST < seal.len() {
-        return put_text(out, to, b"too much room\n");
+        out.text(b"too much room\n");
+        return;
     }
     let mut buffer = case_file::filled();
     let a = write(header, text, rows, signature, seal, &mut buffer);
-    put_back(a, &buffer, seal, out, to)
+    put_back(a, &buffer, seal, out);
 }
 
 // Writes what was read of a good seal.
-fn write_back(
-    r: Reading,
-    seal: &[u8],
-    table: &[usize],
-    text: &[u8],
-    out: &mut [u8],
-    to: usize,
-) -> usize
-    ensures { Within out.old to result }
+fn write_back(r: Reading, seal: &[u8], table: &[usize], text: &[u8], out: &mut Line)
+    ensures { Onward out.old out.new }
 {
     let header = r.header;
     let signature = r.signature;
@@ -99,31 +83,31 @@ fn write_back(
         &rest[..end],
         seal,
         out,
-        to,
-    )
+    );
 }
 
 // Reads a seal, and writes back what was read.
-fn run_seal(seal: &[u8], out: &mut [u8], to: usize) -> usize
-    ensures { Within out.old to result }
+fn run_seal(seal: &[u8], out: &mut Line)
+    ensures { Onward out.old out.new }
 {
     let mut table = [0usize; rows::MOST];
     let mut text = [0u8; 259];
     let reading = reader::read(seal, &mut table, &mut text);
     if reading.number != 0 {
-        return put_text(out, to, b"not read\n");
+        out.text(b"not read\n");
+        return;
     }
-    write_back(reading, seal, &table, &text, out, to)
+    write_back(reading, seal, &table, &text, out);
 }
 
 // Runs the case of a line, `b RUNS`; any other line is a comment and gives nothing.
-pub fn run_line(line: &[u8], out: &mut [u8], to: usize) -> usize
-    ensures { Within out.old to result }
+pub fn run_line(line: &[u8], out: &mut Line)
+    ensures { Onward out.old out.new }
 {
     if at(line, 0) != b'b' {
-        return to;
+        return;
     }
     let mut seal = [0u8; 8192];
     let size = case_file::runs(line, 1, &mut seal);
-    run_seal(&seal[..size], out, to)
+    run_seal(&seal[..size], out);
 }

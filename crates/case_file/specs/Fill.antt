@@ -29,3 +29,11 @@ abbrev pub filled_line : List ℕ → ℕ → List ℕ
 filled_line buffer count =
     (32 ∷ 119 ∷ 114 ∷ 111 ∷ 116 ∷ 101 ∷ 32 ∷ [])
     ++ (decimal_of count ++ (kept_words buffer count ++ (written_words buffer count ++ (10 ∷ []))))
+
+-- the text as far as it is counted, the count, the words on the bytes past it, and a newline
+abbrev pub told_lines : List ℕ → ℕ → List ℕ
+told_lines text count = take count text ++ (decimal_of count ++ (kept_words text count ++ (10 ∷ [])))
+
+-- a number, ` at ` and a place
+abbrev pub placed : ℕ → ℕ → List ℕ
+placed number place = decimal_of number ++ ((32 ∷ 97 ∷ 116 ∷ 32 ∷ []) ++ decimal_of place)

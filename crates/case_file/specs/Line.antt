@@ -1,10 +1,16 @@
--- What the lines of an answer say: numbers, bytes in hex, a sum. Putting text into a buffer is of the crate `lines`, passed on here.
+-- What the lines of an answer say: numbers, bytes in hex, a sum. Putting text down on a line is of the crate `lines`.
 -- Assumes nothing.
 pub mod Laws
-use Rattle.std.specs.Prelude.{ℕ, suc, ◌+◌, ◌*◌, ◌-◌, ◌/◌, ◌%◌, cond, List, [], ◌∷◌, ◌++◌, leb, length, take, drop}
+use Rattle.std.specs.Prelude.{ℕ, suc, ◌≡◌, ◌+◌, ◌*◌, ◌-◌, ◌/◌, ◌%◌, cond, List, [], ◌∷◌, ◌++◌, leb, length, take, drop}
 use Rattle.format.specs.Hex.{hex_digit}
-pub use Rattle.lines.specs.Line.{Within, Counts, Put}
+pub use Rattle.lines.specs.Line.{Within, Counts}
 unfoldable pub use Rattle.lines.specs.Line.{decimal_of}
+use Rattle.lines.specs.declared.written.Line.{Line}
+
+-- a line that was written on: no more is taken than the room that is left, and the buffer keeps its length
+pub record Onward (old new : Line) : Type 0 where
+  pub within : Within old.out.now old.at new.at
+  pub size : length new.out.now ≡ length old.out.now
 
 -- numbers in decimal, with a space before each
 unfoldable pub words_of : List ℕ → List ℕ

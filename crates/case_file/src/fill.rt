@@ -1,15 +1,16 @@
 // The buffer that a call of a case is to fill, and a line's words on what the call left in it.
 ghost use Rattle.std.specs.Prelude.{◌≡◌, ◌++◌, ◌+◌, ◌*◌, ◌/◌, min, length, replicate};
 ghost use Rattle.rows.specs.Rows.{width};
-ghost use Rattle.case_file.specs.Line.{Put, Counts, decimal_of};
-ghost use Rattle.case_file.specs.Fill.{kept_words, written_words, filled_line};
+ghost use Rattle.lines.specs.Written.{Puts};
+ghost use Rattle.case_file.specs.Line.{Counts, decimal_of};
+ghost use Rattle.case_file.specs.Fill.{kept_words, written_words, filled_line, told_lines, placed};
 
 use crate::line::{put_bytes, unchanged};
-use lines::{put, put_number, put_text};
+use lines::Line;
 use rows::WIDTH;
 
 // What every byte of the buffer is before the call.
-const FILLING: u8 = 0x5A;
+pub const FILLING: u8 = 0x5A;
 
 // The most bytes of room that a case gives; 16 guard bytes more stand past them.
 pub const MOST: usize = 7000;
@@ -49,44 +50,65 @@ pub fn whole_rows(table: &[usize], count: usize) -> usize
 }
 
 // Puts down whether the call left every byte past the count alone, the guard bytes too.
-fn put_kept(buffer: &[u8], count: usize, out: &mut [u8], to: usize) -> usize
-    ensures { Put out.old to (kept_words buffer.now count) out.new result }
+fn put_kept(buffer: &[u8], count: usize, line: &mut Line)
+    ensures { Puts line.old (kept_words buffer.now count) line.new }
 {
     if unchanged(buffer, count, FILLING) {
-        return put_text(out, to, b" kept");
+        line.text(b" kept");
+    } else {
+        line.text(b" changed");
     }
-    put_text(out, to, b" changed")
 }
 
 // Puts down the bytes that the call wrote, if there are any.
-fn put_written(buffer: &[u8], count: usize, out: &mut [u8], to: usize) -> usize
-    ensures { Put out.old to (written_words buffer.now count) out.new result }
+fn put_written(buffer: &[u8], count: usize, line: &mut Line)
+    ensures { Puts line.old (written_words buffer.now count) line.new }
 {
     if count == 0 {
-        return to;
+        return;
     }
     if buffer.len() < count {
-        return put_text(out, to, b" more than the buffer has");
+        line.text(b" more than the buffer has");
+        return;
     }
-    let o = put(out, to, b' ');
-    put_bytes(out, o, &buffer[..count])
+    line.put(b' ');
+    put_bytes(line, &buffer[..count]);
 }
 
 // Puts down the rest of a case's line: the count that the call answered, and what the whole buffer holds after it.
-pub fn put_filled(buffer: &[u8], count: usize, out: &mut [u8], to: usize) -> usize
-    ensures { Put out.old to (filled_line buffer.now count) out.new result }
+pub fn put_filled(buffer: &[u8], count: usize, line: &mut Line)
+    ensures { Puts line.old (filled_line buffer.now count) line.new }
 {
-    let mut o = put_text(out, to, b" wrote ");
-    o = put_number(out, o, count);
-    o = put_kept(buffer, count, out, o);
-    o = put_written(buffer, count, out, o);
-    put(out, o, b'\n')
+    line.text(b" wrote ");
+    line.number(count);
+    put_kept(buffer, count, line);
+    put_written(buffer, count, line);
+    line.put(b'\n');
 }
 
 // Puts down the line of a call that fills a buffer and answers no place.
-pub fn put_call(number: usize, count: usize, buffer: &[u8], out: &mut [u8], to: usize) -> usize
-    ensures { Put out.old to (decimal_of number ++ filled_line buffer.now count) out.new result }
+pub fn put_call(answered: usize, count: usize, buffer: &[u8], line: &mut Line)
+    ensures { Puts line.old (decimal_of answered ++ filled_line buffer.now count) line.new }
 {
-    let o = put_number(out, to, number);
-    put_filled(buffer, count, out, o)
+    line.number(answered);
+    put_filled(buffer, count, line);
+}
+
+// Puts down the text that a call wrote, the count that it answered, and whether it left every byte past that alone.
+pub fn put_told(text: &[u8], count: usize, line: &mut Line)
+    ensures { Puts line.old (told_lines text.now count) line.new }
+{
+    line.text(&text[..reach(text, 0, count)]);
+    line.number(count);
+    put_kept(text, count, line);
+    line.put(b'\n');
+}
+
+// Puts down the number that was answered, and its place.
+pub fn put_place(number: usize, place: usize, line: &mut Line)
+    ensures { Puts line.old (placed number place) line.new }
+{
+    line.number(number);
+    line.text(b" at ");
+    line.number(place);
 }

@@ -13,14 +13,10 @@ pub fn after(line: &[u8], letter: u8) -> usize
     ensures upper_bound { result ≤ length line.now }
     ensures value { result ≡ after_first letter line.now }
 {
-    let mut i: usize = 0;
-    while i < line.len() {
-        if line[i] == letter {
-            return i + 1;
-        }
-        i += 1;
+    match line.iter().position(|b| *b == letter) {
+        Some(i) => i + 1,
+        None => line.len(),
     }
-    i
 }
 
 // The decimal number at a place; after `~` it is counted down from the greatest, which has more digits than are read.

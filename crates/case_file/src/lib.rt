@@ -6,7 +6,9 @@ mod given;
 mod line;
 
 pub use case_scan::{Decimal, at, line_end, number, runs};
-pub use fill::{MOST, filled, put_call, put_filled, reach, whole_rows};
+pub use fill::{
+    FILLING, MOST, filled, put_call, put_filled, put_place, put_told, reach, whole_rows,
+};
 pub use given::{after, any_number};
 pub use line::{checksum, put_answer, put_bytes, put_hex, put_part, put_words, unchanged};
-pub use lines::{put, put_number, put_text};
+pub use lines::Line;

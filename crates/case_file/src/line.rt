@@ -1,98 +1,82 @@
-// Building a line in a lent buffer: each function puts its bytes down from a place on, as far as there is room, and gives the next place.
+// What is put down on a line of an answer.
 ghost use Rattle.std.specs.Prelude.{◌≡◌, [], ◌∷◌, ◌++◌, ◌%◌, drop};
-ghost use Rattle.case_file.specs.Line.{Put, hex_of, decimal_of, words_of, weighted, shown};
+ghost use Rattle.lines.specs.Written.{Puts};
+ghost use Rattle.case_file.specs.Line.{hex_of, decimal_of, words_of, weighted, shown};
 ghost use Rattle.case_file.specs.Fill.{all_are};
 
-use lines::{put, put_number, put_text};
+use lines::Line;
 use octets::wide;
 
 // Puts down numbers in decimal, with a space before each.
-pub fn put_words(out: &mut [u8], at: usize, numbers: &[usize]) -> usize
-    ensures { Put out.old at (words_of numbers.now) out.new result }
+pub fn put_words(line: &mut Line, numbers: &[usize])
+    ensures { Puts line.old (words_of numbers.now) line.new }
 {
-    let mut o = at;
-    let mut i: usize = 0;
-    while i < numbers.len() {
-        o = put(out, o, b' ');
-        o = put_number(out, o, numbers[i]);
-        i += 1;
+    for number in numbers {
+        line.put(b' ');
+        line.number(*number);
     }
-    o
 }
 
 // Puts down a label, and numbers after it.
-pub fn put_part(out: &mut [u8], at: usize, label: &[u8], numbers: &[usize]) -> usize
-    ensures { Put out.old at (label.now ++ words_of numbers.now) out.new result }
+pub fn put_part(line: &mut Line, label: &[u8], numbers: &[usize])
+    ensures { Puts line.old (label.now ++ words_of numbers.now) line.new }
 {
-    let o = put_text(out, at, label);
-    put_words(out, o, numbers)
+    line.text(label);
+    put_words(line, numbers);
 }
 
 // Puts down the line of a call that fills no buffer: the number that it answered, and the values.
-pub fn put_answer(out: &mut [u8], at: usize, number: usize, values: &[usize]) -> usize
-    ensures { Put out.old at (decimal_of number ++ (words_of values.now ++ (10 ∷ []))) out.new result }
+pub fn put_answer(line: &mut Line, number: usize, values: &[usize])
+    ensures { Puts line.old (decimal_of number ++ (words_of values.now ++ (10 ∷ []))) line.new }
 {
-    let mut o = put_number(out, at, number);
-    o = put_words(out, o, values);
-    put(out, o, b'\n')
+    line.number(number);
+    put_words(line, values);
+    line.put(b'\n');
 }
 
 // Puts down bytes in hex, two digits in upper case for each.
-pub fn put_hex(out: &mut [u8], at: usize, bytes: &[u8]) -> usize
-    ensures { Put out.old at (hex_of bytes.now) out.new result }
+pub fn put_hex(line: &mut Line, bytes: &[u8])
+    ensures { Puts line.old (hex_of bytes.now) line.new }
 {
-    let mut o = at;
-    let mut i: usize = 0;
-    while i < bytes.len() {
-        let b = wide(bytes[i]);
-        o = put(out, o, octets::hex_digit(b / 16));
-        o = put(out, o, octets::hex_digit(b));
-        i += 1;
+    for byte in bytes {
+        let b = wide(*byte);
+        line.put(octets::hex_digit(b >> 4));
+        line.put(octets::hex_digit(b));
     }
-    o
 }
 
 // The sum of all bytes, each times its place counted from 1, modulo 65,521: the sum of the sums of all tails, taken from the end.
 pub fn checksum(bytes: &[u8]) -> usize
     ensures { result ≡ weighted 1 bytes.now % 65521 }
 {
-    let mut i = bytes.len();
     let mut tail: usize = 0;
     let mut sum: usize = 0;
-    while 0 < i {
-        i -= 1;
-        tail = (tail + wide(bytes[i])) % 65521;
+    for byte in bytes.iter().rev() {
+        tail = (tail + wide(*byte)) % 65521;
         sum = (sum + tail) % 65521;
     }
     sum
 }
 
 // Puts down bytes in hex: all of them up to 24, else the first 8, the last 8 and the checksum of all.
-pub fn put_bytes(out: &mut [u8], at: usize, bytes: &[u8]) -> usize
-    ensures { Put out.old at (shown bytes.now) out.new result }
+pub fn put_bytes(line: &mut Line, bytes: &[u8])
+    ensures { Puts line.old (shown bytes.now) line.new }
 {
     let n = bytes.len();
     if n <= 24 {
-        return put_hex(out, at, bytes);
+        put_hex(line, bytes);
+        return;
     }
-    let last = n - 8;
-    let mut o = put_hex(out, at, &bytes[..8]);
-    o = put_text(out, o, b"..");
-    o = put_hex(out, o, &bytes[last..]);
-    o = put_text(out, o, b" sum ");
-    put_number(out, o, checksum(bytes))
+    put_hex(line, &bytes[..8]);
+    line.text(b"..");
+    put_hex(line, &bytes[n - 8..]);
+    line.text(b" sum ");
+    line.number(checksum(bytes));
 }
 
 // Whether every byte from a place on is the byte that the buffer was filled with.
 pub fn unchanged(buffer: &[u8], from: usize, filling: u8) -> bool
     ensures { result ≡ all_are filling (drop from buffer.now) }
 {
-    let mut i = from;
-    while i < buffer.len() {
-        if buffer[i] != filling {
-            return false;
-        }
-        i += 1;
-    }
-    true
+    buffer.iter().skip(from).all(|b| *b == filling)
 }

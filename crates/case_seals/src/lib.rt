@@ -4,10 +4,10 @@
 
 ghost use Rattle.std.specs.Prelude.{◌≡◌, ◌≤◌, length, drop};
 ghost use Rattle.case_file.specs.Fill.{all_are};
-ghost use Rattle.case_file.specs.Line.{Within};
+ghost use Rattle.case_file.specs.Line.{Onward};
 
 use case_fields::{put_judged, put_reading};
-use case_file::{at, put_part, put_text};
+use case_file::{Line, at, put_part};
 use reader::Reading;
 
 // What every number of the table and every byte of the text is before the call.
@@ -20,70 +20,51 @@ const MOST_NUMBERS: usize = rows::MOST + 35;
 
 const MOST_TEXT: usize = 300;
 
-// Whether every number of the table from a place on is what it was before the call.
+// Whether every number of the table from a place on is what it was before the call. `case_file::unchanged` asks it of bytes: the clause
+// is of numbers, which a type parameter is not.
 fn unchanged(table: &[usize], from: usize) -> bool
     ensures { result ≡ all_are 0x5A5A5A5A (drop from table.now) }
 {
-    let mut i = from;
-    while i < table.len() {
-        if table[i] != NUMBER {
-            return false;
-        }
-        i += 1;
-    }
-    true
+    table.iter().skip(from).all(|number| *number == NUMBER)
 }
 
 // Puts down whether the call left the table and the text alone from these places on, the guards too.
-fn put_kept(
-    table: &[usize],
-    rows: usize,
-    text: &[u8],
-    size: usize,
-    out: &mut [u8],
-    to: usize,
-) -> usize
-    ensures { Within out.old to result }
+fn put_kept(table: &[usize], rows: usize, text: &[u8], size: usize, out: &mut Line)
+    ensures { Onward out.old out.new }
 {
     if !unchanged(table, rows) {
-        return put_text(out, to, b" table changed");
+        out.text(b" table changed");
+    } else if !case_file::unchanged(text, size, BYTE) {
+        out.text(b" text changed");
+    } else {
+        out.text(b" kept");
     }
-    if !case_file::unchanged(text, size, BYTE) {
-        return put_text(out, to, b" text changed");
-    }
-    put_text(out, to, b" kept")
 }
 
 // Puts down what the call wrote, the rows and the text, on any number but 0 nothing, and whether all else was kept.
-fn put_written(r: Reading, table: &[usize], text: &[u8], out: &mut [u8], to: usize) -> usize
-    ensures { Within out.old to result }
+fn put_written(r: Reading, table: &[usize], text: &[u8], out: &mut Line)
+    ensures { Onward out.old out.new }
 {
     if r.number != 0 {
-        return put_kept(table, 0, text, 0, out, to);
+        put_kept(table, 0, text, 0, out);
+        return;
     }
     let header = r.header;
     let rows = case_file::whole_rows(table, r.count);
     let size = case_file::reach(text, 4, header.length);
-    let mut o = put_part(out, to, b" rows", &table[..rows]);
-    o = put_text(out, o, b" text ");
-    o = put_text(out, o, &text[..size]);
-    put_kept(table, rows, text, size, out, o)
+    put_part(out, b" rows", &table[..rows]);
+    out.text(b" text ");
+    out.text(&text[..size]);
+    put_kept(table, rows, text, size, out);
 }
 
 // Puts down the line of a case.
-fn report(
-    read: Reading,
-    judged: Reading,
-    table: &[usize],
-    text: &[u8],
-    out: &mut [u8],
-    to: usize,
-) -> usize
-    ensures { Within out.old to result }
+fn report(read: Reading, judged: Reading, table: &[usize], text: &[u8], out: &mut Line)
+    ensures { Onward out.old out.new }
 {
-    let mut o = put_reading(read, out, to);
-    o = put_written(read, table, text, out, o);
-    put_judged(read, judged, out, o)
+    put_reading(read, out);
+    put_written(read, table, text, out);
+    put_judged(read, judged, out);
 }
 
 // Runs one case with the first numbers of the table and the first bytes of the text lent to the reader.
@@ -93,37 +74,38 @@ fn run_case(
     room: usize,
     table: &mut [usize],
     text: &mut [u8],
-    out: &mut [u8],
-    to: usize,
-) -> usize
+    out: &mut Line,
+)
     requires numbers_in_bounds { numbers ≤ length table.old }
     requires room_in_bounds { room ≤ length text.old }
-    ensures { Within out.old to result }
+    ensures { Onward out.old out.new }
 {
     let read = reader::read(seal, &mut table[..numbers], &mut text[..room]);
-    report(read, reader::judge(seal), table, text, out, to)
+    report(read, reader::judge(seal), table, text, out);
 }
 
 // Runs the case of a line, `s NUMBERS ROOM RUNS`; any other line is a comment and gives nothing.
-pub fn run_line(line: &[u8], out: &mut [u8], to: usize) -> usize
-    ensures { Within out.old to result }
+pub fn run_line(line: &[u8], out: &mut Line)
+    ensures { Onward out.old out.new }
 {
     if at(line, 0) != b's' {
-        return to;
+        return;
     }
     let first = case_file::number(line, 2);
     let second = case_file::number(line, first.next + 1);
     let numbers = first.value;
     let room = second.value;
     if MOST_NUMBERS < numbers {
-        return put_text(out, to, b"too much room\n");
+        out.text(b"too much room\n");
+        return;
     }
     if MOST_TEXT < room {
-        return put_text(out, to, b"too much room\n");
+        out.text(b"too much room\n");
+        return;
     }
     let mut seal = [0u8; 8192];
     let size = case_file::runs(line, second.next, &mut seal);
     let mut table = [NUMBER; MOST_NUMBERS + 16];
     let mut text = [BYTE; 316];
-    run_case(&seal[..size], numbers, room, &mut table, &mut text, out, to)
+    run_case(&seal[..size], numbers, room, &mut table, &mut text, out);
 }

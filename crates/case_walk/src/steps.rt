@@ -1,20 +1,13 @@
 // A case of a whole walk, and one of a single step: a line for each answer.
-ghost use Rattle.case_file.specs.Line.{Within};
+ghost use Rattle.case_file.specs.Line.{Onward};
 
 use crate::line::put_line;
-use case_file::put_answer;
+use case_file::{Line, put_answer};
 use walk::Step;
 
-// How far a walk was put down: the place that its last answer gave, and the next place of the buffer.
-#[derive(Clone, Copy)]
-struct Walked {
-    at: usize,
-    to: usize,
-}
-
 // Puts down the line of a step: every field in its order, and the value that it found.
-fn put_step(step: Step, value: &[u8], out: &mut [u8], to: usize) -> usize
-    ensures { Within out.old to result }
+fn put_step(step: Step, value: &[u8], out: &mut Line)
+    ensures { Onward out.old out.new }
 {
     let row = step.row;
     put_line(
@@ -22,69 +15,64 @@ fn put_step(step: Step, value: &[u8], out: &mut [u8], to: usize) -> usize
         &[step.place, row.tag, row.start, row.place, row.size, step.at],
         value,
         out,
-        to,
-    )
+    );
 }
 
-// Puts down the steps of a walk from a place on, up to the first that finds no further feature.
-fn put_walk(seal: &[u8], start: usize, out: &mut [u8], to: usize) -> Walked
-    ensures { Within out.old to result.to }
+// Puts down the steps of a walk from a place on, up to the first that finds no further feature, and gives the place that this one gave.
+fn put_walk(seal: &[u8], start: usize, out: &mut Line) -> usize
+    ensures { Onward out.old out.new }
 {
-    let mut o = to;
     let mut at = start;
+    // each step's place is in the answer before it, so nothing counts them
     loop {
         let step = walk::next_at(seal, at);
-        o = put_step(step, walk::value_at(seal, at), out, o);
+        put_step(step, walk::value_at(seal, at), out);
         at = step.at;
         if step.number != 0 {
-            return Walked { at, to: o };
+            return at;
         }
     }
 }
 
 // Puts down four steps more, each asked at the place that the answer before it gave: a walk that has ended says so again and again.
-fn put_ended(seal: &[u8], start: usize, out: &mut [u8], to: usize) -> usize
-    ensures { Within out.old to result }
+fn put_ended(seal: &[u8], start: usize, out: &mut Line)
+    ensures { Onward out.old out.new }
 {
-    let mut o = to;
     let mut at = start;
-    let mut k: usize = 0;
-    while k < 4 {
+    for _ in 0..4 {
         let step = walk::next_at(seal, at);
-        o = put_step(step, walk::value_at(seal, at), out, o);
+        put_step(step, walk::value_at(seal, at), out);
         at = step.at;
-        k += 1;
     }
-    o
 }
 
 // Puts down the opening of a walk, the steps to its end, and those after it.
-fn put_whole(seal: &[u8], out: &mut [u8], to: usize) -> usize
-    ensures { Within out.old to result }
+fn put_whole(seal: &[u8], out: &mut Line)
+    ensures { Onward out.old out.new }
 {
     let start = walk::start_at(seal);
-    let o = put_answer(out, to, start.number, &[start.place, start.at]);
-    let walked = put_walk(seal, start.at, out, o);
-    put_ended(seal, walked.at, out, walked.to)
+    put_answer(out, start.number, &[start.place, start.at]);
+    let end = put_walk(seal, start.at, out);
+    put_ended(seal, end, out);
 }
 
 // `f RUNS`: a whole walk.
-pub(crate) fn run_walk(line: &[u8], out: &mut [u8], to: usize) -> usize
-    ensures { Within out.old to result }
+pub(crate) fn run_walk(line: &[u8], out: &mut Line)
+    ensures { Onward out.old out.new }
 {
     let mut seal = [0u8; 8192];
     let size = case_file::runs(line, 1, &mut seal);
-    put_whole(&seal[..size], out, to)
+    put_whole(&seal[..size], out);
 }
 
 // `s AT RUNS`: one step at a place.
-pub(crate) fn run_step(line: &[u8], out: &mut [u8], to: usize) -> usize
-    ensures { Within out.old to result }
+pub(crate) fn run_step(line: &[u8], out: &mut Line)
+    ensures { Onward out.old out.new }
 {
     let place = case_file::any_number(line, 2);
     let mut bytes = [0u8; 8192];
     let size = case_file::runs(line, place.next, &mut bytes);
     let seal = &bytes[..size];
     let at = place.value;
-    put_step(walk::next_at(seal, at), walk::value_at(seal, at), out, to)
+    put_step(walk::next_at(seal, at), walk::value_at(seal, at), out);
 }

@@ -3,9 +3,9 @@
 #![tactic(auto)]
 
 ghost use Rattle.std.specs.Prelude.{◌≤◌, length};
-ghost use Rattle.case_file.specs.Line.{Within, Counts};
+ghost use Rattle.case_file.specs.Line.{Onward, Counts};
 
-use case_file::{after, any_number, at, put_call, put_text};
+use case_file::{Line, after, any_number, at, put_call};
 use dates::Date;
 use face::FrFilled;
 use fields::Header;
@@ -15,21 +15,19 @@ fn numbers(line: &[u8], from: usize, table: &mut [usize]) -> usize
     ensures { Counts result table.new }
 {
     let mut i = from;
-    let mut count: usize = 0;
-    while i < line.len() {
+    for count in 0..table.len() {
+        if line.len() <= i {
+            return count;
+        }
         let word = any_number(line, i + 1);
         // no digit: the part ends here
         if word.next == i + 1 {
             return count;
         }
-        if count == table.len() {
-            return count;
-        }
         table[count] = word.value;
-        count += 1;
         i = word.next;
     }
-    count
+    table.len()
 }
 
 // A header of the numbers of a line: version, L, both dates, definition reference, category.
@@ -83,23 +81,23 @@ fn run_case(
     values: &[u8],
     signature: &[u8],
     room: usize,
-    out: &mut [u8],
-    to: usize,
-) -> usize
-    ensures { Within out.old to result }
+    out: &mut Line,
+)
+    ensures { Onward out.old out.new }
 {
     if case_file::MOST < room {
-        return put_text(out, to, b"too much room\n");
+        out.text(b"too much room\n");
+        return;
     }
     let mut buffer = case_file::filled();
     let a = write(header, text, rows, values, signature, room, &mut buffer);
-    put_call(a.number, a.count, &buffer, out, to)
+    put_call(a.number, a.count, &buffer, out);
 }
 
 // `w ROOM h NUMBERS c RUNS t RUNS r NUMBERS v RUNS g RUNS`: the header's numbers, its country, the text, the rows, the
 // values and the signature.
-fn run_given(line: &[u8], out: &mut [u8], to: usize) -> usize
-    ensures { Within out.old to result }
+fn run_given(line: &[u8], out: &mut Line)
+    ensures { Onward out.old out.new }
 {
     let mut fields = [0usize; 10];
     numbers(line, after(line, b'h'), &mut fields);
@@ -123,16 +121,14 @@ fn run_given(line: &[u8], out: &mut [u8], to: usize) -> usize
         &signature[..length],
         room.value,
         out,
-        to,
-    )
+    );
 }
 
 // Runs the case of a line, of the letter `w`; any other line is a comment and gives nothing.
-pub fn run_line(line: &[u8], out: &mut [u8], to: usize) -> usize
-    ensures { Within out.old to result }
+pub fn run_line(line: &[u8], out: &mut Line)
+    ensures { Onward out.old out.new }
 {
-    if at(line, 0) != b'w' {
-        return to;
+    if at(line, 0) == b'w' {
+        run_given(line, out);
     }
-    run_given(line, out, to)
 }

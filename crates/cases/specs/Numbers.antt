@@ -2,7 +2,7 @@
 -- Assumes nothing.
 use Rattle.std.specs.Prelude.{List, [], ◌∷◌, ℕ, suc, ℤ, pos, negsuc}
 use Rattle.format.specs.BigEndian.{val}
-use Rattle.format.specs.Answers.{Outcome, Result, done}
+use Rattle.format.specs.Answers.{Outcome, Valued, done}
 use Rattle.dates.specs.Days.{publish}
 use Rattle.dates.specs.Calls.{from_number}
 use Rattle.dates.specs.declared.Date.{Date}
@@ -10,14 +10,14 @@ use Rattle.integers.specs.Calls.{reading, writing}
 use Rattle.cases.specs.Case.{Case}
 
 -- a number that is given, shown as its date's fields; and an INTEGER, shown as its sign (1 for a number below 0) and how far it is from 0
-abbrev pub fields : Result Date → Outcome
+abbrev pub fields : Valued Date → Outcome
 fields g = record { number = g.number; place = g.place; written = g.value.month ∷ g.value.day ∷ g.value.year ∷ [] }
 
 abbrev pub signed : ℤ → List ℕ
 signed (pos n) = 0 ∷ n ∷ []
 signed (negsuc n) = 1 ∷ suc n ∷ []
 
-abbrev pub value : Result ℤ → Outcome
+abbrev pub value : Valued ℤ → Outcome
 value g = record { number = g.number; place = g.place; written = signed g.value }
 
 -- 25 March 1957

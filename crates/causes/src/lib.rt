@@ -6,7 +6,7 @@ ghost use Rattle.std.specs.Prelude.{◌≡◌};
 ghost use Rattle.causes.specs.Causes.{rule_number, item_code, rule_code};
 
 // The items, in the order in which they are read. Version 3 has one item for signer and reference, version 4 two.
-#[derive(Clone, Copy)]
+#[derive(Clone, Copy, Debug, PartialEq, Eq)]
 pub enum Item {
     // the whole byte string, before its first item is read
     Seal,
@@ -33,7 +33,7 @@ pub enum Item {
 }
 
 // The rules, each in the words of what an item keeps; of two that an item breaks the one that stands first is told.
-#[derive(Clone, Copy)]
+#[derive(Clone, Copy, Debug, PartialEq, Eq)]
 pub enum Rule {
     // at most 4,096 bytes
     NotTooLong,
@@ -73,7 +73,7 @@ pub enum Rule {
     NothingAfter,
 }
 
-#[derive(Clone, Copy)]
+#[derive(Clone, Copy, Debug, PartialEq, Eq)]
 pub struct Why {
     pub item: Item,
     pub rule: Rule,

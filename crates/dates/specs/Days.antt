@@ -37,7 +37,7 @@ Day d = is_day d ≡ true
 abbrev pub dated : ℕ → ℕ → ℕ → Date
 dated month day year = record { month = month; day = day; year = year }
 
--- A date's own first and last day: 1 January of year 1 and 31 December of year 9999. specs/Exact.antt proves that they are days,
+-- A date's own first and last day: 1 January of year 1 and 31 December of year 9999. proofs/Exact.antt proves that they are days,
 -- and that no day is before the one or after the other.
 abbrev pub first_day : Date
 first_day = dated 1 1 1

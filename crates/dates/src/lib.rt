@@ -15,23 +15,10 @@ pub struct Date {
     pub year: usize,
 }
 
-// What a number answers; `taken_of` of specs/Calls.antt gives each case its number and value.
-#[derive(Clone, Copy)]
-pub enum Taken {
-    // 0
-    Day(Date),
-    // 6: no such date
-    NoSuchDate,
-}
-
-// What a date answers whose number is asked for; its fields are public, so any may come.
-#[derive(Clone, Copy)]
-pub enum Numbered {
-    // 0
-    Number(usize),
-    // 22: no such date
-    NoSuchDate,
-}
+// The error of a number, and of a date, that is no day of the calendar: 6 where a date is read, 22 where one is given, as `taken_of` and
+// `numbered_of` of specs/Calls.antt say.
+#[derive(Clone, Copy, Debug, PartialEq, Eq)]
+pub struct NoSuchDate;
 
 impl Date {
     // 1 January of year 1.
@@ -88,12 +75,12 @@ impl Date {
 
     // The date whose number MMDDYYYY this is, without a division: over numbers of eight digits 109951163 / 2^40 serves as 1 / 10000, and
     // over those of four 5243 / 2^19 as 1 / 100.
-    pub fn from_number(number: usize) -> Taken
+    pub fn from_number(number: usize) -> Result<Date, NoSuchDate>
         ensures { taken_of result ≡ from_number number }
     {
         // past eight digits there is no such month
         if 99999999 < number {
-            return Taken::NoSuchDate;
+            return Err(NoSuchDate);
         }
         let month_and_day = (number * 109951163) >> 40;
         let month = (month_and_day * 5243) >> 19;
@@ -103,26 +90,26 @@ impl Date {
             year: number - month_and_day * 10000,
         };
         if date.is_day() {
-            return Taken::Day(date);
+            return Ok(date);
         }
-        Taken::NoSuchDate
+        Err(NoSuchDate)
     }
 
     // The date in three bytes, big-endian.
-    pub fn from_bytes(a: u8, b: u8, c: u8) -> Taken
+    pub fn from_bytes(a: u8, b: u8, c: u8) -> Result<Date, NoSuchDate>
         ensures { taken_of result ≡ from_number (val (a ∷ b ∷ c ∷ []) 3) }
     {
         Date::from_number((a as usize) * 65536 + (b as usize) * 256 + (c as usize))
     }
 
-    // The date's number MMDDYYYY, below 2 to the 24 and so three bytes.
-    pub fn number(self) -> Numbered
+    // The date's number MMDDYYYY, below 2 to the 24 and so three bytes. The fields are public, so a date may be no day.
+    pub fn number(self) -> Result<usize, NoSuchDate>
         ensures { numbered_of result ≡ to_number self }
     {
         let date = self;
-        if date.is_day() {
-            return Numbered::Number(date.month * 1000000 + date.day * 10000 + date.year);
+        if !date.is_day() {
+            return Err(NoSuchDate);
         }
-        Numbered::NoSuchDate
+        Ok(date.month * 1000000 + date.day * 10000 + date.year)
     }
 }

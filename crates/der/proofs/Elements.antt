@@ -1,2 +1,2 @@
--- Theorems on the module of this name in specs/, and an index.
+-- Theorems on specs/Element.antt, and an index.
 pub mod Exact

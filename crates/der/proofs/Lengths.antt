@@ -1,4 +1,4 @@
--- Theorems on the module of this name in specs/, and an index.
+-- Theorems on specs/Length.antt, and an index.
 pub mod Exact
 pub mod Laws
 pub mod Written

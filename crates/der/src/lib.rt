@@ -8,7 +8,7 @@ ghost use Rattle.der.specs.Content.{redundant};
 use octets::{low, wide};
 
 // Why there is no DER length at the head of a byte string.
-#[derive(Clone, Copy)]
+#[derive(Clone, Copy, Debug, PartialEq, Eq)]
 pub enum Fault {
     // there is no byte at all
     NoByte,
@@ -20,16 +20,15 @@ pub enum Fault {
     NotShortest,
 }
 
-// A DER length at the head of a byte string.
-#[derive(Clone, Copy)]
-pub enum Length {
-    // the length, and the width of its form
-    Is(usize, usize),
-    Not(Fault),
+// A DER length at the head of a byte string, and the width of its form.
+#[derive(Clone, Copy, Debug, PartialEq, Eq)]
+pub struct Length {
+    pub size: usize,
+    pub width: usize,
 }
 
-// A DER length as it is written: its bytes.
-#[derive(Clone, Copy)]
+// A DER length as it is written: its bytes. One of 65,536 and more has none here.
+#[derive(Clone, Copy, Debug, PartialEq, Eq)]
 pub enum Form {
     // below 128
     One(u8),
@@ -37,17 +36,13 @@ pub enum Form {
     Two(u8, u8),
     // 82 and two bytes
     Three(u8, u8, u8),
-    // 65,536 and more, which nothing here writes
-    Longer,
 }
 
-// An element at the head of a byte string.
-#[derive(Clone, Copy)]
-pub enum Element {
-    // where its body starts, and one past its end
-    Body(usize, usize),
-    // another tag, no length, or not whole
-    Nothing,
+// The body of an element at the head of a byte string: where it starts, and one past its end.
+#[derive(Clone, Copy, Debug, PartialEq, Eq)]
+pub struct Body {
+    pub start: usize,
+    pub end: usize,
 }
 
 // The least length that needs `k` bytes after the first, 1 to 4.
@@ -64,71 +59,70 @@ fn least(k: usize) -> usize
 }
 
 // The DER length in `k` bytes after the first of `s`.
-fn long_form(s: &[u8], k: usize) -> Length
+fn long_form(s: &[u8], k: usize) -> Result<Length, Fault>
     requires { (0 < length s.now) × ((0 < k) × (k < 5)) }
     ensures { result ≡ long_form k (drop 1 s.now) }
 {
     if s.len() - 1 < k {
-        return Length::Not(Fault::Cut);
+        return Err(Fault::Cut);
     }
     let end = k + 1;
     let value = octets::number(&s[1..end]);
     if value < least(k) {
-        return Length::Not(Fault::NotShortest);
+        return Err(Fault::NotShortest);
     }
-    Length::Is(value, end)
+    Ok(Length {
+        size: value,
+        width: end,
+    })
 }
 
 // The DER length at the head of `s`: the first byte is judged before its rest is looked for.
-pub fn read_length(s: &[u8]) -> Length
+pub fn read_length(s: &[u8]) -> Result<Length, Fault>
     ensures { result ≡ read_length s.now }
 {
     if s.len() == 0 {
-        return Length::Not(Fault::NoByte);
+        return Err(Fault::NoByte);
     }
     let x = wide(s[0]);
     if x < 0x80 {
-        return Length::Is(x, 1);
+        return Ok(Length { size: x, width: 1 });
     }
     if x == 0x80 {
-        return Length::Not(Fault::FirstByte);
+        return Err(Fault::FirstByte);
     }
     if 0x85 <= x {
-        return Length::Not(Fault::FirstByte);
+        return Err(Fault::FirstByte);
     }
     long_form(s, x - 0x80)
 }
 
-// The DER length of this size, byte by byte.
-pub fn length_form(size: usize) -> Form
+// The DER length of this size, byte by byte, below 65,536.
+pub fn length_form(size: usize) -> Option<Form>
     ensures { result ≡ length_form size }
 {
     if size < 0x80 {
-        return Form::One(size as u8);
+        return Some(Form::One(size as u8));
     }
     if size < 0x100 {
-        return Form::Two(0x81, size as u8);
+        return Some(Form::Two(0x81, size as u8));
     }
     if size < 0x10000 {
-        return Form::Three(0x82, low(size >> 8), low(size));
+        return Some(Form::Three(0x82, low(size >> 8), low(size)));
     }
-    Form::Longer
+    None
 }
 
-// How many bytes that is.
+// How many bytes that is, and none for a longer one.
 pub fn length_width(size: usize) -> usize
     ensures { result ≡ length (written size) }
 {
-    if size < 0x80 {
-        return 1;
+    match length_form(size) {
+        Some(Form::One(_)) => 1,
+        Some(Form::Two(_, _)) => 2,
+        Some(Form::Three(_, _, _)) => 3,
+        None => 0,
     }
-    if size < 0x100 {
-        return 2;
-    }
-    if size < 0x10000 {
-        return 3;
-    }
-    0
 }
 
 // Whether a first byte says no more than the second's top bit does.

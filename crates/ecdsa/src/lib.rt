@@ -6,11 +6,9 @@ ghost use Rattle.std.specs.Prelude.{◌≡◌};
 ghost use Rattle.ecdsa.specs.Signature.{is_size};
 ghost use Rattle.ecdsa.specs.Calls.{hash_for, hash_of};
 
-// What a raw signature answers that is asked for its DER form; `to_der_of` of specs/Calls.antt gives each case its number.
-#[derive(Clone, Copy)]
-pub enum ToDer {
-    // 0: the count of bytes written
-    Done(usize),
+// Why a raw signature has no DER form written; `to_der_of` of specs/Calls.antt gives each case its number.
+#[derive(Clone, Copy, Debug, PartialEq, Eq)]
+pub enum ToDerError {
     // 60: n is not one of the five sizes
     NoSize,
     // 61: raw length is not 2n
@@ -19,11 +17,9 @@ pub enum ToDer {
     NoRoom,
 }
 
-// What a DER signature answers that is asked for its raw form; `to_raw_of` of specs/Calls.antt gives each case its number.
-#[derive(Clone, Copy)]
-pub enum ToRaw {
-    // 0: the count of bytes written
-    Done(usize),
+// Why a DER signature has no raw form written; `to_raw_of` of specs/Calls.antt gives each case its number.
+#[derive(Clone, Copy, Debug, PartialEq, Eq)]
+pub enum ToRawError {
     // 60: n is not one of the five sizes
     NoSize,
     // 62: not strict DER, with bytes left over, negative, or too big for n
@@ -32,50 +28,45 @@ pub enum ToRaw {
     NoRoom,
 }
 
-// The INTEGER at the head of a byte string.
-#[derive(Clone, Copy)]
-pub enum Number {
-    // where its digits start, and one past its end
-    Digits(usize, usize),
-    // none that is strict, not negative and not too big
-    Nothing,
+// The digits of an INTEGER at the head of a byte string that is strict, not negative and not too big: where they start, and one past
+// their end.
+#[derive(Clone, Copy, Debug, PartialEq, Eq)]
+pub struct Digits {
+    pub start: usize,
+    pub end: usize,
 }
 
 // The hash that goes with n.
-#[derive(Clone, Copy)]
+#[derive(Clone, Copy, Debug, PartialEq, Eq)]
 pub enum Hash {
     Sha224,
     Sha256,
     Sha384,
     Sha512,
-    // 60: n is not one of the five sizes
-    NoSize,
 }
 
+// The error of n that is not one of the five sizes: 60, by `hash_of` of specs/Calls.antt.
+#[derive(Clone, Copy, Debug, PartialEq, Eq)]
+pub struct NoSize;
+
 // Whether n is one of the five sizes.
+#[tactic(auto, unfolding(crate::specs::Signature::is_size))]
 pub fn is_size(n: usize) -> bool
     ensures { result ≡ is_size n }
 {
-    match n {
-        28 => true,
-        32 => true,
-        48 => true,
-        64 => true,
-        66 => true,
-        _ => false,
-    }
+    matches!(n, 28 | 32 | 48 | 64 | 66)
 }
 
 // The hash by n.
-pub fn hash_for(n: usize) -> Hash
+pub fn hash_for(n: usize) -> Result<Hash, NoSize>
     ensures { hash_of result ≡ hash_for n }
 {
     match n {
-        28 => Hash::Sha224,
-        32 => Hash::Sha256,
-        48 => Hash::Sha384,
-        64 => Hash::Sha512,
-        66 => Hash::Sha512,
-        _ => Hash::NoSize,
+        28 => Ok(Hash::Sha224),
+        32 => Ok(Hash::Sha256),
+        48 => Ok(Hash::Sha384),
+        64 => Ok(Hash::Sha512),
+        66 => Ok(Hash::Sha512),
+        _ => Err(NoSize),
     }
 }

@@ -7,18 +7,18 @@ ghost use Rattle.ecdsa.specs.Calls.{to_der, to_der_of};
 
 mod der_form;
 
-use ecdsa::ToDer;
+use ecdsa::ToDerError;
 
 // Writes the DER form of a raw signature from the start of `out`.
-pub fn to_der(n: usize, raw: &[u8], out: &mut [u8]) -> ToDer
+pub fn to_der(n: usize, raw: &[u8], out: &mut [u8]) -> Result<usize, ToDerError>
     ensures answer { to_der_of result ≡ told (to_der n raw.now (length out.old)) }
     ensures buffer { out.new ≡ filled (to_der n raw.now (length out.old)) out.old }
 {
     if !ecdsa::is_size(n) {
-        return ToDer::NoSize;
+        return Err(ToDerError::NoSize);
     }
     if raw.len() != 2 * n {
-        return ToDer::WrongLength;
+        return Err(ToDerError::WrongLength);
     }
     der_form::put_pair(&raw[..n], &raw[n..], out)
 }

@@ -8,13 +8,11 @@ use Rattle.format.specs.Answers.{Outcome, done, refused}
 use Rattle.format.specs.Order.{test, in_order}
 use Rattle.format.specs.Buffer.{over}
 use Rattle.format.proofs.Buffer.Laws.{over_over, length_over}
-use Rattle.der.specs.Element.{element_in}
-use Rattle.der.specs.declared.Element.TheVariants as found
+use Rattle.der.specs.Element.{lies, element_in}
 use Rattle.ecdsa.specs.Signature.{is_size}
-use Rattle.ecdsa.specs.Strict.{Raw, raw, none, part, number_in, padded, lastly, pair_in, is_raw, bytes_in}
+use Rattle.ecdsa.specs.Strict.{Raw, raw, none, part, stand, number_in, padded, lastly, pair_in, is_raw, bytes_in}
 use Rattle.ecdsa.proofs.Strict.Laws.{Inside, length_part, length_padded, raw_pair}
 use Rattle.ecdsa.specs.Calls.{to_raw}
-use Rattle.ecdsa.specs.declared.Number.TheVariants.{Digits}
 
 -- 62: nothing was read; 63: no room for n bytes and n more
 unfoldable pub rawed : ℕ → Raw → ℕ → Outcome
@@ -38,7 +36,7 @@ module _ (n room : ℕ) where
 pub to_raw_pair :
     (n : ℕ) (s : List ℕ) (room from to : ℕ) →
     is_size n ≡ true →
-    element_in 0x30 s ≡ found.Body from to →
+    element_in 0x30 s ≡ lies from to →
     to ≡ length s →
     (t : List ℕ) →
     t ≡ take (length s - from) (drop from s) →
@@ -50,14 +48,14 @@ to_raw_pair n s room from to size e whole t at =
 -- both numbers, by what is read
 module _ (n : ℕ) (t : List ℕ) (a b : ℕ) where
   pub pair_second :
-      number_in n t ≡ Digits a b →
+      number_in n t ≡ stand a b →
       (u : List ℕ) →
       u ≡ take (length t - b) (drop b t) →
       lastly n (padded n (part a b t)) u (number_in n u) ≡ pair_in n t (number_in n t)
   pair_second e u at =
       ap (λ v. lastly n (padded n (part a b t)) v (number_in n v)) (at ∙ to_end t b) ∙ sym (ap (pair_in n t) e)
 
-  module _ (r : List ℕ) (e : number_in n t ≡ Digits a b) where
+  module _ (r : List ℕ) (e : number_in n t ≡ stand a b) where
     pub second_left : (b ≡ length t → ⊥) → lastly n r t (number_in n t) ≡ none
     second_left h = ap (lastly n r t) e ∙ simp (ne_eqb b (length t) h)
 

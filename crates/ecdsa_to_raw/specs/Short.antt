@@ -1,32 +1,29 @@
 -- The INTEGER of a number for fewer than 127 bytes: 02, one byte of length, and content whose first two bytes say where its digits start.
 -- Laws alone.
 -- Assumes nothing.
-use Rattle.std.specs.Prelude.{◌≡◌, refl, true, false, not, ℕ, ◌+◌, ◌-◌, ◌<◌, ◌≤◌, List, ◌∷◌, ◌++◌, ltb, length, get_or, take, drop}
+use Rattle.std.specs.Prelude.{◌≡◌, refl, true, false, not, ℕ, ◌+◌, ◌-◌, ◌<◌, ◌≤◌, List, ◌∷◌, ◌++◌, Option, Some, None, ltb, length, get_or, take, drop}
 use Rattle.std.proofs.Common.{ap, ap₂, sym, ◌∙◌, arith, ltb-true, ltb-false, length-drop, length-take-le, get_or-take, get_or-drop}
 use Rattle.format.specs.Bytes.{Bytes}
 use Rattle.format.specs.Choice.Laws.{by_test}
-use Rattle.der.specs.Length.{read_length}
+use Rattle.der.specs.Length.{is, read_length}
 use Rattle.der.proofs.Lengths.Laws.{length_short}
 use Rattle.der.proofs.Lengths.Exact.{form_short}
-use Rattle.der.specs.Element.{element_in, body_in}
+use Rattle.der.specs.Element.{lies, element_in, body_in}
 use Rattle.der.specs.Element.Laws.{body_is, element_read}
 use Rattle.der.proofs.Elements.Exact.{element_whole}
 use Rattle.der.specs.Content.{redundant, strict}
 use Rattle.der.specs.Content.Laws.{strict_none, strict_one, strict_more, zero_redundant, zero_needed, byte_needed}
-use Rattle.der.specs.declared.Length.TheVariants.{Is}
-use Rattle.der.specs.declared.Element.TheVariants.{Body}
-use Rattle.ecdsa.specs.Strict.{part, lead, digits_in, number_in}
+use Rattle.ecdsa.specs.Strict.{part, lead, stand, digits_in, number_in}
 use Rattle.ecdsa.proofs.Strict.Laws.{lead_one, lead_not, lead_short, lead_small, length_part, strict_some}
 use Rattle.ecdsa.proofs.Strict.Laws.{digits_not_strict, digits_negative, digits_too_big, digits_is, number_at_lem, number_read}
-use Rattle.ecdsa.specs.declared.Number.{Number}
-use Rattle.ecdsa.specs.declared.Number.TheVariants.{Digits, Nothing}
+use Rattle.ecdsa.specs.declared.Digits.{Digits}
 
 -- content that is negative, or longer than n digits after a first byte that is none, is no number, strict or not
-negative : (n from to : ℕ) (c : List ℕ) → 0x80 ≤ get_or c 0 0 → Nothing ≡ digits_in n from to c
+negative : (n from to : ℕ) (c : List ℕ) → 0x80 ≤ get_or c 0 0 → None ≡ digits_in n from to c
 negative n from to c h =
     by_test (strict c) (λ s. digits_negative n from to c s h) (λ s. digits_not_strict n from to c s)
 
-too_big : (n from to : ℕ) (c : List ℕ) → n + 1 < to - from → Nothing ≡ digits_in n from to c
+too_big : (n from to : ℕ) (c : List ℕ) → n + 1 < to - from → None ≡ digits_in n from to c
 too_big n from to c h =
     by_test (strict c)
     (λ s.
@@ -47,16 +44,16 @@ module _ (n : ℕ) (t : List ℕ) (size : ℕ) (inside : size + 2 ≤ length t) 
   byte : (i : ℕ) → i < size → get_or (content size t) i 0 ≡ get_or t (2 + i) 0
   byte i h = get_or-take (size + 2 - 2) (drop 2 t) i 0 (omega arith) ∙ get_or-drop 2 t i 0
 
-  pub digits_none : size ≡ 0 → Nothing ≡ digits_in n 2 (size + 2) (content size t)
+  pub digits_none : size ≡ 0 → None ≡ digits_in n 2 (size + 2) (content size t)
   digits_none h = digits_not_strict n 2 (size + 2) (content size t) (sym (strict_none (content size t) (many ∙ h)))
 
-  pub digits_below_zero : 0 < size → 0x80 ≤ get_or t 2 0 → Nothing ≡ digits_in n 2 (size + 2) (content size t)
+  pub digits_below_zero : 0 < size → 0x80 ≤ get_or t 2 0 → None ≡ digits_in n 2 (size + 2) (content size t)
   digits_below_zero some h = negative n 2 (size + 2) (content size t) (omega (arith, byte 0 some))
 
   module _ (low : get_or t 2 0 < 0x80) where
-    pub digits_one : size ≡ 1 → 0 < n → Digits 2 3 ≡ digits_in n 2 (size + 2) (content size t)
+    pub digits_one : size ≡ 1 → 0 < n → stand 2 3 ≡ digits_in n 2 (size + 2) (content size t)
     digits_one h some =
-        ap (λ k. Digits 2 (k + 2)) (sym h)
+        ap (λ k. stand 2 (k + 2)) (sym h)
         ∙ digits_is n 2 (size + 2) (content size t) (sym (strict_one (content size t) (many ∙ h))) (omega (arith, byte 0 (omega arith))) 0
         (lead_short (content size t) (omega (arith, many))) (omega arith)
 
@@ -71,17 +68,17 @@ module _ (n : ℕ) (t : List ℕ) (size : ℕ) (inside : size + 2 ≤ length t) 
       low_first = omega (arith, byte 0 (omega arith))
 
       module _ (zero : get_or t 2 0 ≡ 0) where
-        pub digits_loose : get_or t 3 0 < 0x80 → Nothing ≡ digits_in n 2 (size + 2) (content size t)
+        pub digits_loose : get_or t 3 0 < 0x80 → None ≡ digits_in n 2 (size + 2) (content size t)
         digits_loose h =
             digits_not_strict n 2 (size + 2) (content size t)
             (sym (strict_more (content size t) (omega (arith, many)))
             ∙ ap₂ (λ x y. not (redundant x y)) (byte 0 (omega arith) ∙ zero) (byte 1 more)
             ∙ ap not (zero_redundant (get_or t 3 0) h))
 
-        pub digits_zero_big : n + 1 < size → Nothing ≡ digits_in n 2 (size + 2) (content size t)
+        pub digits_zero_big : n + 1 < size → None ≡ digits_in n 2 (size + 2) (content size t)
         digits_zero_big h = too_big n 2 (size + 2) (content size t) (omega arith)
 
-        pub digits_zero : 0x80 ≤ get_or t 3 0 → size ≤ n + 1 → Digits 3 (size + 2) ≡ digits_in n 2 (size + 2) (content size t)
+        pub digits_zero : 0x80 ≤ get_or t 3 0 → size ≤ n + 1 → stand 3 (size + 2) ≡ digits_in n 2 (size + 2) (content size t)
         digits_zero high h =
             digits_is n 2 (size + 2) (content size t)
             (is_strict (ap (λ x. redundant x (get_or t 3 0)) zero ∙ zero_needed (get_or t 3 0) high))
@@ -94,10 +91,10 @@ module _ (n : ℕ) (t : List ℕ) (size : ℕ) (inside : size + 2 ≤ length t) 
         none_lead : lead (content size t) ≡ 0
         none_lead = lead_not (content size t) (λ e. some (sym (byte 0 (omega arith)) ∙ e))
 
-        pub digits_all_big : n < size → Nothing ≡ digits_in n 2 (size + 2) (content size t)
+        pub digits_all_big : n < size → None ≡ digits_in n 2 (size + 2) (content size t)
         digits_all_big h = digits_too_big n 2 (size + 2) (content size t) all_strict low_first 0 none_lead (omega arith)
 
-        pub digits_all : size ≤ n → Digits 2 (size + 2) ≡ digits_in n 2 (size + 2) (content size t)
+        pub digits_all : size ≤ n → stand 2 (size + 2) ≡ digits_in n 2 (size + 2) (content size t)
         digits_all h = digits_is n 2 (size + 2) (content size t) all_strict low_first 0 none_lead (omega arith)
 
 -- what is read for n bytes, fewer than 127, has one byte of length, and content
@@ -118,7 +115,7 @@ short_of t c b all inside some one =
       whole = omega arith;
     }
 
-short : (n : ℕ) (t : List ℕ) → n < 127 → Bytes t → (a b : ℕ) → number_in n t ≡ Digits a b → Short t
+short : (n : ℕ) (t : List ℕ) → n < 127 → Bytes t → (a b : ℕ) → number_in n t ≡ stand a b → Short t
 short n t small bytes a b e =
     let r = number_read n t a b e in
     let f = element_whole 0x02 t bytes r.from b r.is in
@@ -129,20 +126,20 @@ short n t small bytes a b e =
 
 -- the number at the head, by the tests
 module _ (n : ℕ) (t : List ℕ) (small : n < 127) (bytes : Bytes t) where
-  number_not : (Short t → ⊥) → Nothing ≡ number_in n t
+  number_not : (Short t → ⊥) → None ≡ number_in n t
   number_not h = read (number_in n t) refl
     where
-      read : (r : Number) → number_in n t ≡ r → Nothing ≡ number_in n t
-      read Nothing e = sym e
-      read (Digits a b) e = absurd (h (short n t small bytes a b e))
+      read : (r : Option Digits) → number_in n t ≡ r → None ≡ number_in n t
+      read None e = sym e
+      read (Some d) e = absurd (h (short n t small bytes d.start d.end e))
 
-  pub number_few : length t < 3 → Nothing ≡ number_in n t
+  pub number_few : length t < 3 → None ≡ number_in n t
   number_few h = number_not (λ s. omega (arith, s.some, s.whole))
 
-  pub number_other : (get_or t 0 0 ≡ 0x02 → ⊥) → Nothing ≡ number_in n t
+  pub number_other : (get_or t 0 0 ≡ 0x02 → ⊥) → None ≡ number_in n t
   number_other h = number_not (λ s. h s.tag)
 
-  pub number_cut : length t - 2 < get_or t 1 0 → Nothing ≡ number_in n t
+  pub number_cut : length t - 2 < get_or t 1 0 → None ≡ number_in n t
   number_cut h = number_not (λ s. omega (arith, s.whole))
 
   pub number_digits :
@@ -157,8 +154,8 @@ module _ (n : ℕ) (t : List ℕ) (small : n < 127) (bytes : Bytes t) where
       one : size < 0x80 → digits_in n 2 (size + 2) (part 2 (size + 2) t) ≡ number_in n t
       one h =
           let here : size ≡ get_or (drop 1 t) 0 0 = e ∙ sym (get_or-drop 1 t 0 0) in
-          let read : Is size 1 ≡ read_length (drop 1 t) = length_short (drop 1 t) size here (omega (arith, length-drop 1 t)) h in
-          let body : Body 2 (2 + size) ≡ element_in 0x02 t =
+          let read : is size 1 ≡ read_length (drop 1 t) = length_short (drop 1 t) size here (omega (arith, length-drop 1 t)) h in
+          let body : lies 2 (2 + size) ≡ element_in 0x02 t =
           body_is (length t - 1) size 1 (omega arith)
           ∙ ap (body_in (length t - 1)) read
           ∙ element_read 0x02 t (omega arith) tag in

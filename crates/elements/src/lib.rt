@@ -1,40 +1,41 @@
 // DER elements (document 01; X.690): one read at the head of a byte string, and the length of one put down.
 #![tactic(auto)]
 
-ghost use Rattle.std.specs.Prelude.{◌≡◌, ◌^◌, ◌<◌, ◌≤◌, length};
+ghost use Rattle.std.specs.Prelude.{◌≡◌, ◌^◌, ◌<◌, ◌≤◌, Ok, length};
 ghost use Rattle.octets.specs.Copy.{copied, reached};
 ghost use Rattle.der.specs.Length.{written};
 ghost use Rattle.der.specs.Element.{body_in, element_in};
 
-use der::{Element, Form, Length, length_form, length_width, read_length};
+use der::{Body, Form, Length, length_form, length_width, read_length};
 
 // Where a body starts and ends whose length was read, if so many bytes after the tag hold it whole.
-fn body_in(room: usize, size: usize, width: usize) -> Element
-    requires { (width ≤ room) × (room < 2 ^ 63) }
-    ensures { result ≡ body_in room (Length.Is size width) }
+fn body_in(room: usize, read: Length) -> Option<Body>
+    requires { (read.width ≤ room) × (room < 2 ^ 63) }
+    ensures { result ≡ body_in room (Ok read) }
 {
-    if room - width < size {
-        return Element::Nothing;
+    if room - read.width < read.size {
+        return None;
     }
-    Element::Body(width + 1, width + 1 + size)
+    let start = read.width + 1;
+    let end = start + read.size;
+    Some(Body { start, end })
 }
 
-// The element with this tag at the head of `s`.
-pub fn element_of(tag: u8, s: &[u8]) -> Element
+// The body of the element with this tag at the head of `s`; none with another tag, without a length, or where it is not whole.
+pub fn element_of(tag: u8, s: &[u8]) -> Option<Body>
     ensures { result ≡ element_in tag s.now }
 {
     let n = s.len();
     if n == 0 {
-        return Element::Nothing;
+        return None;
     }
     if s[0] != tag {
-        return Element::Nothing;
+        return None;
     }
-    let read = read_length(&s[1..]);
-    match read {
-        Length::Is(size, width) => body_in(n - 1, size, width),
-        Length::Not(_) => Element::Nothing,
-    }
+    let Ok(read) = read_length(&s[1..]) else {
+        return None;
+    };
+    body_in(n - 1, read)
 }
 
 // Puts down the length of this size from a place on and answers the place reached; where it does not fit, or is longer,
@@ -51,21 +52,21 @@ pub fn put_length(size: usize, out: &mut [u8], at: usize) -> usize
         return at;
     }
     match length_form(size) {
-        Form::One(a) => {
+        Some(Form::One(a)) => {
             out[at] = a;
             at + 1
         }
-        Form::Two(a, b) => {
+        Some(Form::Two(a, b)) => {
             out[at] = a;
             out[at + 1] = b;
             at + 2
         }
-        Form::Three(a, b, c) => {
+        Some(Form::Three(a, b, c)) => {
             out[at] = a;
             out[at + 1] = b;
             out[at + 2] = c;
             at + 3
         }
-        Form::Longer => at,
+        None => at,
     }
 }

@@ -2,7 +2,7 @@
 -- (Kept.antt beside this file).
 -- Assumes nothing.
 use Rattle.std.specs.Prelude.{ℕ, ℤ}
-use Rattle.format.specs.Answers.{Answer, Result}
+use Rattle.format.specs.Answers.{Answer, Valued}
 use Rattle.dates.specs.declared.Date.{Date}
 use Rattle.face.specs.declared.FrDate.{FrDate}
 use Rattle.face.specs.declared.FrFilled.{FrFilled}
@@ -23,16 +23,16 @@ abbrev pub filled_of : Answer → FrFilled
 filled_of a = filled_with a.number a.place a.count
 
 -- number, place and the value
-abbrev pub dated_of : Result Date → FrDated
+abbrev pub dated_of : Valued Date → FrDated
 dated_of g = record { number = g.number; place = g.place; date = date_of g.value }
 
-abbrev pub numbered_of : Result ℕ → FrNumbered
+abbrev pub numbered_of : Valued ℕ → FrNumbered
 numbered_of g = record { number = g.number; place = g.place; value = g.value }
 
-abbrev pub integer_of : Result ℤ → FrInteger
+abbrev pub integer_of : Valued ℤ → FrInteger
 integer_of g = record { number = g.number; place = g.place; value = g.value }
 
-abbrev pub hashed_of : Result ℕ → FrHashed
+abbrev pub hashed_of : Valued ℕ → FrHashed
 hashed_of g = record { number = g.number; place = g.place; bits = g.value }
 
 -- inwards: what the face is given, as the call beneath takes it

@@ -1,5 +1,4 @@
--- What the contracts over the structs of the C face cite: each struct, field by field; that nothing is lost; and the step of the tables.
+-- What the contracts over the structs of the C face cite: each struct, field by field, and that nothing is lost.
 -- Assumes nothing.
 pub mod Face
 pub mod Kept
-pub mod Told

@@ -61,26 +61,28 @@ pub struct FrHashed {
     pub bits: usize,
 }
 
-impl FrDate {
-    // A date, as the face gives it.
-    pub fn of(date: Date) -> FrDate
-        ensures { result ≡ date_of date }
-    {
+// A date, as the face gives it.
+impl From<Date> for FrDate {
+    ghost from_gives = { λ date given. given ≡ date_of date };
+
+    fn from(date: Date) -> FrDate {
         FrDate {
             month: date.month,
             day: date.day,
             year: date.year,
         }
     }
+}
 
-    // The date that it says, as the layers beneath take it.
-    pub fn inner(self) -> Date
-        ensures { result ≡ inner_date self }
-    {
+// The date that a caller gives, as the layers beneath take it.
+impl From<FrDate> for Date {
+    ghost from_gives = { λ given date. date ≡ inner_date given };
+
+    fn from(given: FrDate) -> Date {
         Date {
-            month: self.month,
-            day: self.day,
-            year: self.year,
+            month: given.month,
+            day: given.day,
+            year: given.year,
         }
     }
 }

@@ -3,8 +3,9 @@
 #![tactic(auto)]
 
 ghost use Rattle.std.specs.Prelude.{◌≡◌};
-ghost use Rattle.face_seals.specs.Face.{header_of, reading_of, inner_header};
+ghost use Rattle.face_seals.specs.Face.{header_of, ends_of, part_of, reading_of, inner_header};
 
+use dates::Date;
 use face::FrDate;
 use reading::{Ends, Header, Part, Reading};
 
@@ -51,40 +52,63 @@ pub struct FrReading {
     pub front: usize,
 }
 
-impl FrHeader {
-    // A header, as the face gives it.
-    pub fn of(header: Header) -> FrHeader
-        ensures { result ≡ header_of header }
-    {
+// A header, as the face gives it.
+impl From<Header> for FrHeader {
+    ghost from_gives = { λ header given. given ≡ header_of header };
+
+    fn from(header: Header) -> FrHeader {
         let country = header.country;
-        let issued_on = FrDate::of(header.issued);
-        let signed_on = FrDate::of(header.signed);
         FrHeader {
             version: header.version,
             country,
             length: header.length,
-            issued_on,
-            signed_on,
+            issued_on: FrDate::from(header.issued),
+            signed_on: FrDate::from(header.signed),
             definition: header.definition,
             category: header.category,
         }
     }
+}
 
-    // The header that it says, as the layers beneath take it.
-    pub fn inner(self) -> Header
-        ensures { result ≡ inner_header self }
-    {
-        let country = self.country;
-        let issued = self.issued_on;
-        let signed = self.signed_on;
+// The header that a caller gives, as the layers beneath take it.
+impl From<FrHeader> for Header {
+    ghost from_gives = { λ given header. header ≡ inner_header given };
+
+    fn from(given: FrHeader) -> Header {
+        let country = given.country;
         Header {
-            version: self.version,
+            version: given.version,
             country,
-            length: self.length,
-            issued: issued.inner(),
-            signed: signed.inner(),
-            definition: self.definition,
-            category: self.category,
+            length: given.length,
+            issued: Date::from(given.issued_on),
+            signed: Date::from(given.signed_on),
+            definition: given.definition,
+            category: given.category,
+        }
+    }
+}
+
+// The ends of the zones, as the face gives them.
+impl From<Ends> for FrEnds {
+    ghost from_gives = { λ ends given. given ≡ ends_of ends };
+
+    fn from(ends: Ends) -> FrEnds {
+        FrEnds {
+            header: ends.header,
+            message: ends.message,
+            seal: ends.seal,
+        }
+    }
+}
+
+// A part, as the face gives it.
+impl From<Part> for FrPart {
+    ghost from_gives = { λ part given. given ≡ part_of part };
+
+    fn from(part: Part) -> FrPart {
+        FrPart {
+            place: part.place,
+            length: part.length,
         }
     }
 }
@@ -94,22 +118,12 @@ impl FrReading {
     pub fn of(reading: Reading, front: usize) -> FrReading
         ensures { result ≡ reading_of reading front }
     {
-        let header = FrHeader::of(reading.header);
-        let ends = reading.ends;
-        let signature = reading.signature;
         FrReading {
             number: reading.number,
             place: reading.place,
-            header,
-            ends: FrEnds {
-                header: ends.header,
-                message: ends.message,
-                seal: ends.seal,
-            },
-            signature: FrPart {
-                place: signature.place,
-                length: signature.length,
-            },
+            header: FrHeader::from(reading.header),
+            ends: FrEnds::from(reading.ends),
+            signature: FrPart::from(reading.signature),
             count: reading.count,
             front,
         }

@@ -7,7 +7,7 @@ ghost use Rattle.face_walk.specs.Face.{start_of, step_of, where_of};
 
 use face_seals::FrPart;
 use reading::Part;
-use shown::Where;
+use shown::{NotShown, Where};
 use walk_steps::{Start, Step};
 
 // What opening a walk answers.
@@ -41,11 +41,11 @@ pub struct FrWhere {
     pub value: FrPart,
 }
 
-impl FrStart {
-    // An opening, as the face gives it.
-    pub fn of(start: Start) -> FrStart
-        ensures { result ≡ start_of start }
-    {
+// An opening, as the face gives it.
+impl From<Start> for FrStart {
+    ghost from_gives = { λ start given. given ≡ start_of start };
+
+    fn from(start: Start) -> FrStart {
         FrStart {
             number: start.number,
             place: start.place,
@@ -54,11 +54,11 @@ impl FrStart {
     }
 }
 
-impl FrStep {
-    // A step, as the face gives it.
-    pub fn of(step: Step) -> FrStep
-        ensures { result ≡ step_of step }
-    {
+// A step, as the face gives it.
+impl From<Step> for FrStep {
+    ghost from_gives = { λ step given. given ≡ step_of step };
+
+    fn from(step: Step) -> FrStep {
         let row = step.row;
         FrStep {
             number: step.number,
@@ -83,10 +83,7 @@ impl FrWhere {
             number: 0,
             place: 0,
             which,
-            value: FrPart {
-                place: value.place,
-                length: value.length,
-            },
+            value: FrPart::from(value),
         }
     }
 
@@ -104,17 +101,19 @@ impl FrWhere {
             },
         }
     }
+}
 
-    // A look-up, as the face gives it: number and place of every case, and which seal it is about, 1 the main one and 2 the extension.
-    pub fn of(found: Where) -> FrWhere
-        ensures { result ≡ where_of (answer_of found) }
-    {
+// A look-up, as the face gives it: number and place of every case, and which seal it is about, 1 the main one and 2 the extension.
+impl From<Result<Where, NotShown>> for FrWhere {
+    ghost from_gives = { λ found given. given ≡ where_of (answer_of found) };
+
+    fn from(found: Result<Where, NotShown>) -> FrWhere {
         match found {
-            Where::Extension(value) => FrWhere::showing(2, value),
-            Where::Main(value) => FrWhere::showing(1, value),
-            Where::NotMain(number, place) => FrWhere::empty(number, place, 1),
-            Where::NotExtension(number, place) => FrWhere::empty(number, place, 2),
-            Where::Neither => FrWhere::empty(50, 0, 0),
+            Ok(Where::Extension(value)) => FrWhere::showing(2, value),
+            Ok(Where::Main(value)) => FrWhere::showing(1, value),
+            Err(NotShown::Main(number, place)) => FrWhere::empty(number, place, 1),
+            Err(NotShown::Extension(number, place)) => FrWhere::empty(number, place, 2),
+            Err(NotShown::Neither) => FrWhere::empty(50, 0, 0),
         }
     }
 }

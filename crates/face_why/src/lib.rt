@@ -18,21 +18,17 @@ pub struct FrReason {
     pub judged: FrPart,
 }
 
-impl FrReason {
-    // A reason, as the face gives it.
-    pub fn of(reason: Reason) -> FrReason
-        ensures { result ≡ reason_of reason }
-    {
-        let judged = reason.judged;
+// A reason, as the face gives it.
+impl From<Reason> for FrReason {
+    ghost from_gives = { λ reason given. given ≡ reason_of reason };
+
+    fn from(reason: Reason) -> FrReason {
         FrReason {
             number: reason.number,
             place: reason.place,
             item: reason.item,
             rule: reason.rule,
-            judged: FrPart {
-                place: judged.place,
-                length: judged.length,
-            },
+            judged: FrPart::from(reason.judged),
         }
     }
 }

@@ -27,30 +27,21 @@ pub struct Header {
 fn is_letter(c: u8) -> bool
     ensures { result ≡ character.is_letter c }
 {
-    if c < b'A' {
-        return false;
-    }
-    c <= b'Z'
+    matches!(c, b'A'..=b'Z')
 }
 
 // A digit.
 fn is_digit(c: u8) -> bool
     ensures { result ≡ character.is_digit c }
 {
-    if c < b'0' {
-        return false;
-    }
-    c <= b'9'
+    matches!(c, b'0'..=b'9')
 }
 
 // A letter or a digit.
 fn is_letter_or_digit(c: u8) -> bool
     ensures { result ≡ character.is_letter_or_digit c }
 {
-    if is_letter(c) {
-        return true;
-    }
-    is_digit(c)
+    is_letter(c) || is_digit(c)
 }
 
 // Which characters a reference may have: the one test of them.
@@ -64,57 +55,29 @@ fn is_reference(c: u8) -> bool
 pub fn all_reference(text: &[u8]) -> bool
     ensures { result ≡ character.all character.is_reference text.now }
 {
-    let mut i: usize = 0;
-    while i < text.len() {
-        if !is_reference(text[i]) {
-            return false;
-        }
-        i += 1;
-    }
-    true
+    text.iter().all(|c| is_reference(*c))
 }
 
 // Two letters, then two letters or digits.
 pub fn is_signer(a: u8, b: u8, c: u8, d: u8) -> bool
     ensures { result ≡ character.is_signer (a ∷ b ∷ c ∷ d ∷ []) }
 {
-    if !is_letter(a) {
-        return false;
-    }
-    if !is_letter(b) {
-        return false;
-    }
-    if !is_letter_or_digit(c) {
-        return false;
-    }
-    is_letter_or_digit(d)
+    is_letter(a) && is_letter(b) && is_letter_or_digit(c) && is_letter_or_digit(d)
 }
 
 // A country, fillers as `filler`: a letter first, and no letter after a filler.
 pub fn is_country(a: u8, b: u8, c: u8, filler: u8) -> bool
     ensures { result ≡ character.is_country filler (a ∷ b ∷ c ∷ []) }
 {
-    if !is_letter(a) {
-        return false;
-    }
     if is_letter(b) {
-        if is_letter(c) {
-            return true;
-        }
-        return c == filler;
+        return is_letter(a) && (is_letter(c) || c == filler);
     }
-    if b != filler {
-        return false;
-    }
-    c == filler
+    is_letter(a) && b == filler && c == filler
 }
 
 // A filler is given as `<`.
 pub fn shown(c: u8) -> u8
     ensures { result ≡ character.shown c }
 {
-    if c == b' ' {
-        return b'<';
-    }
-    c
+    if c == b' ' { b'<' } else { c }
 }

@@ -6,12 +6,5 @@ ghost use Rattle.fields.specs.Signature.{is_signature};
 pub fn is_signature(size: usize) -> bool
     ensures { result ≡ is_signature size }
 {
-    match size {
-        56 => true,
-        64 => true,
-        96 => true,
-        128 => true,
-        132 => true,
-        _ => false,
-    }
+    matches!(size, 56 | 64 | 96 | 128 | 132)
 }

@@ -29,14 +29,14 @@ abbrev pub filled : Outcome → List ℕ → List ℕ
 filled o out = o.written ++ drop (length o.written) out
 
 -- What a call answers that gives a value by itself: a number, a place and the value, which is a zero on a refusal.
-pub record Result (A : Type 0) : Type 0 where
+pub record Valued (A : Type 0) : Type 0 where
   pub number : ℕ
   pub place : ℕ
   pub value : A
 
-abbrev pub result : {A : Type 0} → A → Result A
+abbrev pub result : {A : Type 0} → A → Valued A
 result v = record { number = 0; place = 0; value = v }
 
 -- a refusal at place 0, with the zero of the value's type
-abbrev pub refusal : {A : Type 0} → A → ℕ → Result A
+abbrev pub refusal : {A : Type 0} → A → ℕ → Valued A
 refusal nothing number = record { number = number; place = 0; value = nothing }

@@ -7,7 +7,7 @@
 --   Places      a list from a place on
 --   Buffer      a lent buffer with bytes put over it: over
 --   Cut         a part that can be cut off the front of a byte string in one way only
---   Answers     what a call answers: Outcome, Answer, Result; what a buffer holds then: filled
+--   Answers     what a call answers: Outcome, Answer, Valued; what a buffer holds then: filled
 --   Order       refusals in order: a list of tests, the first that fails decides: in_order
 --   Quotient    a quotient by a constant as a product and a shift
 --   OneToOne    answers that are settled where what is said of them is

@@ -4,7 +4,7 @@
 pub mod Laws
 use Rattle.std.specs.Prelude.{◌≡◌, Bool, true, ℕ, List, [], ◌∷◌, leb, length}
 use Rattle.format.specs.Choice.{pick}
-use Rattle.format.specs.Answers.{Outcome, Result, done, refused, refusal}
+use Rattle.format.specs.Answers.{Outcome, Valued, done, refused, refusal}
 
 pub record Test : Type 0 where
   pub number : ℕ
@@ -28,7 +28,7 @@ unfoldable pub in_room : ℕ → List ℕ → ℕ → Outcome
 in_room number bytes room = in_order (test number 0 (leb (length bytes) room) ∷ []) (done bytes)
 
 -- of a call that gives a value, with the zero of the value's type
-abbrev pub value_in_order : {A : Type 0} → A → List Test → Result A → Result A
+abbrev pub value_in_order : {A : Type 0} → A → List Test → Valued A → Valued A
 value_in_order zero tests g = first_failed (λ number place. refusal zero number) tests g
 
 -- the number of the first test that is not passed, and 0 where all are

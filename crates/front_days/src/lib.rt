@@ -5,7 +5,7 @@
 ghost use Rattle.std.specs.Prelude.{◌≡◌, ◌+◌, ◌<◌, drop};
 ghost use Rattle.front_days.specs.Days.{last_of, in_month, some_day, one_front, two_front, day_front};
 
-use dates::{Date, Taken};
+use dates::{Date, NoSuchDate};
 use octets::wide;
 
 // The last number DDYYYY of a month's days: in year 9999, but the last 29 February is in 9996.
@@ -26,28 +26,17 @@ fn in_month(n: usize) -> bool
     ensures { result ≡ in_month n }
 {
     let month = (n * 17592187) >> 44;
-    if month == 0 {
-        return false;
-    }
-    if 12 < month {
-        return false;
-    }
     let rest = n - month * 1000000;
-    if rest < 10001 {
-        return false;
-    }
-    rest <= last_of(month)
+    (1..=12).contains(&month) && (10001..=last_of(month)).contains(&rest)
 }
 
 // Whether some number from n to n + more is a day's: the first and the last of them tell.
+#[tactic(auto, unfolding(crate::specs::Days::some_day))]
 fn some_day(n: usize, more: usize) -> bool
     requires { n + more < 16777216 }
     ensures { result ≡ some_day n more }
 {
-    if in_month(n) {
-        return true;
-    }
-    in_month(n + more)
+    in_month(n) || in_month(n + more)
 }
 
 // How many of one byte can be completed to a date.
@@ -85,8 +74,8 @@ pub fn day_front(seal: &[u8], at: usize) -> usize
     if left == 2 {
         return two_front(seal[at], seal[at + 1]);
     }
-    let Taken::Day(_) = Date::from_bytes(seal[at], seal[at + 1], seal[at + 2]) else {
-        return two_front(seal[at], seal[at + 1]);
-    };
-    3
+    match Date::from_bytes(seal[at], seal[at + 1], seal[at + 2]) {
+        Ok(_) => 3,
+        Err(NoSuchDate) => two_front(seal[at], seal[at + 1]),
+    }
 }

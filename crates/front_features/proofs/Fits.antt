@@ -12,8 +12,9 @@ use Rattle.format.specs.Choice.{pick}
 use Rattle.format.specs.Choice.Laws.{by_test}
 use Rattle.grammar.specs.Content.{Version, three, four}
 use Rattle.front_message.specs.Message.{Length, is, ends, last_of, after_one, after_high, after_two, length_front}
-use Rattle.front_features.specs.declared.Counted.TheVariants as counted
-use Rattle.front_features.specs.Meaning.{counted_of}
+use Rattle.front_features.specs.declared.Counted.{Counted}
+use Rattle.front_features.specs.declared.Ends.{Ends}
+use Rattle.front_features.specs.Meaning.{counted, ended, counted_of}
 
 -- a length that is one: its bytes are there, and it has room with its value and 58
 pub record Fits (room n w : ℕ) (t : List ℕ) : Type 0 where
@@ -80,11 +81,15 @@ length_fits four room n w (b ∷ t) e =
     (unless (ltb room 317) 0 (after_two room t) n w (two_fits room n w b t)) (λ z. absurd (ends_not 0 n w z)))) e
 
 -- a length that the code told as one that ends
-pub told_ends : (at place : ℕ) (l : Length) → counted.Ends place ≡ counted_of at l → (k : ℕ) × ((l ≡ ends k) × (place ≡ at + k))
-told_ends at place (ends k) e = (k, (refl, cc))
+pub told_ends : (at place : ℕ) (l : Length) → ended place ≡ counted_of at l → (k : ℕ) × ((l ≡ ends k) × (place ≡ at + k))
+told_ends at place (ends k) e =
+    let f : ◌≡◌ {A = Ends} (record { place = place }) (record { place = at + k }) = cc in
+    (k, (refl, ap (λ q. q.place) f))
 told_ends at place (is n w) e = let z : ◌≡◌ {A = ℕ} 0 1 = cc in absurd (omega arith)
 
 -- a length that the code told as one
-pub told_is : (at size value : ℕ) (l : Length) → counted.Is size value ≡ counted_of at l → (w : ℕ) × ((l ≡ is size w) × (value ≡ at + w))
-told_is at size value (is n w) e = let f : size ≡ n = cc in (w, (ap (λ z. is z w) (sym f), cc))
+pub told_is : (at size value : ℕ) (l : Length) → counted size value ≡ counted_of at l → (w : ℕ) × ((l ≡ is size w) × (value ≡ at + w))
+told_is at size value (is n w) e =
+    let f : ◌≡◌ {A = Counted} (record { size = size; next = value }) (record { size = n; next = at + w }) = cc in
+    (w, (ap (λ q. is q.size w) (sym f), ap (λ q. q.next) f))
 told_is at size value (ends k) e = let z : ◌≡◌ {A = ℕ} 0 1 = cc in absurd (omega arith)

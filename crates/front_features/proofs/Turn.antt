@@ -13,8 +13,7 @@ use Rattle.format.specs.Places.{past_end}
 use Rattle.grammar.specs.Content.{Version}
 use Rattle.grammar.proofs.Sizes.{has}
 use Rattle.front_message.specs.Message.{is, ends, length_front, signature_front, turn, message_front}
-use Rattle.front_features.specs.declared.Counted.TheVariants as counted
-use Rattle.front_features.specs.Meaning.{counted_of}
+use Rattle.front_features.specs.Meaning.{counted, ended, counted_of}
 use Rattle.front_features.specs.Places.{byte_here}
 use Rattle.front_features.proofs.Fits.{length_fits, told_ends, told_is}
 use Rattle.front_features.proofs.Marks.{Marked, bare, mark, found}
@@ -163,13 +162,13 @@ module _ (v : Version) (s : List ℕ) (start : ℕ) (marks : List ℕ) (at x : �
   one_less = omega (arith, new.kept.enough, new.inside)
 
   -- whose length ends
-  pub new_ends : (place : ℕ) → counted.Ends place ≡ counted_of (at + 1) (length_front v (4096 - (at + 1)) rest) → place ≡ whole v s start
+  pub new_ends : (place : ℕ) → ended place ≡ counted_of (at + 1) (length_front v (4096 - (at + 1)) rest) → place ≡ whole v s start
   new_ends place e =
       let told = told_ends (at + 1) place (length_front v (4096 - (at + 1)) rest) e in
       let l = ap (λ r. length_front v r rest) behind ∙ told.1.0 in
       omega (arith, at_tag, turn_ends v then_next used (4096 - at) x rest new.other new.much unused told.0 l, told.1.1)
 
-  module _ (size value : ℕ) (e : counted.Is size value ≡ counted_of (at + 1) (length_front v (4096 - (at + 1)) rest)) where
+  module _ (size value : ℕ) (e : counted size value ≡ counted_of (at + 1) (length_front v (4096 - (at + 1)) rest)) where
     -- where its value starts, and that this and the value have room
     pub record Sized (w : ℕ) : Type 0 where
       pub says : length_front v (4096 - at - 1) rest ≡ is size w

@@ -7,35 +7,34 @@ use borrow.Author.Tests.{eq-eqb, ne_eqb, lt-ltb, le-ltb}
 use Rattle.format.specs.Places.{past_end}
 use Rattle.grammar.specs.Content.{Version, three, four}
 use Rattle.front_message.specs.Message.{ends, last_of, after_one, after_high, after_two, length_front}
-use Rattle.front_features.specs.declared.Counted.TheVariants as counted
-use Rattle.front_features.specs.Meaning.{counted_of}
+use Rattle.front_features.specs.Meaning.{counted, ended, counted_of}
 use Rattle.front_features.specs.Places.{byte_here}
 
 -- the last byte of a length, without room for what it tells
-pub last_cramped : (room n w at : ℕ) → room < 1 + w + n + 58 → counted.Ends (at + w) ≡ counted_of at (last_of room n w)
+pub last_cramped : (room n w at : ℕ) → room < 1 + w + n + 58 → ended (at + w) ≡ counted_of at (last_of room n w)
 last_cramped room n w at h = rw (lt-ltb room (1 + w + n + 58) h)
 
 -- the last byte of a length, with room
-pub last_is : (room n w at : ℕ) → 1 + w + n + 58 ≤ room → counted.Is n (at + (1 + w)) ≡ counted_of at (last_of room n w)
+pub last_is : (room n w at : ℕ) → 1 + w + n + 58 ≤ room → counted n (at + (1 + w)) ≡ counted_of at (last_of room n w)
 last_is room n w at h = rw (le-ltb room (1 + w + n + 58) h)
 
 -- a length of which nothing can be completed ends where it starts
-ends_here : (at : ℕ) → counted.Ends at ≡ counted_of at (ends 0)
-ends_here at = let e : at ≡ at + 0 = omega arith in ap counted.Ends e
+ends_here : (at : ℕ) → ended at ≡ counted_of at (ends 0)
+ends_here at = let e : at ≡ at + 0 = omega arith in ap ended e
 
 module _ (room at : ℕ) (s : List ℕ) where
   -- no byte behind 81
-  pub one_end : length s ≤ at + 1 → counted.Ends (at + 1) ≡ counted_of at (after_one room (drop (at + 1) s))
+  pub one_end : length s ≤ at + 1 → ended (at + 1) ≡ counted_of at (after_one room (drop (at + 1) s))
   unfolding after_one
   one_end h = rw (past_end s (at + 1) h)
 
   -- no byte behind 82
-  pub two_end : length s ≤ at + 1 → counted.Ends (at + 1) ≡ counted_of at (after_two room (drop (at + 1) s))
+  pub two_end : length s ≤ at + 1 → ended (at + 1) ≡ counted_of at (after_two room (drop (at + 1) s))
   unfolding after_two
   two_end h = rw (past_end s (at + 1) h)
 
   -- no byte behind 82 and another
-  pub high_end : (high : ℕ) → length s ≤ at + 2 → counted.Ends (at + 2) ≡ counted_of at (after_high room high (drop (at + 2) s))
+  pub high_end : (high : ℕ) → length s ≤ at + 2 → ended (at + 2) ≡ counted_of at (after_high room high (drop (at + 2) s))
   unfolding after_high
   high_end high h = rw (past_end s (at + 2) h)
 
@@ -46,7 +45,7 @@ module _ (room at : ℕ) (s : List ℕ) where
   high_last x high h e = rw (byte_here s (at + 2) x h e)
 
   -- no byte of a length at all
-  pub length_end : (v : Version) → length s ≤ at → counted.Ends at ≡ counted_of at (length_front v room (drop at s))
+  pub length_end : (v : Version) → length s ≤ at → ended at ≡ counted_of at (length_front v room (drop at s))
   unfolding length_front
   length_end three h = rw (past_end s at h) (ends_here at)
   length_end four h = rw (past_end s at h) (ends_here at)
@@ -54,7 +53,7 @@ module _ (room at : ℕ) (s : List ℕ) where
   -- a byte behind 81 or 82
   module _ (x : ℕ) (h : at + 1 < length s) (e : x ≡ get_or s (at + 1) 0) where
     -- below 128 behind 81
-    pub one_small : x < 0x80 → counted.Ends (at + 1) ≡ counted_of at (after_one room (drop (at + 1) s))
+    pub one_small : x < 0x80 → ended (at + 1) ≡ counted_of at (after_one room (drop (at + 1) s))
     unfolding after_one
     one_small less = rw (byte_here s (at + 1) x h e, lt-ltb x 0x80 less)
 
@@ -64,13 +63,13 @@ module _ (room at : ℕ) (s : List ℕ) where
     one_last more = rw (byte_here s (at + 1) x h e, le-ltb x 0x80 more)
 
     -- 0 behind 82
-    pub two_zero : x ≡ 0 → counted.Ends (at + 1) ≡ counted_of at (after_two room (drop (at + 1) s))
+    pub two_zero : x ≡ 0 → ended (at + 1) ≡ counted_of at (after_two room (drop (at + 1) s))
     unfolding after_two
     two_zero z = rw (byte_here s (at + 1) x h e, eq-eqb x 0 z)
 
     module _ (n : x ≡ 0 → ⊥) where
       -- a byte behind 82 without room for what it tells at least
-      pub two_cramped : room < 3 + x * 256 + 58 → counted.Ends (at + 1) ≡ counted_of at (after_two room (drop (at + 1) s))
+      pub two_cramped : room < 3 + x * 256 + 58 → ended (at + 1) ≡ counted_of at (after_two room (drop (at + 1) s))
       unfolding after_two
       two_cramped less = rw (byte_here s (at + 1) x h e, ne_eqb x 0 n, lt-ltb room (3 + x * 256 + 58) less)
 
@@ -102,7 +101,7 @@ module _ (room at b : ℕ) (s : List ℕ) where
 
   module _ (more : 0x80 ≤ b) where
     -- 81 without room
-    pub der_one_cramped : b ≡ 0x81 → room < 188 → counted.Ends at ≡ counted_of at (length_front four room (b ∷ s))
+    pub der_one_cramped : b ≡ 0x81 → room < 188 → ended at ≡ counted_of at (length_front four room (b ∷ s))
     unfolding length_front
     der_one_cramped e less = rw (le-ltb b 0x80 more, eq-eqb b 0x81 e, lt-ltb room 188 less) (ends_here at)
 
@@ -113,7 +112,7 @@ module _ (room at b : ℕ) (s : List ℕ) where
 
     module _ (n : b ≡ 0x81 → ⊥) where
       -- 82 without room
-      pub der_two_cramped : b ≡ 0x82 → room < 317 → counted.Ends at ≡ counted_of at (length_front four room (b ∷ s))
+      pub der_two_cramped : b ≡ 0x82 → room < 317 → ended at ≡ counted_of at (length_front four room (b ∷ s))
       unfolding length_front
       der_two_cramped e less = rw (le-ltb b 0x80 more, ne_eqb b 0x81 n, eq-eqb b 0x82 e, lt-ltb room 317 less) (ends_here at)
 
@@ -123,6 +122,6 @@ module _ (room at b : ℕ) (s : List ℕ) where
       der_two e much = rw (le-ltb b 0x80 more, ne_eqb b 0x81 n, eq-eqb b 0x82 e, le-ltb room 317 much)
 
       -- another byte
-      pub der_other : (b ≡ 0x82 → ⊥) → counted.Ends at ≡ counted_of at (length_front four room (b ∷ s))
+      pub der_other : (b ≡ 0x82 → ⊥) → ended at ≡ counted_of at (length_front four room (b ∷ s))
       unfolding length_front
       der_other m = rw (le-ltb b 0x80 more, ne_eqb b 0x81 n, ne_eqb b 0x82 m) (ends_here at)

@@ -1,9 +1,11 @@
 -- A signature at a place, by what stands there: each answer of the definition is an answer of the code.
 -- Assumes nothing.
-use Rattle.std.specs.Prelude.{◌≡◌, refl, Bool, true, false, ℕ, ◌+◌, ◌-◌, ◌<◌, ◌≤◌, List, [], ◌∷◌, ltb, length, drop, get_or}
-use Rattle.std.proofs.Common.{arith}
+use Rattle.std.specs.Prelude.{◌≡◌, refl, Bool, true, false, ℕ, ◌+◌, ◌-◌, ◌<◌, ◌≤◌, List, [], ◌∷◌, eqb, ltb, length, drop, get_or}
+use Rattle.std.proofs.Common.{inl, inr, arith}
+use types.Run.{OneOf}
 use borrow.Author.Tests.{eq-eqb, ne_eqb, lt-ltb, le-ltb}
 use Rattle.format.specs.Choice.{pick}
+use Rattle.format.specs.Choice.Laws.{either_right}
 use Rattle.format.specs.Places.{past_end}
 use Rattle.grammar.proofs.Sizes.{has}
 use Rattle.front_message.specs.Message.{any_front, long_front, signature_front}
@@ -89,3 +91,25 @@ has_here x a l e = rw (eq-eqb x a e)
 pub has_more : (x a : ℕ) (l : List ℕ) (b : Bool) → (x ≡ a → ⊥) → has x l ≡ b → has x (a ∷ l) ≡ b
 unfolding has
 has_more x a l b n e = rw (ne_eqb x a n) e
+
+-- one of two sizes, or of three, and none of them
+pub has_two : (x a b : ℕ) → OneOf (a ∷ b ∷ []) x → has x (a ∷ b ∷ []) ≡ true
+unfolding has
+has_two x a b (inl e) = has_here x a (b ∷ []) e
+has_two x a b (inr e) = either_right (eqb x a) (has x (b ∷ [])) (has_here x b [] e)
+
+pub has_no_two : (x a b : ℕ) → (OneOf (a ∷ b ∷ []) x → ⊥) → has x (a ∷ b ∷ []) ≡ false
+has_no_two x a b n = has_more x a (b ∷ []) false (λ e. n (inl e)) (has_more x b [] false (λ e. n (inr e)) (has_none x))
+
+pub has_three : (x a b d : ℕ) → OneOf (a ∷ b ∷ d ∷ []) x → has x (a ∷ b ∷ d ∷ []) ≡ true
+unfolding has
+has_three x a b d (inl e) = has_here x a (b ∷ d ∷ []) e
+has_three x a b d (inr o) = either_right (eqb x a) (has x (b ∷ d ∷ [])) (has_two x b d o)
+
+pub has_no_three : (x a b d : ℕ) → (OneOf (a ∷ b ∷ d ∷ []) x → ⊥) → has x (a ∷ b ∷ d ∷ []) ≡ false
+has_no_three x a b d n = has_more x a (b ∷ d ∷ []) false (λ e. n (inl e)) (has_no_two x b d (λ o. n (inr o)))
+
+-- 81 is none of the short sizes
+pub long_not_short : (x : ℕ) → x ≡ 0x81 → has x short ≡ false
+unfolding has
+long_not_short x e = rw e refl

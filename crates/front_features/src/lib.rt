@@ -12,13 +12,17 @@ ghost use Rattle.front_features.specs.Meaning.{counted_of, message_from};
 use octets::wide;
 use versions::Version;
 
-// A feature's length.
-#[derive(Clone, Copy)]
-pub enum Counted {
-    // what it says, and the place after it
-    Is(usize, usize),
-    // the place up to which it can be completed, where not all of it can
-    Ends(usize),
+// A feature's length: what it says, and the place after it.
+#[derive(Clone, Copy, Debug, PartialEq, Eq)]
+struct Counted {
+    size: usize,
+    next: usize,
+}
+
+// The error of a length of which not all can be completed: the place up to which it can.
+#[derive(Clone, Copy, Debug, PartialEq, Eq)]
+struct Ends {
+    place: usize,
 }
 
 // Up to where so many bytes are there, whatever they are: all of them, or those up to the end.
@@ -53,13 +57,10 @@ fn long_front(seal: &[u8], at: usize) -> usize
         return at;
     }
     let size = wide(seal[at]);
-    if size == 128 {
-        return sized_front(seal, at, size);
+    match size {
+        128 | 132 => sized_front(seal, at, size),
+        _ => at,
     }
-    if size == 132 {
-        return sized_front(seal, at, size);
-    }
-    at
 }
 
 // A signature's length and the signature: 56, 64 or 96 bytes, or those behind 81, which needs itself, a byte and 128.
@@ -71,60 +72,52 @@ fn signature_front(seal: &[u8], at: usize) -> usize
         return at;
     }
     let size = wide(seal[at]);
-    if size == 56 {
-        return sized_front(seal, at, size);
+    match size {
+        56 | 64 | 96 => sized_front(seal, at, size),
+        0x81 if 130 <= 4096 - at => long_front(seal, at + 1),
+        _ => at,
     }
-    if size == 64 {
-        return sized_front(seal, at, size);
-    }
-    if size == 96 {
-        return sized_front(seal, at, size);
-    }
-    if size != 0x81 {
-        return at;
-    }
-    if 4096 - at < 130 {
-        return at;
-    }
-    long_front(seal, at + 1)
 }
 
 // The last byte of a feature's length that starts here, behind `width` others: it needs the value and a signature zone,
 // which has 58 bytes at least, behind it.
-fn last_front(at: usize, size: usize, width: usize) -> Counted
+fn last_front(at: usize, size: usize, width: usize) -> Result<Counted, Ends>
     requires { (at ≤ 4096) × ((size < 65536) × (width < 3)) }
     ensures { result ≡ counted_of at (last_of (4096 - at) size width) }
 {
     if 4096 - at < 1 + width + size + 58 {
-        return Counted::Ends(at + width);
+        return Err(Ends { place: at + width });
     }
-    Counted::Is(size, at + (1 + width))
+    Ok(Counted {
+        size,
+        next: at + (1 + width),
+    })
 }
 
 // A feature's length that starts here with 81: one byte more, of 128 and up.
-fn after_one(seal: &[u8], at: usize) -> Counted
+fn after_one(seal: &[u8], at: usize) -> Result<Counted, Ends>
     requires { at ≤ 4096 }
     ensures { result ≡ counted_of at (after_one (4096 - at) (drop (at + 1) seal.now)) }
 {
     let next = at + 1;
     if seal.len() <= next {
-        return Counted::Ends(next);
+        return Err(Ends { place: next });
     }
     let size = wide(seal[next]);
     if size < 0x80 {
-        return Counted::Ends(next);
+        return Err(Ends { place: next });
     }
     last_front(at, size, 1)
 }
 
 // The last byte of a length that starts here with 82 and `high`.
-fn after_high(seal: &[u8], at: usize, high: usize) -> Counted
+fn after_high(seal: &[u8], at: usize, high: usize) -> Result<Counted, Ends>
     requires { (at ≤ 4096) × (high < 256) }
     ensures { result ≡ counted_of at (after_high (4096 - at) high (drop (at + 2) seal.now)) }
 {
     let next = at + 2;
     if seal.len() <= next {
-        return Counted::Ends(next);
+        return Err(Ends { place: next });
     }
     let low = wide(seal[next]);
     last_front(at, high * 256 + low, 2)
@@ -132,55 +125,45 @@ fn after_high(seal: &[u8], at: usize, high: usize) -> Counted
 
 // A feature's length that starts here with 82: two bytes more, the first not 0; the second may be 0, and the first needs
 // room for what it tells then.
-fn after_two(seal: &[u8], at: usize) -> Counted
+fn after_two(seal: &[u8], at: usize) -> Result<Counted, Ends>
     requires { at ≤ 4096 }
     ensures { result ≡ counted_of at (after_two (4096 - at) (drop (at + 1) seal.now)) }
 {
     let next = at + 1;
     if seal.len() <= next {
-        return Counted::Ends(next);
+        return Err(Ends { place: next });
     }
     let high = wide(seal[next]);
     if high == 0 {
-        return Counted::Ends(next);
+        return Err(Ends { place: next });
     }
     if 4096 - at < 3 + high * 256 + 58 {
-        return Counted::Ends(next);
+        return Err(Ends { place: next });
     }
     after_high(seal, at, high)
 }
 
 // A DER length that starts here with this byte: 81 and 82 need room for the least value that they can tell, and 83 and
 // up never fit.
-fn der_front(seal: &[u8], at: usize, first: usize) -> Counted
+fn der_front(seal: &[u8], at: usize, first: usize) -> Result<Counted, Ends>
     requires { (at ≤ 4096) × (first < 256) }
     ensures { result ≡ counted_of at (length_front four (4096 - at) (first ∷ drop (at + 1) seal.now)) }
 {
-    if first < 0x80 {
-        return last_front(at, first, 0);
+    match first {
+        0..=0x7F => last_front(at, first, 0),
+        0x81 if 188 <= 4096 - at => after_one(seal, at),
+        0x82 if 317 <= 4096 - at => after_two(seal, at),
+        _ => Err(Ends { place: at }),
     }
-    if first == 0x81 {
-        if 4096 - at < 188 {
-            return Counted::Ends(at);
-        }
-        return after_one(seal, at);
-    }
-    if first == 0x82 {
-        if 4096 - at < 317 {
-            return Counted::Ends(at);
-        }
-        return after_two(seal, at);
-    }
-    Counted::Ends(at)
 }
 
 // A feature's length: one plain byte in version 3, a DER length in version 4.
-fn length_front(seal: &[u8], at: usize, version: Version) -> Counted
+fn length_front(seal: &[u8], at: usize, version: Version) -> Result<Counted, Ends>
     requires { at ≤ 4096 }
     ensures { result ≡ counted_of at (length_front version (4096 - at) (drop at seal.now)) }
 {
     if seal.len() <= at {
-        return Counted::Ends(at);
+        return Err(Ends { place: at });
     }
     let first = wide(seal[at]);
     match version {
@@ -213,15 +196,14 @@ fn message_front(seal: &[u8], start: usize, version: Version) -> usize
         if (marks[word] >> bit) & 1 == 1 {
             return at;
         }
-        let length = length_front(seal, at + 1, version);
-        match length {
-            Counted::Ends(place) => return place,
-            Counted::Is(size, value) => {
-                if n - value < size {
+        match length_front(seal, at + 1, version) {
+            Err(ends) => return ends.place,
+            Ok(value) => {
+                if n - value.next < value.size {
                     return n;
                 }
-                marks[word] = marks[word] | (1 << bit);
-                at = value + size;
+                marks[word] |= 1 << bit;
+                at = value.next + value.size;
             }
         }
     }

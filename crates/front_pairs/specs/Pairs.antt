@@ -58,21 +58,19 @@ fits One x y = is_single x y
 abbrev pub place : ℕ → ℕ
 place n = (n - 1) % 1600
 
+abbrev pub reached_in : Kind → Bool → ℕ → Bool
+reached_in Country filled o = either filled (leb 563 o)
+reached_in Signer filled o = leb 564 o
+reached_in Triple filled o = leb 164 o
+reached_in Length filled o = within 165 779 o
+reached_in Two filled o = within 160 1560 o
+reached_in One filled o = false
+
 abbrev pub starts_in : Kind → ℕ → Bool
-starts_in Country o = either (leb o 123) (leb 563 o)
-starts_in Signer o = leb 564 o
-starts_in Triple o = leb 164 o
-starts_in Length o = within 165 779 o
-starts_in Two o = within 160 1560 o
-starts_in One o = false
+starts_in kind o = reached_in kind (leb o 123) o
 
 abbrev pub ends_in : Kind → ℕ → Bool
-ends_in Country o = either (within 123 378 o) (leb 563 o)
-ends_in Signer o = leb 564 o
-ends_in Triple o = leb 164 o
-ends_in Length o = within 165 779 o
-ends_in Two o = within 160 1560 o
-ends_in One o = false
+ends_in kind o = reached_in kind (within 123 378 o) o
 
 -- the first of three values: a letter in country and signer, else a letter or digit
 abbrev pub leads : Kind → ℕ → Bool

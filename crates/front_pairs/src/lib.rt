@@ -11,7 +11,7 @@ mod tests;
 mod values;
 
 use octets::wide;
-use tests::{both, either, within};
+use tests::within;
 use unpack::split;
 
 // The pairs of a header, by what their characters may be.
@@ -36,7 +36,7 @@ fn is_single(x: u8, y: u8) -> bool
     ensures { result ≡ is_single x y }
 {
     let n = wide(y);
-    both(x == 0xFE, either(within(49, 58, n), within(66, 91, n)))
+    (x == 0xFE) & (within(49, 58, n) | within(66, 91, n))
 }
 
 // A pair whose three values may stand there.
@@ -75,7 +75,7 @@ fn opens(kind: Kind, x: u8) -> bool
         return false;
     }
     let low = wide(x) * 256;
-    either(places::starts(kind, low - 1), places::ends(kind, low + 254))
+    places::starts(kind, low - 1) | places::ends(kind, low + 254)
 }
 
 // How many of the bytes at a place can be completed to such a pair: 0, 1 or both.
@@ -106,15 +106,5 @@ pub fn length_in(x: u8, y: u8) -> usize
         return 0;
     }
     let v = split(number - 1);
-    less_four(v.b) * 16 + less_four(v.c)
-}
-
-// Four less, and not below 0.
-fn less_four(n: usize) -> usize
-    ensures { result ≡ n - 4 }
-{
-    if n < 4 {
-        return 0;
-    }
-    n - 4
+    v.b.saturating_sub(4) * 16 + v.c.saturating_sub(4)
 }

@@ -11,7 +11,7 @@ use front_days::day_front;
 use front_features::message_from;
 use front_pairs::{Kind, length_in, pair_front};
 use octets::wide;
-use versions::{Stated, Version};
+use versions::Version;
 
 // Definition reference or category: whether the byte there is 1 to 254.
 fn last_front(seal: &[u8], at: usize) -> usize
@@ -20,14 +20,10 @@ fn last_front(seal: &[u8], at: usize) -> usize
     if seal.len() <= at {
         return 0;
     }
-    let x = seal[at];
-    if x == 0 {
-        return 0;
+    match seal[at] {
+        1..=254 => 1,
+        _ => 0,
     }
-    if x == 255 {
-        return 0;
-    }
-    1
 }
 
 // So many letters and digits, by threes.
@@ -35,23 +31,19 @@ fn text_front(seal: &[u8], at: usize, size: usize) -> usize
     requires { (at ≤ 4096) × (size ≤ 255) }
     ensures { result ≡ text_front size nothing (drop at seal.now) }
 {
-    let mut passed: usize = 0;
-    let mut left = size;
-    while 3 <= left {
-        let triple = pair_front(Kind::Triple, seal, at + passed);
+    let triples = octets::threes(size);
+    for i in 0..triples {
+        let triple = pair_front(Kind::Triple, seal, at + 2 * i);
         if triple < 2 {
-            return passed + triple;
+            return 2 * i + triple;
         }
-        passed += 2;
-        left -= 3;
     }
-    if left == 2 {
-        return passed + pair_front(Kind::Two, seal, at + passed);
+    let passed = 2 * triples;
+    match size - 3 * triples {
+        2 => passed + pair_front(Kind::Two, seal, at + passed),
+        1 => passed + pair_front(Kind::One, seal, at + passed),
+        _ => passed,
     }
-    if left == 1 {
-        return passed + pair_front(Kind::One, seal, at + passed);
-    }
-    passed
 }
 
 // From the issue date on, behind the names of a header.
@@ -138,7 +130,7 @@ pub fn front(seal: &[u8]) -> usize
     if n == 1 {
         return 1;
     }
-    let Stated::Is(version) = Version::from_byte(wide(seal[1])) else {
+    let Ok(version) = Version::from_byte(wide(seal[1])) else {
         return 1;
     };
     country_front(seal, version)

@@ -1,62 +1,60 @@
-// Bytes as people are shown them, in hexadecimal: the first sixteen, and how many more there are. Each function puts its text down from a
-// place on, as far as there is room, and gives the next place.
+// Bytes as people are shown them, in hexadecimal: the first sixteen, and how many more there are. Each function writes on from where the
+// line stands, as far as there is room.
 #![tactic(auto)]
 
-ghost use Rattle.lines.specs.Line.{Put};
+ghost use Rattle.lines.specs.Written.{Puts};
 ghost use Rattle.hex_bytes.specs.Shown.{spaced, hex_bytes, and_more, shown};
 
-use lines::{put, put_number, put_text};
+use lines::Line;
 use octets::{hex_digit, wide};
 
 // How many bytes are shown at most.
 const MOST: usize = 16;
 
 // Puts down a space and the two digits of a byte.
-fn put_byte(out: &mut [u8], at: usize, byte: u8) -> usize
-    ensures { Put out.old at (spaced byte) out.new result }
+fn put_byte(line: &mut Line, byte: u8)
+    ensures { Puts line.old (spaced byte) line.new }
 {
     let n = wide(byte);
-    let mut o = put(out, at, b' ');
-    o = put(out, o, hex_digit(n >> 4));
-    put(out, o, hex_digit(n))
+    line.put(b' ');
+    line.put(hex_digit(n >> 4));
+    line.put(hex_digit(n));
 }
 
 // Puts down all of these bytes.
-fn put_hex(out: &mut [u8], at: usize, bytes: &[u8]) -> usize
-    ensures { Put out.old at (hex_bytes bytes.now) out.new result }
+fn put_hex(line: &mut Line, bytes: &[u8])
+    ensures { Puts line.old (hex_bytes bytes.now) line.new }
 {
-    let mut o = at;
-    let mut i: usize = 0;
-    while i < bytes.len() {
-        o = put_byte(out, o, bytes[i]);
-        i += 1;
+    for byte in bytes {
+        put_byte(line, *byte);
     }
-    o
 }
 
 // Puts down how many more there are, if there are any.
-fn put_more(out: &mut [u8], at: usize, more: usize) -> usize
-    ensures { Put out.old at (and_more more) out.new result }
+fn put_more(line: &mut Line, more: usize)
+    ensures { Puts line.old (and_more more) line.new }
 {
     if more == 0 {
-        return at;
+        return;
     }
-    let mut o = put_text(out, at, b" and ");
-    o = put_number(out, o, more);
-    put_text(out, o, b" more")
+    line.text(b" and ");
+    line.number(more);
+    line.text(b" more");
 }
 
 // Puts down what is shown of these bytes.
-pub fn put_shown(out: &mut [u8], at: usize, bytes: &[u8]) -> usize
-    ensures { Put out.old at (shown bytes.now) out.new result }
+pub fn put_shown(line: &mut Line, bytes: &[u8])
+    ensures { Puts line.old (shown bytes.now) line.new }
 {
     let size = bytes.len();
     if size == 0 {
-        return put_text(out, at, b" none");
+        line.text(b" none");
+        return;
     }
     if size < MOST {
-        return put_hex(out, at, bytes);
+        put_hex(line, bytes);
+        return;
     }
-    let o = put_hex(out, at, &bytes[..MOST]);
-    put_more(out, o, size - MOST)
+    put_hex(line, &bytes[..MOST]);
+    put_more(line, size - MOST);
 }

@@ -2,20 +2,19 @@
 -- number reads as that number,
 -- what reads as a number is what is written for it, and everything else is refused. So a number has one encoding that is taken.
 -- Assumes nothing.
-use Rattle.std.specs.Prelude.{◌≡◌, refl, true, ℕ, ◌-◌, ◌<◌, ◌≤◌, List, [], ◌∷◌, ltb, eqb, ℤ, pos, length, get_or, drop}
+use Rattle.std.specs.Prelude.{◌≡◌, refl, true, ℕ, ◌-◌, ◌<◌, ◌≤◌, List, [], ◌∷◌, Option, Some, None, ltb, eqb, ℤ, pos, length, get_or, drop}
 use Rattle.std.proofs.Common.{ap, ap₂, sym, subst, ◌∙◌, arith, ltb-true, ltb-false, eqb-true, SFits}
 use Rattle.std.proofs.lemmas.Bool.{eqb-false}
 use Rattle.std.specs.Int.{w64}
-use Rattle.format.specs.Answers.{Outcome, Result, done, refused, result, refusal}
+use Rattle.format.specs.Answers.{Outcome, Valued, done, refused, result, refusal}
 use Rattle.format.specs.Bytes.{Bytes}
 use Rattle.format.specs.Bytes.Laws.{bytes_drop, bytes_take}
 use Rattle.format.specs.Choice.Laws.{by_test}
 use Rattle.format.specs.BigEndian.{be}
 use Rattle.format.specs.BigEndian.Laws.{length_be}
 use Rattle.der.specs.Length.{Sized}
-use Rattle.der.specs.Element.{element_in}
-use Rattle.der.specs.declared.Element.{Element}
-use Rattle.der.specs.declared.Element.TheVariants.{Body, Nothing}
+use Rattle.der.specs.Element.{lies, element_in}
+use Rattle.der.specs.declared.Body.{Body}
 use Rattle.der.specs.Content.{shortest, strict, integer}
 use Rattle.integers.specs.Integer.{word, value_of, integer_of}
 use Rattle.integers.specs.Integer.Laws.{shortest_size, shortest_is_strict, strict_some}
@@ -51,13 +50,15 @@ module _ {C : Type 0} (s : List ℕ) (bytes : Bytes s) (not_one : reading s ≡ 
       (λ l. let few = ltb-false 8 (length c) l in one c b is t few (e ∙ content_is c t few)))
       (λ t. not_one (e ∙ content_loose c t))
 
-  by_element : (r : Element) → element_in 0x02 s ≡ r → C
-  by_element Nothing e = not_one (reading_none s e)
-  by_element (Body start end) e =
+  by_element : (r : Option Body) → element_in 0x02 s ≡ r → C
+  by_element None e = not_one (reading_none s e)
+  by_element (Some b) e =
+      let start = b.start in
+      let end = b.end in
       by_test (eqb end (length s))
       (λ t.
       let all = eqb-true end (length s) t in
-      let f : element_in 0x02 s ≡ Body start (length s) = e ∙ ap (Body start) all in
+      let f : element_in 0x02 s ≡ lies start (length s) = e ∙ ap (lies start) all in
       by_content (part s start (length s)) (bytes_take (length s - start) (drop start s) (bytes_drop start s bytes))
       (element_is 0x02 s bytes start f) (reading_all s start (length s) f refl))
       (λ t. not_one (reading_more s start end e (eqb-false end (length s) t)))
@@ -65,21 +66,21 @@ module _ {C : Type 0} (s : List ℕ) (bytes : Bytes s) (not_one : reading s ≡ 
   pub read_cases : C
   read_cases = by_element (element_in 0x02 s) refl
 
-not_both : {r : Result ℤ} {v : ℤ} → r ≡ refusal (pos 0) 65 → r ≡ result v → ⊥
-not_both {r} e f = omega (arith, ap (λ (g : Result ℤ). g.number) e, ap (λ (g : Result ℤ). g.number) f)
+not_both : {r : Valued ℤ} {v : ℤ} → r ≡ refusal (pos 0) 65 → r ≡ result v → ⊥
+not_both {r} e f = omega (arith, ap (λ (g : Valued ℤ). g.number) e, ap (λ (g : Valued ℤ). g.number) f)
 
 -- what reads as a number is what is written for it, and the number is of the range
 pub read_written : (s : List ℕ) → Bytes s → (v : ℤ) → reading s ≡ result v → s ≡ integer_of v
 read_written s bytes v e =
     read_cases s bytes (λ r. absurd (not_both r e))
     (λ c b is t few r.
-    let same : value_of c ≡ v = ap (λ (g : Result ℤ). g.value) (sym r ∙ e) in
+    let same : value_of c ≡ v = ap (λ (g : Valued ℤ). g.value) (sym r ∙ e) in
     is ∙ ap integer (sym (strict_back c b few t)) ∙ ap integer_of same)
 
 pub read_fits : (s : List ℕ) → Bytes s → (v : ℤ) → reading s ≡ result v → SFits w64 v
 read_fits s bytes v e =
     read_cases s bytes (λ r. absurd (not_both r e))
-    (λ c b is t few r. subst (SFits w64) (ap (λ (g : Result ℤ). g.value) (sym r ∙ e)) (value_fits c b few))
+    (λ c b is t few r. subst (SFits w64) (ap (λ (g : Valued ℤ). g.value) (sym r ∙ e)) (value_fits c b few))
 
 -- everything else is refused
 pub else_refused : (s : List ℕ) → Bytes s → ((v : ℤ) → SFits w64 v → s ≡ integer_of v → ⊥) → reading s ≡ refusal (pos 0) 65

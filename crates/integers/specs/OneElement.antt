@@ -5,9 +5,8 @@ use Rattle.std.proofs.Common.{ap, sym, ◌∙◌, arith, append-nil, length-appe
 use Rattle.std.proofs.Math.Seq.{take-length}
 use Rattle.format.specs.Bytes.{Bytes}
 use Rattle.der.specs.Length.{Sized, form}
-use Rattle.der.specs.Element.{element, element_in}
+use Rattle.der.specs.Element.{element, lies, element_in}
 use Rattle.der.proofs.Elements.Exact.{start, element_found, element_body, element_whole}
-use Rattle.der.specs.declared.Element.TheVariants.{Body}
 
 -- the part of a byte string that a body is
 abbrev pub part : List ℕ → ℕ → ℕ → List ℕ
@@ -20,9 +19,9 @@ size tag body = sym (ap suc (length-append (form (length body)) body) ∙ omega 
 pub element_reads :
     (tag : ℕ) (body : List ℕ) →
     Sized (length body) →
-    element_in tag (element tag body) ≡ Body (start body) (length (element tag body))
+    element_in tag (element tag body) ≡ lies (start body) (length (element tag body))
 element_reads tag body h =
-    ap (element_in tag) (sym (append-nil (element tag body))) ∙ element_found tag body [] h ∙ ap (Body (start body)) (size tag body)
+    ap (element_in tag) (sym (append-nil (element tag body))) ∙ element_found tag body [] h ∙ ap (lies (start body)) (size tag body)
 
 pub element_part : (tag : ℕ) (body : List ℕ) → part (element tag body) (start body) (length (element tag body)) ≡ body
 element_part tag body =
@@ -36,6 +35,6 @@ pub element_is :
     (tag : ℕ) (s : List ℕ) →
     Bytes s →
     (from : ℕ) →
-    element_in tag s ≡ Body from (length s) →
+    element_in tag s ≡ lies from (length s) →
     s ≡ element tag (part s from (length s))
 element_is tag s bytes from f = sym (take-length s) ∙ (element_whole tag s bytes from (length s) f).whole

@@ -40,12 +40,10 @@ pub(crate) fn start_of(bytes: &[u8; 8]) -> usize
     requires { length bytes.now ≡ 8 }
     ensures { (result < 8) × (shortest bytes.now ≡ drop result bytes.now) }
 {
-    let mut i: usize = 0;
-    while i < 7 {
+    for i in 0..7 {
         if !is_redundant(bytes[i], bytes[i + 1]) {
             return i;
         }
-        i += 1;
     }
-    i
+    7
 }

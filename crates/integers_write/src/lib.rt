@@ -7,10 +7,10 @@ ghost use Rattle.integers.specs.Calls.{writing, writing_of};
 
 mod content;
 
-use integers::Writing;
+use octets::NoRoom;
 
 // Writes a number as an INTEGER from the start of `out`.
-pub fn write(v: i64, out: &mut [u8]) -> Writing
+pub fn write(v: i64, out: &mut [u8]) -> Result<usize, NoRoom>
     ensures answer { writing_of result ≡ told (writing v (length out.old)) }
     ensures buffer { out.new ≡ filled (writing v (length out.old)) out.old }
 {
@@ -18,10 +18,10 @@ pub fn write(v: i64, out: &mut [u8]) -> Writing
     let start = content::start_of(&bytes);
     let size = 8 - start;
     if out.len() < size + 2 {
-        return Writing::NoRoom;
+        return Err(NoRoom);
     }
     out[0] = 0x02;
     out[1] = size as u8;
     octets::copy(&bytes[start..], out, 2);
-    Writing::Done(size + 2)
+    Ok(size + 2)
 }

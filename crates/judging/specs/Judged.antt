@@ -1,7 +1,7 @@
 -- The steps put together are the verdict, one law for each of its answers; and what each step leaves for the next.
 -- Assumes nothing.
 pub mod Names
-use Rattle.std.specs.Prelude.{◌≡◌, ℕ, ◌+◌, ◌≤◌, ◌<◌, List, [], ltb, length, take}
+use Rattle.std.specs.Prelude.{◌≡◌, ℕ, ◌+◌, ◌≤◌, ◌<◌, List, [], ltb, length, take, Result, Ok, Err}
 use Rattle.std.proofs.Math.Path.{refl, ap, sym}
 use Rattle.std.proofs.Common.{◌∙◌, arith, lt-ltb, le-ltb, length-take, take_all}
 use Rattle.std.proofs.Math.Decide.{dec_le}
@@ -15,11 +15,17 @@ use Rattle.causes.specs.declared.Why.{Why}
 use Rattle.verdict.specs.Items.{is, not, why, pass, Names as NamesOf}
 use Rattle.verdict.specs.Judge.{Row, Report, header, features, signature, reading, judging, verdict, judge}
 use Rattle.read_items.specs.Meaning.{through}
+use Rattle.read_items.specs.declared.cursor.Refusal.{Refusal}
 use Rattle.read_names.specs.Meaning.{text_over}
 use Rattle.read_header.specs.Steps.{Fields, Dated, fields, dated, names_in}
 use Rattle.read_header.specs.Steps.Together.{header_of, with_dated, then_dated, header_split, fields_known}
 use Rattle.reading.specs.Calls.{judged, judgement_of}
 use Rattle.reading.specs.declared.Judgement.{Judgement}
+
+-- what a judging comes to: a refusal is told with the number of its rule
+abbrev pub settled : Result Judgement Refusal → Judgement
+settled (Ok judgement) = judgement
+settled (Err why) = judgement_of (not why.why why.place)
 
 -- the fields before the dates
 abbrev pub front : Version → List ℕ → ℕ → NamesOf → Fields

@@ -1,21 +1,18 @@
 // The judging (document 01, "Reader"): the steps of the reading one after another. A step that is not read ends it,
-// with the number of the rule that is broken.
+// with its refusal, which is told at last with the number of the rule that is broken.
 #![tactic(auto)]
 
 ghost use Rattle.std.specs.Prelude.{◌≡◌};
 ghost use Rattle.verdict.specs.Items.{not};
 ghost use Rattle.verdict.specs.Judge.{judge as verdict, judging};
 ghost use Rattle.reading.specs.Calls.{judged, judgement_of, Named};
-ghost use Rattle.judging.specs.Judged.{FrontRead, HeaderRead, names_over};
-
-mod why;
+ghost use Rattle.judging.specs.Judged.{FrontRead, HeaderRead, names_over, settled};
 
 use causes::{Item, Rule};
-use read_features::Features;
-use read_header::{Front, Rest};
+use read_header::Front;
 use read_items::{Cursor, Refusal};
 use read_signature::Signature;
-use reading::{Ends, Header, Judgement, Outcome, Part, Reading};
+use reading::{Ends, Header, Judgement, Part, Reading};
 use versions::Version;
 
 // A seal that is not good: the number of the rule that is broken, at its place, and beside it why.
@@ -27,7 +24,7 @@ fn not_good(why: Refusal) -> Judgement
     let number = rule.number();
     Judgement {
         reading: Reading::refused(number, why.place),
-        outcome: Outcome::Not(why),
+        outcome: Err(why),
     }
 }
 
@@ -36,77 +33,81 @@ fn good(
     version: Version,
     header: Header,
     ends: Ends,
-    start: Cursor,
-    size: usize,
+    signature: Signature,
     count: usize,
 ) -> Judgement
-    ensures { result ≡ judged version header ends (record { place = start.place; length = size }) count }
+    ensures { result
+        ≡ judged version header ends (record { place = signature.start.place; length = signature.size }) count }
 {
-    let signature = Part {
-        place: start.place,
-        length: size,
+    let part = Part {
+        place: signature.start.place,
+        length: signature.size,
     };
     let reading = Reading {
         number: 0,
         place: 0,
         header,
         ends,
-        signature,
+        signature: part,
         count,
     };
     Judgement {
         reading,
-        outcome: Outcome::Good(version),
+        outcome: Ok(version),
     }
 }
 
-// The verdict on a seal whose header was read: its features and its signature.
-fn judge_message(version: Version, header: Header, message: Cursor, seal: &[u8]) -> Judgement
+// Judges a seal whose header was read: its features and its signature.
+fn judge_message(
+    version: Version,
+    header: Header,
+    message: Cursor,
+    seal: &[u8],
+) -> Result<Judgement, Refusal>
     requires read { HeaderRead seal.now version header message.place }
-    ensures { result ≡ judgement_of (judging seal.now) }
+    ensures { settled result ≡ judgement_of (judging seal.now) }
 {
-    let features = read_features::read_features(message, seal, version);
-    let Features::Are(count, mark) = features else {
-        return not_good(why::features(features));
-    };
-    let next = mark.place + 1;
-    let signature = read_signature::read_signature(Cursor { place: next }, seal);
-    let Signature::Is(size, start) = signature else {
-        return not_good(why::signature(signature));
-    };
+    let features = read_features::read_features(message, seal, version)?;
+    let mark = features.mark.place;
+    let signature = read_signature::read_signature(Cursor { place: mark + 1 }, seal)?;
     let ends = Ends {
         header: message.place,
-        message: mark.place,
+        message: mark,
         seal: seal.len(),
     };
-    good(version, header, ends, start, size, count)
+    Ok(good(version, header, ends, signature, features.count))
 }
 
-// The verdict on a seal whose fields before the dates were read.
-fn judge_rest(
-    at: Cursor,
-    seal: &[u8],
-    version: Version,
-    country: [u8; 3],
-    length: usize,
-) -> Judgement
-    requires read { FrontRead seal.now version country length at.place }
-    ensures { result ≡ judgement_of (judging seal.now) }
+// Judges a seal whose fields before the dates were read.
+fn judge_rest(front: Front, country: [u8; 3], seal: &[u8]) -> Result<Judgement, Refusal>
+    requires read { FrontRead seal.now front.version country front.length front.next.place }
+    ensures { settled result ≡ judgement_of (judging seal.now) }
 {
-    let rest = read_header::read_rest(at, seal);
-    let Rest::Is(issued, signed, definition, category, message) = rest else {
-        return not_good(why::rest(rest));
-    };
+    let rest = read_header::read_rest(front.next, seal)?;
     let header = Header {
-        version: version.number(),
+        version: front.version.number(),
         country,
-        length,
-        issued,
-        signed,
-        definition,
-        category,
+        length: front.length,
+        issued: rest.issued,
+        signed: rest.signed,
+        definition: rest.definition,
+        category: rest.category,
     };
-    judge_message(version, header, message, seal)
+    judge_message(front.version, header, rest.next, seal)
+}
+
+// Judges a seal; signer and reference stand at the start of `names` where they were read, whatever follows them.
+fn judge_seal(seal: &[u8], names: &mut [u8; 259]) -> Result<Judgement, Refusal>
+    ensures answer { settled result ≡ judgement_of (judging seal.now) }
+    ensures text { Named (verdict seal.now) names.new }
+    ensures buffer { names.new ≡ names_over names.old seal.now }
+{
+    if 4096 < seal.len() {
+        return Err(Refusal::of(Item::Seal, Rule::NotTooLong, 4096));
+    }
+    let mut country = [0u8; 3];
+    let front = read_header::read_front(seal, &mut country, names)?;
+    judge_rest(front, country, seal)
 }
 
 // The verdict; signer and reference stand at the start of `names` where they were read, whatever follows them, and on 0 they were.
@@ -115,13 +116,5 @@ pub fn judge_names(seal: &[u8], names: &mut [u8; 259]) -> Judgement
     ensures text { Named (verdict seal.now) names.new }
     ensures buffer { names.new ≡ names_over names.old seal.now }
 {
-    if 4096 < seal.len() {
-        return not_good(Refusal::of(Item::Seal, Rule::NotTooLong, 4096));
-    }
-    let mut country = [0u8; 3];
-    let front = read_header::read_front(seal, &mut country, names);
-    let Front::Is(version, length, at) = front else {
-        return not_good(why::front(front));
-    };
-    judge_rest(at, seal, version, country, length)
+    judge_seal(seal, names).unwrap_or_else(not_good)
 }

@@ -1,4 +1,5 @@
 -- What the contracts of lines cite: text put into a buffer.
 -- Assumes nothing.
 pub mod Line
+pub mod Written
 pub mod OneToOne

@@ -2,40 +2,18 @@
 // What it prints is what `listing::list` promises.
 #![tactic(auto)]
 
-use input::Input;
 use listing::{READ, ROOM};
-use std::env::{Env, FillError};
-use std::io::Print;
 
-// Whether the program was given arguments: argument 0 is its name.
-fn has_arguments(rt: &HostRuntime) -> bool {
-    let mut first = [0u8; 1];
-    match rt.arg(1, &mut first) {
-        Err(FillError::NotPresent) => false,
-        Ok(_) | Err(FillError::TooLong) => true,
-    }
-}
-
-// Says on standard error what is wrong. Where that cannot be written, there is nothing left to say it on.
-fn say(rt: &HostRuntime, fault: &[u8]) {
-    let _ = rt.stderr().write_all(fault);
-}
+// What the program is called where it says what is wrong.
+const NAME: &str = "fenderrope-list";
 
 // Reads, lists and writes; it takes no arguments.
 fn main(rt: HostRuntime) {
-    if has_arguments(&rt) {
-        say(&rt, b"usage: fenderrope-list <seal\n");
-        return;
-    }
     let mut seal = [0u8; READ];
-    let input = input::read_input(&rt, &mut seal);
-    let Input::Bytes(size) = input else {
-        say(&rt, b"fenderrope-list: standard input cannot be read\n");
+    let Ok(size) = input::take(&rt, NAME, &mut seal) else {
         return;
     };
     let mut out = [0u8; ROOM];
     let count = listing::list(&seal[..size], &mut out);
-    if rt.write_all(&out[..count]).is_err() {
-        say(&rt, b"fenderrope-list: standard output cannot be written\n");
-    }
+    let _ = input::give(&rt, NAME, &out[..count]);
 }

@@ -1,44 +1,43 @@
 // A date, and numbers with zeros in front.
-ghost use Rattle.lines.specs.Line.{Put};
+ghost use Rattle.lines.specs.Written.{Puts};
 ghost use Rattle.list_lines.specs.ListLine.{zero_below, two, four, day};
 
 use dates::Date;
-use lines::{put, put_number};
+use lines::Line;
 
 // Puts down a zero if a number is below a limit.
-fn put_zero(out: &mut [u8], at: usize, n: usize, limit: usize) -> usize
-    ensures { Put out.old at (zero_below limit n) out.new result }
+fn put_zero(line: &mut Line, n: usize, limit: usize)
+    ensures { Puts line.old (zero_below limit n) line.new }
 {
     if n < limit {
-        return put(out, at, b'0');
+        line.put(b'0');
     }
-    at
 }
 
 // Puts down a number with at least two digits.
-fn put_two(out: &mut [u8], at: usize, n: usize) -> usize
-    ensures { Put out.old at (two n) out.new result }
+fn put_two(line: &mut Line, n: usize)
+    ensures { Puts line.old (two n) line.new }
 {
-    let o = put_zero(out, at, n, 10);
-    put_number(out, o, n)
+    put_zero(line, n, 10);
+    line.number(n);
 }
 
 // Puts down a number with at least four digits.
-fn put_four(out: &mut [u8], at: usize, n: usize) -> usize
-    ensures { Put out.old at (four n) out.new result }
+fn put_four(line: &mut Line, n: usize)
+    ensures { Puts line.old (four n) line.new }
 {
-    let mut o = put_zero(out, at, n, 1000);
-    o = put_zero(out, o, n, 100);
-    put_two(out, o, n)
+    put_zero(line, n, 1000);
+    put_zero(line, n, 100);
+    put_two(line, n);
 }
 
 // Puts down a date, YYYY-MM-DD.
-pub(crate) fn put_date(out: &mut [u8], at: usize, date: Date) -> usize
-    ensures { Put out.old at (day date) out.new result }
+pub(crate) fn put_date(line: &mut Line, date: Date)
+    ensures { Puts line.old (day date) line.new }
 {
-    let mut o = put_four(out, at, date.year);
-    o = put(out, o, b'-');
-    o = put_two(out, o, date.month);
-    o = put(out, o, b'-');
-    put_two(out, o, date.day)
+    put_four(line, date.year);
+    line.put(b'-');
+    put_two(line, date.month);
+    line.put(b'-');
+    put_two(line, date.day);
 }

@@ -4,13 +4,13 @@
 ghost use Rattle.std.specs.Prelude.{◌≡◌, ◌≤◌, length};
 ghost use Rattle.format.specs.Answers.{done, filled};
 ghost use Rattle.verdict.specs.Judge.{judge};
-ghost use Rattle.lines.specs.Line.{Put};
+ghost use Rattle.lines.specs.Written.{Puts};
 ghost use Rattle.listing.specs.Listed.{listed, Enough};
 ghost use Rattle.listing.specs.Listing.{accepted, listing};
 
 mod parts;
 
-use lines::put_text;
+use lines::Line;
 use list_lines::{put_dates, put_names, put_refused};
 use reader::Reading;
 
@@ -24,34 +24,34 @@ pub const ROOM: usize = 8562;
 const NAMES: usize = 259;
 
 // The lines of an accepted seal.
-fn put_accepted(out: &mut [u8], at: usize, reading: Reading, table: &[usize], text: &[u8]) -> usize
-    ensures { Put out.old at (accepted reading table.now text.now) out.new result }
+fn put_accepted(line: &mut Line, reading: Reading, table: &[usize], text: &[u8])
+    ensures { Puts line.old (accepted reading table.now text.now) line.new }
 {
     let header = reading.header;
     let country = header.country;
     let signature = reading.signature;
-    let mut o = put_text(out, at, b"accepted\n");
-    o = put_names(out, o, header.version, country, text, header.length);
-    o = put_dates(
-        out,
-        o,
+    line.text(b"accepted\n");
+    put_names(line, header.version, country, text, header.length);
+    put_dates(
+        line,
         header.issued,
         header.signed,
         header.definition,
         header.category,
     );
-    o = parts::put_features(out, o, reading.count, table);
-    parts::put_signature(out, o, signature.place, signature.length)
+    parts::put_features(line, reading.count, table);
+    parts::put_signature(line, signature.place, signature.length);
 }
 
-// Puts the listing of a reading at the start of `out`, as far as there is room, and gives the count. `reader::read` filled the other two.
-fn put_listing(reading: Reading, table: &[usize], text: &[u8], out: &mut [u8]) -> usize
-    ensures { Put out.old 0 (listing reading table.now text.now) out.new result }
+// Puts down the listing of a reading. `reader::read` filled the other two.
+fn put_listing(line: &mut Line, reading: Reading, table: &[usize], text: &[u8])
+    ensures { Puts line.old (listing reading table.now text.now) line.new }
 {
     if reading.number == 0 {
-        return put_accepted(out, 0, reading, table, text);
+        put_accepted(line, reading, table, text);
+        return;
     }
-    put_refused(out, 0, reading.number, reading.place)
+    put_refused(line, reading.number, reading.place);
 }
 
 // Puts the listing of the verdict on `seal` at the start of `out` and gives the count of its bytes; past it `out` stays.
@@ -64,5 +64,7 @@ pub fn list(seal: &[u8], out: &mut [u8; ROOM]) -> usize
     let mut table = [0usize; rows::MOST];
     let mut text = [0u8; NAMES];
     let reading = reader::read(seal, &mut table, &mut text);
-    put_listing(reading, &table, &text, out)
+    let mut line = Line::new(out, 0);
+    put_listing(&mut line, reading, &table, &text);
+    line.at()
 }

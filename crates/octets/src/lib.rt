@@ -1,11 +1,15 @@
 // What the layers' code shares on bytes: a byte as a number to reckon with, a number's last byte, its threes and its
-// tens, a number in bytes, hexadecimal digits, bytes copied into a lent buffer.
+// tens, a number in bytes, hexadecimal digits, bytes put into a lent buffer.
 #![tactic(auto)]
 
 ghost use Rattle.std.specs.Prelude.{◌≡◌, ◌/◌, ◌%◌, min, length};
 ghost use Rattle.format.specs.Hex.{hex_digit, hex_value};
 ghost use Rattle.format.specs.BigEndian.{val};
 ghost use Rattle.octets.specs.Copy.{copied, reached};
+
+// The error of bytes for which a lent buffer has no room: nothing was put down.
+#[derive(Clone, Copy, Debug, PartialEq, Eq)]
+pub struct NoRoom;
 
 // A byte as a number to reckon with.
 pub fn wide(x: u8) -> usize
@@ -34,7 +38,7 @@ pub fn threes(n: usize) -> usize
 }
 
 // How many tens are in a number, in the same way: in 2^32 there are 429496729 and in 2^16 6553, with 6 left over each, and 6710887 / 2^26
-// serves as 1 / 10.
+// serves as 1 / 10. One function for both would take five constants that must fit one another, and say no more than the two do.
 pub fn tens(n: usize) -> usize
     ensures { result ≡ n / 10 }
 {
@@ -51,35 +55,26 @@ pub fn copy(from: &[u8], out: &mut [u8], at: usize) -> usize
     ensures place { result ≡ reached from.now (length out.old) at }
     ensures buffer { out.new ≡ copied from.now out.old at }
 {
-    let n = from.len();
     let room = out.len();
     if room < at {
         return at;
     }
-    if room - at < n {
+    if room - at < from.len() {
         return at;
     }
-    let mut i: usize = 0;
-    while i < n {
-        out[at + i] = from[i];
-        i += 1;
-    }
-    at + n
+    let end = at + from.len();
+    out[at..end].copy_from_slice(from);
+    end
 }
 
 // The number in the bytes of `s`, big-endian, of at most the first eight.
 pub fn number(s: &[u8]) -> usize
     ensures { result ≡ val s.now (min (length s.now) 8) }
 {
-    let n = s.len();
+    let first = &s[..s.len().min(8)];
     let mut value: usize = 0;
-    let mut i: usize = 0;
-    while i < n {
-        if i == 8 {
-            return value;
-        }
-        value = value * 256 + wide(s[i]);
-        i += 1;
+    for x in first {
+        value = value * 256 + wide(*x);
     }
     value
 }
@@ -90,26 +85,18 @@ pub fn hex_digit(n: usize) -> u8
 {
     let last = n & 15;
     if last < 10 {
-        return (48 + last) as u8;
+        return b'0' + last as u8;
     }
-    (55 + last) as u8
+    55 + last as u8
 }
 
 // What a hexadecimal digit, in upper case, stands for; 16 for any other character.
 pub fn hex_value(c: u8) -> usize
     ensures { result ≡ hex_value c }
 {
-    if c < b'0' {
-        return 16;
+    match c {
+        b'0'..=b'9' => wide(c - b'0'),
+        b'A'..=b'F' => wide(c - 55),
+        _ => 16,
     }
-    if c <= b'9' {
-        return wide(c - b'0');
-    }
-    if c < b'A' {
-        return 16;
-    }
-    if b'F' < c {
-        return 16;
-    }
-    wide(c - 55)
 }

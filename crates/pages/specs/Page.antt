@@ -15,11 +15,6 @@ unfoldable pub page_of : List Row → List ℕ
 page_of [] = []
 page_of (r ∷ rows) = line_of r (page_of rows)
 
--- how many bytes stand before the first newline
-unfoldable pub line_size : List ℕ → ℕ
-line_size [] = 0
-line_size (x ∷ s) = pick (eqb x 10) 0 (suc (line_size s))
-
 -- a byte put before the first line, and the lines of a text, without their newlines
 abbrev pub before : ℕ → List (List ℕ) → List (List ℕ)
 before x [] = (x ∷ []) ∷ []

@@ -1,7 +1,7 @@
 -- Which pairs are well coded (document 01, C40), and the three faults of the others (document 02, Ticket 1), each in the document's words
--- and apart from `pair_of`, which tells them. Faults/Exact.antt shows that every pair is well coded or has one fault, and no two.
+-- and apart from `pair_of`, which tells them. proofs/Faults/Exact.antt shows that every pair is well coded or has one fault, and no two.
 -- Assumes nothing.
-use Rattle.std.specs.Prelude.{◌≡◌, ◌⊎◌, Bool, false, ℕ, ◌+◌, ◌<◌, ◌≤◌, [], ◌∷◌, length}
+use Rattle.std.specs.Prelude.{◌≡◌, ◌⊎◌, Bool, false, ℕ, ◌+◌, ◌<◌, ◌≤◌, [], ◌∷◌, length, Result}
 use Rattle.format.specs.Bytes.{All}
 use Rattle.pairs.specs.Chart.{InChart}
 use Rattle.pairs.specs.Pairs.{number, first, second, third, chars_of, form_of}
@@ -32,10 +32,10 @@ Has fault.Shift last x y = ShiftValue last (number x y)
 Has fault.Single last x y = WrongSingle last x y
 
 -- a pair carries characters of the chart whose form it is, and three of them where it is not the last
-pub record Carries (last : Bool) (x y : ℕ) (p : Pair) : Type 0 where
+pub record Carries (last : Bool) (x y : ℕ) (p : Result Pair Fault) : Type 0 where
   pub is_text_lem : All InChart (chars_of p)
   pub form : form_of p ≡ x ∷ y ∷ []
   pub whole : last ≡ false → length (chars_of p) ≡ 3
 
 abbrev pub WellCoded : Bool → ℕ → ℕ → Type 0
-WellCoded last x y = (p : Pair) × Carries last x y p
+WellCoded last x y = (p : Result Pair Fault) × Carries last x y p

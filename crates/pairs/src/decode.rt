@@ -1,6 +1,6 @@
 // What a pair of bytes may carry; `unpack` tells which.
 // What is wrong with a pair of bytes, one kind for each number; Faults.antt says of each when it is told.
-#[derive(Clone, Copy)]
+#[derive(Clone, Copy, Debug, PartialEq, Eq)]
 pub enum Fault {
     // 41: its number is 0 or over 64,000, and it does not begin with FE
     OutOfRange,
@@ -10,16 +10,14 @@ pub enum Fault {
     Single,
 }
 
-// What a pair of bytes carries.
-#[derive(Clone, Copy)]
+// What a pair of bytes carries that is well coded.
+#[derive(Clone, Copy, Debug, PartialEq, Eq)]
 pub enum Pair {
     Three(u8, u8, u8),
     // two characters, which only the last pair may carry
     Two(u8, u8),
     // one character, which only the last pair may carry
     One(u8),
-    // no characters, but what is wrong
-    Wrong(Fault),
 }
 
 // Three values; below 40 where the number is at most 64,000.

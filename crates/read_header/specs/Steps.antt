@@ -1,18 +1,17 @@
--- The header in the two steps that the code takes, and what each case of their answers means: the fields before the dates, and
+-- The header in the two steps that the code takes, and what their answers mean: the fields before the dates, and
 -- those after.
 -- Assumes nothing.
 pub mod Laws
 pub mod Together
-use Rattle.std.specs.Prelude.{ℕ, List, take, drop}
+use Rattle.std.specs.Prelude.{ℕ, List, take, drop, Result, Ok, Err}
 use Rattle.dates.specs.declared.Date.{Date}
 use Rattle.versions.specs.declared.Version.{Version}
 use Rattle.causes.specs.declared.Item.TheVariants as item
 use Rattle.verdict.specs.Items.{Way, is, not, next, pass, mark, version, country, names, date, last, Names}
 use Rattle.read_names.specs.Meaning.{Measured, measured}
 use Rattle.read_header.specs.declared.Front.{Front}
-use Rattle.read_header.specs.declared.Front.TheVariants as front
 use Rattle.read_header.specs.declared.Rest.{Rest}
-use Rattle.read_header.specs.declared.Rest.TheVariants as rest
+use Rattle.read_items.specs.declared.cursor.Refusal.{Refusal}
 
 -- the fields up to the reference, with L beside the names
 pub record Fields : Type 0 where
@@ -51,18 +50,19 @@ dated at s =
     (λ category at. is (record { issued = issued; signed = signed; definition = definition; category = category }) at))))
 
 -- country and names stand in lent buffers
-abbrev pub front_of : List ℕ → List ℕ → Front → Way Fields
-front_of code text (front.Is v size at) =
+abbrev pub front_of : List ℕ → List ℕ → Result Front Refusal → Way Fields
+front_of code text (Ok front) =
     is
     (record {
-      version = v;
+      version = front.version;
       country = code;
-      names = record { length = size; names = record { signer = take 4 text; reference = take size (drop 4 text) } };
+      names =
+          record { length = front.length; names = record { signer = take 4 text; reference = take front.length (drop 4 text) } };
     })
-    at.place
-front_of code text (front.Not why) = not why.why why.place
+    front.next.place
+front_of code text (Err why) = not why.why why.place
 
-abbrev pub rest_of : Rest → Way Dated
-rest_of (rest.Is issued signed definition category at) =
-    is (record { issued = issued; signed = signed; definition = definition; category = category }) at.place
-rest_of (rest.Not why) = not why.why why.place
+abbrev pub rest_of : Result Rest Refusal → Way Dated
+rest_of (Ok rest) =
+    is (record { issued = rest.issued; signed = rest.signed; definition = rest.definition; category = rest.category }) rest.next.place
+rest_of (Err why) = not why.why why.place

@@ -1,73 +1,32 @@
 // The items of a seal, each read at a place: a cursor goes in, and the item comes out with the next cursor (document 01, "Reader").
 ghost use Rattle.std.specs.Prelude.{◌≡◌};
 ghost use Rattle.verdict.specs.Items as read;
-ghost use Rattle.read_items.specs.Meaning.{byte_of, whole_of, step_of, number_of, edition_of, day_of, because, past};
+ghost use Rattle.read_items.specs.Meaning.{byte_of, whole_of, step_of, item_of, because, refusal_of, past};
 
 use causes::{Item, Rule, Why};
-use dates::{Date, Taken};
+use dates::Date;
 use der::{Fault, Length};
 use octets::wide;
-use versions::{Stated, Version};
+use versions::Version;
 
 // A place in the seal.
-#[derive(Clone, Copy)]
+#[derive(Clone, Copy, Debug, PartialEq, Eq)]
 pub struct Cursor {
     pub place: usize,
 }
 
 // Why a reading ends: the item that is not read, the rule that it breaks, and the place.
-#[derive(Clone, Copy)]
+#[derive(Clone, Copy, Debug, PartialEq, Eq)]
 pub struct Refusal {
     pub why: Why,
     pub place: usize,
 }
 
-// One byte.
-#[derive(Clone, Copy)]
-pub enum Byte {
-    Is(usize, Cursor),
-    // there is none
-    Cut,
-}
-
-// An item of so many bytes, with nothing asked of them.
-#[derive(Clone, Copy)]
-pub enum Whole {
-    Past(Cursor),
-    // they are not all there
-    Cut,
-}
-
-// An item that says nothing by itself, or whose text is put into a lent buffer.
-#[derive(Clone, Copy)]
-pub enum Step {
-    Past(Cursor),
-    // the rule that it breaks, and the place that is told
-    Not(Rule, usize),
-}
-
-// An item that is a number.
-#[derive(Clone, Copy)]
-pub enum Number {
-    Is(usize, Cursor),
-    // the rule that it breaks, and the place that is told
-    Not(Rule, usize),
-}
-
-// The version.
-#[derive(Clone, Copy)]
-pub enum Edition {
-    Is(Version, Cursor),
-    // the rule that it breaks, and the place that is told
-    Not(Rule, usize),
-}
-
-// An item that is a date.
-#[derive(Clone, Copy)]
-pub enum Day {
-    Is(Date, Cursor),
-    // the rule that it breaks, and the place that is told
-    Not(Rule, usize),
+// The rule that an item breaks, and the place that is told.
+#[derive(Clone, Copy, Debug, PartialEq, Eq)]
+pub struct Broken {
+    pub rule: Rule,
+    pub place: usize,
 }
 
 impl Refusal {
@@ -78,6 +37,17 @@ impl Refusal {
         Refusal {
             why: Why { item, rule },
             place,
+        }
+    }
+
+    // Why an item was not read, under its name. One that was read has no cause: the answer is that of no refusal, and no
+    // caller asks for it.
+    pub fn unread<T: Copy>(item: Item, read: Result<T, Broken>) -> Refusal
+        ensures { result ≡ refusal_of item read }
+    {
+        match read {
+            Ok(_) => Refusal::of(Item::Seal, Rule::There, 0),
+            Err(broken) => Refusal::of(item, broken.rule, broken.place),
         }
     }
 }
@@ -95,113 +65,122 @@ fn length_rule(fault: Fault) -> Rule
 }
 
 impl Cursor {
+    // The item here breaks this rule.
+    pub fn breaks(self, rule: Rule) -> Broken
+        ensures { result ≡ record { rule = rule; place = self.place } }
+    {
+        Broken {
+            rule,
+            place: self.place,
+        }
+    }
+
     // Past so many bytes, if they are there.
-    pub fn skip(self, seal: &[u8], size: usize) -> Whole
+    pub fn skip(self, seal: &[u8], size: usize) -> Option<Cursor>
         ensures { whole_of self.place result ≡ read.whole size self.place seal.now (past size self.place) }
     {
         let at = self.place;
         let n = seal.len();
         if n < at {
-            return Whole::Cut;
+            return None;
         }
         if n - at < size {
-            return Whole::Cut;
+            return None;
         }
-        Whole::Past(Cursor { place: at + size })
+        Some(Cursor { place: at + size })
     }
 
     // The byte here.
-    pub fn byte(self, seal: &[u8]) -> Byte
+    pub fn byte(self, seal: &[u8]) -> Option<(usize, Cursor)>
         ensures { byte_of self.place result ≡ read.byte self.place seal.now (read.plain_in self.place) }
     {
         let at = self.place;
         if seal.len() <= at {
-            return Byte::Cut;
+            return None;
         }
-        Byte::Is(wide(seal[at]), Cursor { place: at + 1 })
+        Some((wide(seal[at]), Cursor { place: at + 1 }))
     }
 
     // Byte DC.
-    pub fn mark(self, seal: &[u8]) -> Step
+    pub fn mark(self, seal: &[u8]) -> Result<Cursor, Broken>
         ensures { step_of tt result ≡ read.mark self.place seal.now }
     {
-        let Byte::Is(x, next) = self.byte(seal) else {
-            return Step::Not(Rule::There, self.place);
+        let Some((x, next)) = self.byte(seal) else {
+            return Err(self.breaks(Rule::There));
         };
         if x == 0xDC {
-            return Step::Past(next);
+            return Ok(next);
         }
-        Step::Not(Rule::IsMark, self.place)
+        Err(self.breaks(Rule::IsMark))
     }
 
     // 02 is version 3, 03 is version 4.
-    pub fn version(self, seal: &[u8]) -> Edition
-        ensures { edition_of result ≡ read.version self.place seal.now }
+    pub fn version(self, seal: &[u8]) -> Result<(Version, Cursor), Broken>
+        ensures { item_of result ≡ read.version self.place seal.now }
     {
-        let Byte::Is(x, next) = self.byte(seal) else {
-            return Edition::Not(Rule::There, self.place);
+        let Some((x, next)) = self.byte(seal) else {
+            return Err(self.breaks(Rule::There));
         };
-        let Stated::Is(version) = Version::from_byte(x) else {
-            return Edition::Not(Rule::IsVersion, self.place);
+        let Ok(version) = Version::from_byte(x) else {
+            return Err(self.breaks(Rule::IsVersion));
         };
-        Edition::Is(version, next)
+        Ok((version, next))
     }
 
     // A date in three bytes.
-    pub fn date(self, seal: &[u8]) -> Day
-        ensures { day_of result ≡ read.date self.place seal.now }
+    pub fn date(self, seal: &[u8]) -> Result<(Date, Cursor), Broken>
+        ensures { item_of result ≡ read.date self.place seal.now }
     {
         let at = self.place;
-        let Whole::Past(next) = self.skip(seal, 3) else {
-            return Day::Not(Rule::There, at);
+        let Some(next) = self.skip(seal, 3) else {
+            return Err(self.breaks(Rule::There));
         };
-        let Taken::Day(date) = Date::from_bytes(seal[at], seal[at + 1], seal[at + 2]) else {
-            return Day::Not(Rule::IsDay, at);
+        let Ok(date) = Date::from_bytes(seal[at], seal[at + 1], seal[at + 2]) else {
+            return Err(self.breaks(Rule::IsDay));
         };
-        Day::Is(date, next)
+        Ok((date, next))
     }
 
     // Definition reference or category: 1 to 254.
-    pub fn last(self, seal: &[u8]) -> Number
-        ensures { number_of result ≡ read.last self.place seal.now }
+    pub fn last(self, seal: &[u8]) -> Result<(usize, Cursor), Broken>
+        ensures { item_of result ≡ read.last self.place seal.now }
     {
-        let Byte::Is(x, next) = self.byte(seal) else {
-            return Number::Not(Rule::There, self.place);
+        let Some((x, next)) = self.byte(seal) else {
+            return Err(self.breaks(Rule::There));
         };
         if x == 0 {
-            return Number::Not(Rule::OneTo254, self.place);
+            return Err(self.breaks(Rule::OneTo254));
         }
         if 254 < x {
-            return Number::Not(Rule::OneTo254, self.place);
+            return Err(self.breaks(Rule::OneTo254));
         }
-        Number::Is(x, next)
+        Ok((x, next))
     }
 
     // A DER length.
-    pub fn der_length(self, seal: &[u8]) -> Number
-        ensures { number_of result ≡ read.der_length self.place seal.now }
+    pub fn der_length(self, seal: &[u8]) -> Result<(usize, Cursor), Broken>
+        ensures { item_of result ≡ read.der_length self.place seal.now }
     {
         let at = self.place;
         if seal.len() < at {
-            return Number::Not(Rule::There, at);
+            return Err(self.breaks(Rule::There));
         }
-        let read = der::read_length(&seal[at..]);
-        match read {
-            Length::Is(size, width) => Number::Is(size, Cursor { place: at + width }),
-            Length::Not(fault) => Number::Not(length_rule(fault), at),
+        match der::read_length(&seal[at..]) {
+            Ok(Length { size, width }) => Ok((size, Cursor { place: at + width })),
+            Err(fault) => Err(self.breaks(length_rule(fault))),
         }
     }
 
     // A feature's length: one plain byte in version 3, a DER length in version 4.
-    pub fn feature_length(self, seal: &[u8], version: Version) -> Number
-        ensures { number_of result ≡ read.feature_length version self.place seal.now }
+    pub fn feature_length(self, seal: &[u8], version: Version) -> Result<(usize, Cursor), Broken>
+        ensures { item_of result ≡ read.feature_length version self.place seal.now }
     {
         match version {
             Version::Three => {
-                let Byte::Is(x, next) = self.byte(seal) else {
-                    return Number::Not(Rule::There, self.place);
+                let Some(read) = self.byte(seal) else {
+                    return Err(self.breaks(Rule::There));
                 };
-                Number::Is(x, next)
+                Ok(read)
             }
             Version::Four => self.der_length(seal),
         }

@@ -3,4 +3,4 @@
 
 mod cursor;
 
-pub use cursor::{Byte, Cursor, Day, Edition, Number, Refusal, Step, Whole};
+pub use cursor::{Broken, Cursor, Refusal};

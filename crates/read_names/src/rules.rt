@@ -1,4 +1,4 @@
-// The rules that the characters of a text keep, in order (document 01, Layout).
+// The rules that the characters of a text keep, in order, or the first that they break (document 01, Layout).
 ghost use Rattle.std.specs.Prelude.{◌≡◌, length};
 ghost use Rattle.verdict.specs.Items as read;
 ghost use Rattle.read_names.specs.Meaning.{Fits, kept_of, rules_of};
@@ -16,69 +16,62 @@ pub enum Kind {
     Reference,
 }
 
-// Whether a text keeps its rules, and else the first that it breaks.
-#[derive(Clone, Copy)]
-pub enum Kept {
-    All,
-    Not(Rule),
-}
-
 // A letter first, letters and then fillers, which are carried as spaces.
-fn in_country(text: &[u8]) -> Kept
+fn in_country(text: &[u8]) -> Result<(), Rule>
     requires { length text.now ≡ 3 }
     ensures { kept_of result ≡ read.in_country text.now }
 {
     if fields::is_country(text[0], text[1], text[2], b' ') {
-        return Kept::All;
+        return Ok(());
     }
-    Kept::Not(Rule::CountryCode)
+    Err(Rule::CountryCode)
 }
 
 // Letters and digits.
-fn in_reference(text: &[u8]) -> Kept
+fn in_reference(text: &[u8]) -> Result<(), Rule>
     ensures { kept_of result ≡ read.in_reference text.now }
 {
     if fields::all_reference(text) {
-        return Kept::All;
+        return Ok(());
     }
-    Kept::Not(Rule::ReferenceCharacters)
+    Err(Rule::ReferenceCharacters)
 }
 
 // The signer, and then the reference.
-fn in_nine(text: &[u8]) -> Kept
+fn in_nine(text: &[u8]) -> Result<(), Rule>
     requires { length text.now ≡ 9 }
     ensures { kept_of result ≡ read.in_nine text.now }
 {
     if fields::is_signer(text[0], text[1], text[2], text[3]) {
         return in_reference(&text[4..]);
     }
-    Kept::Not(Rule::SignerCharacters)
+    Err(Rule::SignerCharacters)
 }
 
 // The signer, and then two hexadecimal digits that give the reference's length, which is not 0.
-fn in_six(text: &[u8]) -> Kept
+fn in_six(text: &[u8]) -> Result<(), Rule>
     requires { length text.now ≡ 6 }
     ensures { kept_of result ≡ read.in_six text.now }
 {
     if !fields::is_signer(text[0], text[1], text[2], text[3]) {
-        return Kept::Not(Rule::SignerCharacters);
+        return Err(Rule::SignerCharacters);
     }
     let high = octets::hex_value(text[4]);
     let low = octets::hex_value(text[5]);
     if high == 16 {
-        return Kept::Not(Rule::HexadecimalDigits);
+        return Err(Rule::HexadecimalDigits);
     }
     if low == 16 {
-        return Kept::Not(Rule::HexadecimalDigits);
+        return Err(Rule::HexadecimalDigits);
     }
     if high + low == 0 {
-        return Kept::Not(Rule::NotZero);
+        return Err(Rule::NotZero);
     }
-    Kept::All
+    Ok(())
 }
 
 // The rules of this kind of text.
-pub(crate) fn judge(kind: Kind, text: &[u8]) -> Kept
+pub(crate) fn judge(kind: Kind, text: &[u8]) -> Result<(), Rule>
     requires { Fits kind text.now }
     ensures { kept_of result ≡ rules_of kind text.now }
 {

@@ -1,12 +1,12 @@
--- What each case of the signature's answer means.
+-- What the signature's answer means.
 -- Assumes nothing.
 pub mod Laws
-use Rattle.std.specs.Prelude.{ℕ}
+use Rattle.std.specs.Prelude.{ℕ, Result, Ok, Err}
 use Rattle.verdict.specs.Items.{Way, is, not}
 use Rattle.read_signature.specs.declared.Signature.{Signature}
-use Rattle.read_signature.specs.declared.Signature.TheVariants as signature
+use Rattle.read_items.specs.declared.cursor.Refusal.{Refusal}
 
 -- its size, at the place where it starts
-abbrev pub signature_of : Signature → Way ℕ
-signature_of (signature.Is size at) = is size at.place
-signature_of (signature.Not why) = not why.why why.place
+abbrev pub signature_of : Result Signature Refusal → Way ℕ
+signature_of (Ok signature) = is signature.size signature.start.place
+signature_of (Err why) = not why.why why.place

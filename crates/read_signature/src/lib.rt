@@ -6,31 +6,31 @@ ghost use Rattle.verdict.specs.Judge.{signature as signature_at};
 ghost use Rattle.read_signature.specs.Meaning.{signature_of};
 
 use causes::{Item, Rule};
-use read_items::{Cursor, Number, Refusal, Whole};
+use read_items::{Cursor, Refusal};
 
-#[derive(Clone, Copy)]
-pub enum Signature {
-    // its length, and where it starts
-    Is(usize, Cursor),
-    Not(Refusal),
+// What the signature says: its size, and where it starts.
+#[derive(Clone, Copy, Debug, PartialEq, Eq)]
+pub struct Signature {
+    pub size: usize,
+    pub start: Cursor,
 }
 
 // Its size is judged before its bytes are looked for, and nothing follows them.
-pub fn read_signature(at: Cursor, seal: &[u8]) -> Signature
+pub fn read_signature(at: Cursor, seal: &[u8]) -> Result<Signature, Refusal>
     ensures { signature_of result ≡ signature_at at.place seal.now }
 {
     let length = at.der_length(seal);
-    let Number::Is(size, start) = length else {
-        return Signature::Not(refusals::of_number(length, Item::SignatureLength));
+    let Ok((size, start)) = length else {
+        return Err(Refusal::unread(Item::SignatureLength, length));
     };
     if !fields::is_signature(size) {
-        return Signature::Not(Refusal::of(Item::SignatureLength, Rule::SignatureSize, at.place));
+        return Err(Refusal::of(Item::SignatureLength, Rule::SignatureSize, at.place));
     }
-    let Whole::Past(end) = start.skip(seal, size) else {
-        return Signature::Not(Refusal::of(Item::Signature, Rule::There, start.place));
+    let Some(end) = start.skip(seal, size) else {
+        return Err(Refusal::of(Item::Signature, Rule::There, start.place));
     };
     if end.place < seal.len() {
-        return Signature::Not(Refusal::of(Item::End, Rule::NothingAfter, end.place));
+        return Err(Refusal::of(Item::End, Rule::NothingAfter, end.place));
     }
-    Signature::Is(size, start)
+    Ok(Signature { size, start })
 }

@@ -10,7 +10,6 @@ ghost use Rattle.reader.specs.Given.{Given};
 mod table;
 
 use read_items::Cursor;
-use reading::Outcome;
 pub use reading::{Ends, Header, Part, Reading};
 use versions::Version;
 
@@ -60,7 +59,7 @@ pub fn read(seal: &[u8], table: &mut [usize], text: &mut [u8]) -> Reading
     let mut names = [0u8; 259];
     let judged = judging::judge_names(seal, &mut names);
     let outcome = judged.outcome;
-    let Outcome::Good(version) = outcome else {
+    let Ok(version) = outcome else {
         return judged.reading;
     };
     let size = 4 + judged.reading.header.length;

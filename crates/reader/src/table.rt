@@ -4,7 +4,7 @@ ghost use Rattle.rows.specs.Rows.{width, table as table_of};
 ghost use Rattle.reading.specs.Calls.{then};
 ghost use Rattle.reading.specs.FeatureRows.{rows_at, rows_read, AreRead};
 
-use read_items::{Byte, Cursor, Number};
+use read_items::Cursor;
 use rows::{Row, WIDTH, put_row};
 use versions::Version;
 
@@ -24,12 +24,13 @@ pub(crate) fn put_rows(
     let end = WIDTH * count;
     let mut at = start.place;
     let mut to: usize = 0;
+    // a loop of two places: the table's goes on by rows of one width, the seal's by features, each as long as it says
     while to < end {
         let here = Cursor { place: at };
-        let Byte::Is(tag, next) = here.byte(seal) else {
+        let Some((tag, next)) = here.byte(seal) else {
             return;
         };
-        let Number::Is(size, value) = next.feature_length(seal, version) else {
+        let Ok((size, value)) = next.feature_length(seal, version) else {
             return;
         };
         let row = Row {

@@ -2,7 +2,7 @@
 -- table and text hold afterwards.
 -- Assumes nothing.
 pub mod Reads
-use Rattle.std.specs.Prelude.{◌≡◌, ℕ, ◌+◌, ◌*◌, List, [], ◌∷◌, ◌++◌, ltb, length, take}
+use Rattle.std.specs.Prelude.{◌≡◌, ℕ, ◌+◌, ◌*◌, List, [], ◌∷◌, ◌++◌, ltb, length, take, Result, Ok, Err}
 use Rattle.format.specs.Choice.{pick}
 use Rattle.format.specs.Answers.{done, filled}
 use Rattle.dates.specs.Calls.{no_date}
@@ -16,8 +16,7 @@ use Rattle.read_items.specs.Meaning.{because}
 use Rattle.reading.specs.declared.Ends.{Ends}
 use Rattle.reading.specs.declared.Part.{Part}
 use Rattle.reading.specs.declared.Reading.{Reading}
-use Rattle.reading.specs.declared.Outcome.{Outcome}
-use Rattle.reading.specs.declared.Outcome.TheVariants as outcome
+use Rattle.read_items.specs.declared.cursor.Refusal.{Refusal}
 use Rattle.reading.specs.declared.Judgement.{Judgement}
 
 -- the answer on a good seal
@@ -54,15 +53,15 @@ answer_of (refused number place) =
     }
 
 -- what the judging gives: the answer, and beside it the version of a seal that is accepted, or why it is not
-abbrev pub outcome_of : Way Report → Outcome
-outcome_of (is r at) = outcome.Good r.header.version
-outcome_of (not why place) = outcome.Not (because why place)
+abbrev pub outcome_of : Way Report → Result Version Refusal
+outcome_of (is r at) = Ok r.header.version
+outcome_of (not why place) = Err (because why place)
 
 abbrev pub judgement_of : Way Report → Judgement
 judgement_of i = record { reading = answer_of (verdict i); outcome = outcome_of i }
 
 abbrev pub judged : Version → Header → Ends → Part → ℕ → Judgement
-judged v header ends signature count = record { reading = answer header ends signature count; outcome = outcome.Good v }
+judged v header ends signature count = record { reading = answer header ends signature count; outcome = Ok v }
 
 -- signer and reference
 abbrev pub text : Report → List ℕ

@@ -37,20 +37,12 @@ pub struct Reading {
     pub count: usize,
 }
 
-// What a judging came to.
-#[derive(Clone, Copy)]
-pub enum Outcome {
-    // the seal is good: its version, by which its rows are walked again
-    Good(Version),
-    // it is not: the item that is not read, the rule that it breaks, and the place
-    Not(Refusal),
-}
-
 // What the judging gives: the answer, and beside it what it came to.
 #[derive(Clone, Copy)]
 pub struct Judgement {
     pub reading: Reading,
-    pub outcome: Outcome,
+    // the version of a good seal, by which its rows are walked again; or the item that is not read, the rule that it breaks, and the place
+    pub outcome: Result<Version, Refusal>,
 }
 
 impl Reading {

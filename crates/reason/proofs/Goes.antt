@@ -2,7 +2,7 @@
 -- `not` at once, so that items are put together as the reader puts them together.
 -- Assumes nothing.
 use Rattle.std.specs.Prelude.{◌≡◌, refl, Bool, true, false, ℕ, ◌+◌, ◌-◌, ◌≤◌, ◌<◌, List, [], ◌∷◌, ◌++◌, ltb, length, take, drop, get_or}
-use Rattle.std.proofs.Common.{ap, sym, subst, ◌∙◌, arith, add-zero, ltb-true, ltb-false, length-drop, length-take, get_or-take, get_or-drop, take_all}
+use Rattle.std.proofs.Common.{ap, sym, subst, ◌∙◌, arith, add-zero, ltb-true, ltb-false, length-drop, get_or-take, get_or-drop, take_all}
 use Rattle.format.specs.Bytes.{All}
 use Rattle.format.specs.Choice.{pick}
 use Rattle.causes.specs.declared.Item.{Item as Name}
@@ -11,7 +11,6 @@ use Rattle.causes.specs.declared.Why.{Why}
 use Rattle.rules.specs.Rules.{Rule, Keeps, Placed, called, size_of}
 use Rattle.rules.specs.Layout.{Item as Part, rules_of, At, named}
 use Rattle.rules.specs.Reason.{Reason, judged}
-use Rattle.rules.proofs.Reason.Inside.{at_inside}
 use Rattle.verdict.specs.Items.{Read, Item, Way, is, not, why, next, pass, whole, byte}
 use Rattle.verdict.proofs.Items.Sound.{length_taken}
 use Rattle.reason.specs.Judged.{judged_size}

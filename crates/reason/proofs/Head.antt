@@ -1,13 +1,13 @@
 -- The items of one byte and of three: mark, version, dates, definition, category.
 -- Assumes nothing.
-use Rattle.std.specs.Prelude.{◌≡◌, refl, true, false, ℕ, ◌+◌, ◌≤◌, List, [], ◌∷◌, ◌++◌, eqb, length, take, drop, get_or}
+use Rattle.std.specs.Prelude.{◌≡◌, refl, ℕ, ◌+◌, ◌≤◌, List, [], ◌∷◌, eqb, length, take, drop, get_or}
 use Rattle.std.proofs.Common.{ap, sym, subst, ◌∙◌, arith, eqb-true, take_all}
 use Rattle.std.proofs.Math.Option.{Option, none, some, none-ne-some}
 use Rattle.std.proofs.lemmas.Bool.{eqb-false}
 use Rattle.format.specs.Bytes.{All, Bytes}
 use Rattle.format.specs.Bytes.Laws.{bytes_drop, bytes_take}
 use Rattle.format.specs.BigEndian.{val}
-use Rattle.format.specs.Choice.{pick, within}
+use Rattle.format.specs.Choice.{within}
 use Rattle.format.specs.Choice.Laws.{not_true, within_both, within_true}
 use Rattle.dates.specs.Days.{is_day, date_of, publish as date_form}
 use Rattle.dates.proofs.Days.Laws.{length_publish, val_publish, number_date}

@@ -1,6 +1,6 @@
 -- The whole judging goes to the end of a seal, or stops with its true reason.
 -- Assumes nothing.
-use Rattle.std.specs.Prelude.{◌≡◌, refl, ℕ, ◌+◌, ◌≤◌, List, [], ◌∷◌, ltb, length}
+use Rattle.std.specs.Prelude.{refl, ℕ, ◌+◌, ◌≤◌, List, [], ltb, length}
 use Rattle.std.proofs.Common.{arith, ltb-true, ltb-false}
 use Rattle.format.specs.Bytes.{Bytes}
 use Rattle.grammar.specs.Content.{Header}
@@ -9,7 +9,7 @@ use Rattle.causes.specs.declared.Rule.TheVariants as rule
 use Rattle.rules.specs.Rules.{Rule}
 use Rattle.rules.specs.Layout.{Item, At, start, on, to_mark, to_signed, to_definition, to_category, to_tag}
 use Rattle.rules.specs.Reason.One.{Whole}
-use Rattle.verdict.specs.Items.{is, not, why, mark, version, country, names, date, last}
+use Rattle.verdict.specs.Items.{not, why, mark, version, country, names, date, last}
 use Rattle.verdict.specs.Judge.{Report, header, features, signature, reading, judging}
 use Rattle.reason.proofs.Goes.{Goes, own, goes_next, goes_pass, goes_pick, all_there, fault_at}
 use Rattle.reason.proofs.Head.{mark_goes, version_goes, last_goes, date_goes}

@@ -1,10 +1,10 @@
 -- The features, and the signature behind them.
 -- Assumes nothing.
-use Rattle.std.specs.Prelude.{◌≡◌, refl, Bool, true, false, ℕ, zero, suc, ◌+◌, ◌≤◌, ◌<◌, List, [], ◌∷◌, ◌++◌, ltb, eqb, length, take, drop, get_or}
+use Rattle.std.specs.Prelude.{◌≡◌, refl, Bool, true, false, ℕ, zero, suc, ◌+◌, ◌<◌, List, [], ◌∷◌, ◌++◌, ltb, eqb, length, take, get_or}
 use Rattle.std.proofs.Common.{ap, sym, subst, ◌∙◌, arith, eqb-true, ltb-true, ltb-false}
 use Rattle.std.proofs.lemmas.Bool.{eqb-false}
 use Rattle.format.specs.Bytes.{All, Bytes}
-use Rattle.format.specs.Choice.{pick, either}
+use Rattle.format.specs.Choice.{either}
 use Rattle.format.specs.Choice.Laws.{by_test, not_true}
 use Rattle.format.specs.Places.{at_place}
 use Rattle.fields.specs.Signature.{is_signature}

@@ -1,9 +1,8 @@
 -- Computed examples: two rows and their numbers, there and back; a number over is no row.
 -- Assumes nothing.
-use Rattle.std.specs.Prelude.{◌≡◌, refl, true, false, ℕ, List, [], ◌∷◌}
+use Rattle.std.specs.Prelude.{◌≡◌, refl, true, false, ℕ, List, [], ◌∷◌, Some, None}
 use Rattle.format.specs.Buffer.{over}
 use Rattle.rows.specs.declared.Row.{Row}
-use Rattle.rows.specs.declared.Found.TheVariants as found
 use Rattle.rows.specs.Rows.{numbers, row_of, row_at, found_at, row_put, table, first_rows, rows_of, is_whole}
 
 abbrev one : Row
@@ -24,7 +23,7 @@ unfolding row_at first_rows rows_of
 back = refl
 
 -- at a place of the table, and where one number of a row is missing
-found_there : (found_at eight 4 ≡ found.Is other) × (found_at eight 5 ≡ found.NoRow) × (found_at [] 0 ≡ found.NoRow)
+found_there : (found_at eight 4 ≡ Some other) × (found_at eight 5 ≡ None) × (found_at [] 0 ≡ None)
 unfolding row_at found_at
 found_there = (refl, refl, refl)
 

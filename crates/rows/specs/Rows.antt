@@ -1,12 +1,10 @@
 -- A row and its numbers in a table (document 02, Ticket 10): how many numbers a row has, and which stands where, is said here and
 -- nowhere else.
 -- Assumes nothing.
-use Rattle.std.specs.Prelude.{◌≡◌, Bool, ℕ, zero, suc, ◌+◌, ◌/◌, ◌%◌, List, [], ◌∷◌, ◌++◌, eqb, ltb, length, get_or, drop}
+use Rattle.std.specs.Prelude.{◌≡◌, Bool, ℕ, zero, suc, ◌+◌, ◌/◌, ◌%◌, List, [], ◌∷◌, ◌++◌, Option, Some, None, eqb, ltb, length, get_or, drop}
 use Rattle.format.specs.Choice.{pick}
 use Rattle.format.specs.Buffer.{over}
 use Rattle.rows.specs.declared.Row.{Row}
-use Rattle.rows.specs.declared.Found.{Found}
-use Rattle.rows.specs.declared.Found.TheVariants as found
 
 -- how many numbers a row has
 abbrev pub width : ℕ
@@ -29,8 +27,8 @@ unfoldable pub row_at : List ℕ → ℕ → Row
 row_at t at = row_of (get_or t at 0) (get_or t (at + 1) 0) (get_or t (at + 2) 0) (get_or t (at + 3) 0)
 
 -- where the table has all its numbers
-unfoldable pub found_at : List ℕ → ℕ → Found
-found_at t at = pick (ltb (length t) (at + width)) found.NoRow (found.Is (row_at t at))
+unfoldable pub found_at : List ℕ → ℕ → Option Row
+found_at t at = pick (ltb (length t) (at + width)) None (Some (row_at t at))
 
 -- a table after a row was put down, its first number at a place: all of it, or nothing where it does not fit
 unfoldable pub row_put : Row → List ℕ → ℕ → List ℕ

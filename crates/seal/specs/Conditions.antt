@@ -8,7 +8,7 @@
 --   told, filled                             crates/format/specs/Answers.antt
 --   again_from                                crates/seal/specs/Again.antt
 -- C40 text, dates, INTEGERs and signature forms: condition 1 in Entries.antt beside this file, condition 2 in the file
--- Exact.antt of c40, dates, integers and ecdsa.
+-- proofs/Exact.antt of c40, dates, integers and ecdsa.
 -- Assumes nothing.
 pub mod Laws
 use Rattle.std.specs.Prelude.{◌≡◌, refl, ◌⊎◌, ℕ, ◌+◌, ◌*◌, ◌≤◌, List, [], ◌++◌, length, take}
@@ -267,7 +267,7 @@ signed_front s bytes p rows names z =
     ∙ ap signed_bytes (sym (r.only p.content p.legal p.form_is))
 
 -- The zone ends that the answer gives, and the signature's part, are those of the only content (`ZonesOf`:
--- crates/reading/specs/Theorems.antt):
+-- crates/reading/proofs/Theorems.antt):
 -- header end the header zone's length, message end that and the message zone's, seal end the seal's length, and the part the raw signature.
 pub zone_ends : (s : List ℕ) → Bytes s → (p : Published s) (rows names : List ℕ) → (answer s rows names).number ≡ 0 →
     reader.ZonesOf s p.content (answer s rows names)

@@ -1,10 +1,10 @@
 -- Condition 1 for the other entry points: C40 text, dates, INTEGERs, signature forms, the choice of hash, the words of the numbers, the
 -- names of the items and the words of the rules.
 -- Assumes nothing.
-use Rattle.std.specs.Prelude.{◌≡◌, refl, ◌⊎◌, Bool, true, false, ℕ, ◌-◌, ◌%◌, List, [], ◌∷◌, ltb, leb, eqb, ℤ, pos, length, take, drop}
+use Rattle.std.specs.Prelude.{◌≡◌, refl, ◌⊎◌, Bool, true, false, ℕ, ◌-◌, ◌%◌, List, [], ◌∷◌, Option, Some, None, ltb, leb, eqb, ℤ, pos, length, take, drop}
 use Rattle.std.proofs.Common.{ap, inl, inr, ⊎_elim}
 use Rattle.format.specs.Choice.{pick}
-use Rattle.format.specs.Answers.{Outcome, done, refused, filled, Result, result, refusal}
+use Rattle.format.specs.Answers.{Outcome, done, refused, filled, Valued, result, refusal}
 use Rattle.format.specs.Order.{Test, test, in_order, in_room, numbers}
 use Rattle.pairs.specs.declared.decode.Fault.TheVariants as fault
 use Rattle.c40.specs.Decode.{Decoded, text, wrong, decode, text_of, is_text, wrong_at}
@@ -13,8 +13,7 @@ use Rattle.c40.specs.Calls as c40
 use Rattle.dates.specs.declared.Date.{Date}
 use Rattle.dates.specs.Days.{is_day, number_of, date_of}
 use Rattle.dates.specs.Calls as dates
-use Rattle.der.specs.declared.Element.{Element}
-use Rattle.der.specs.declared.Element.TheVariants.{Body, Nothing}
+use Rattle.der.specs.declared.Body.{Body}
 use Rattle.der.specs.Element.{element_in}
 use Rattle.der.specs.Content.{strict}
 use Rattle.integers.specs.Integer.{value_of, integer_of}
@@ -116,10 +115,10 @@ pub rule_told : (rule room : ℕ) → Answers (42 ∷ []) (why_words.wording rul
 rule_told rule room = roomy 42 (rule_words rule) room
 
 -- a call that gives a value: done, or refused with this number
-abbrev pub Gives : {A : Type 0} → ℕ → A → Result A → Type 0
+abbrev pub Gives : {A : Type 0} → ℕ → A → Valued A → Type 0
 Gives n zero o = (o ≡ result o.value) ⊎ (o ≡ refusal zero n)
 
-select : {A : Type 0} (n : ℕ) (zero : A) (b : Bool) (x y : Result A) → Gives n zero x → Gives n zero y → Gives n zero (pick b x y)
+select : {A : Type 0} (n : ℕ) (zero : A) (b : Bool) (x y : Valued A) → Gives n zero x → Gives n zero y → Gives n zero (pick b x y)
 select n zero true x y l m = l
 select n zero false x y l m = m
 
@@ -136,10 +135,10 @@ date_numbered d = select 22 0 (is_day d) (result (number_of d)) (refusal 0 22) (
 pub hash : (n : ℕ) → Gives 60 0 (ecdsa.hash_for n)
 unfolding ecdsa.hash_for
 hash n =
-    let h4 : Result ℕ = pick (eqb n 66) (result 512) (refusal 0 60) in
-    let h3 : Result ℕ = pick (eqb n 64) (result 512) h4 in
-    let h2 : Result ℕ = pick (eqb n 48) (result 384) h3 in
-    let h1 : Result ℕ = pick (eqb n 32) (result 256) h2 in
+    let h4 : Valued ℕ = pick (eqb n 66) (result 512) (refusal 0 60) in
+    let h3 : Valued ℕ = pick (eqb n 64) (result 512) h4 in
+    let h2 : Valued ℕ = pick (eqb n 48) (result 384) h3 in
+    let h1 : Valued ℕ = pick (eqb n 32) (result 256) h2 in
     select 60 0 (eqb n 28) (result 224) h1 (inl refl)
     (select 60 0 (eqb n 32) (result 256) h2 (inl refl)
     (select 60 0 (eqb n 48) (result 384) h3 (inl refl)
@@ -153,11 +152,11 @@ content_listed c =
     (select 65 (pos 0) (ltb 8 (length c)) (refusal (pos 0) 65) (result (value_of c)) (inr refl) (inl refl))
     (inr refl)
 
-whole_listed : (s : List ℕ) (e : Element) → Gives 65 (pos 0) (integers.whole s e)
-whole_listed s (Body start end) =
-    select 65 (pos 0) (eqb end (length s)) (integers.content (take (end - start) (drop start s))) (refusal (pos 0) 65)
-    (content_listed (take (end - start) (drop start s))) (inr refl)
-whole_listed s Nothing = inr refl
+whole_listed : (s : List ℕ) (e : Option Body) → Gives 65 (pos 0) (integers.whole s e)
+whole_listed s (Some b) =
+    select 65 (pos 0) (eqb b.end (length s)) (integers.content (take (b.end - b.start) (drop b.start s))) (refusal (pos 0) 65)
+    (content_listed (take (b.end - b.start) (drop b.start s))) (inr refl)
+whole_listed s None = inr refl
 
 pub integer_reading : (s : List ℕ) → Gives 65 (pos 0) (integers.reading s)
 unfolding integers.reading

@@ -2,7 +2,7 @@
 -- cited beside Conditions.antt stands in
 --   numbers, width, rows_of       crates/rows/specs/Rows.antt (which numbers a row has, and in what order)
 --   Framed, Chain                crates/verdict/specs/Frames.antt (what it is to frame a feature, and to lie one after another)
---   ButSecond                    crates/rows/specs/Told.antt (tables that differ in second numbers alone)
+--   ButSecond                    crates/rows/proofs/Told.antt (tables that differ in second numbers alone)
 -- "12 is given below 4 numbers a feature" and "24 for a table not in fours" are lines of `given` (crates/reading/specs/Calls.antt) and
 -- `is_table` (crates/write_rows/specs/Tests.antt). Conditions 2 and 3 stand in Conditions.antt, word for word as before.
 -- Assumes nothing.

@@ -1,7 +1,7 @@
 -- The walk and the look-up (document 02, Ticket 2) beside the full reading, as the caller holds it, in the ticket's sentences, each before
 -- its theorem. What is cited beside Conditions.antt stands in
 --   opened_of, asked              crates/walk/specs/Walks.antt (a walk that is opened, and what it answers, asked so many times)
---   found_row                     crates/walk/specs/Theorems.antt (the answer for a row)
+--   found_row                     crates/walk/proofs/Theorems.antt (the answer for a row)
 --   no_more                       crates/walk_steps/specs/Steps.antt (51)
 --   rows_held                     Frames.antt (the rows in the answer and the table)
 --   where_is                      crates/shown/specs/Where.antt (where a value stands)

@@ -1,2 +1,2 @@
--- Theorems on the module of this name in specs/, and an index.
+-- Laws of the look-up, for the functions that make it.
 pub mod Laws

@@ -1,6 +1,6 @@
 -- What is proved of the look-up, in the sentences of document 02, Ticket 2, each before its theorem. `Has`, `seen`, `seen_in`: Values.antt.
 -- Assumes nothing.
-use Rattle.std.specs.Prelude.{◌≡◌, refl, ◌⊎◌, ℕ, ◌+◌, ◌≤◌, ◌<◌, List, [], ◌∷◌, map, eqb, length}
+use Rattle.std.specs.Prelude.{◌≡◌, refl, ◌⊎◌, ℕ, ◌+◌, ◌≤◌, ◌<◌, List, [], ◌∷◌, map, Result, Ok, Err, eqb, length}
 use Rattle.std.proofs.Common.{ap, sym, subst, ◌∙◌, inl, inr, ⊎_elim, arith}
 use Rattle.std.proofs.Math.Option.{Option, none, some, some-injective}
 use Rattle.std.specs.Borrow.{Bor}
@@ -19,7 +19,8 @@ use Rattle.verdict.proofs.Report.Laws.{features_reported}
 use Rattle.reading.specs.declared.Part.{Part}
 use Rattle.walk_steps.proofs.Rows.Laws.{rows_found, rows_inside}
 use Rattle.shown.specs.declared.Where.{Where}
-use Rattle.shown.specs.declared.Where.TheVariants.{Extension, Main, NotMain, NotExtension, Neither}
+use Rattle.shown.specs.declared.Where.TheVariants.{Extension, Main}
+use Rattle.shown.specs.declared.NotShown.{NotShown}
 use Rattle.shown.specs.Where.{value_in, first_of, look_up, where_is, empty, answer_of, IsShown}
 use Rattle.shown.specs.Values.{Has, value_of, Seen, bytes_of, seen, seen_of, seen_in}
 use Rattle.shown.proofs.Values.Laws.{none_some, value_has, none_has, has_value, seen_rows}
@@ -130,12 +131,11 @@ unfolding where_is
 shown_listed main extension tag = look_listed tag (judge main) (judge extension) (from_list main) (from_list extension)
 
 -- "as that part of the lent bytes": what is shown has the bytes that are seen
-pub shown_bytes : (main extension r : Bor (List ℕ)) (w : Where) → IsShown main extension w r → r.now ≡ bytes_of main.now extension.now w
-shown_bytes main extension r (Extension value) s = s.bytes
-shown_bytes main extension r (Main value) s = s.bytes
-shown_bytes main extension r (NotMain number place) s = s.bytes
-shown_bytes main extension r (NotExtension number place) s = s.bytes
-shown_bytes main extension r Neither s = s.bytes
+pub shown_bytes : (main extension r : Bor (List ℕ)) (w : Result Where NotShown) → IsShown main extension w r
+    → r.now ≡ bytes_of main.now extension.now w
+shown_bytes main extension r (Ok (Extension value)) s = s.bytes
+shown_bytes main extension r (Ok (Main value)) s = s.bytes
+shown_bytes main extension r (Err e) s = s.bytes
 
 -- and it lies whole in the seal that has it
 value_inside : (s : List ℕ) (tag : ℕ) (rows : List Row) → All (λ r. end_of r ≤ length s) rows → (p : Part) → value_in tag rows ≡ some p
@@ -149,12 +149,10 @@ value_inside s tag (r ∷ rows) all p e =
     subst (λ q. q.place + q.length ≤ length s) same all.0)
     (λ t. value_inside s tag rows all.1 p (sym (ap (λ b. pick b (some here) (value_in tag rows)) t) ∙ e))
 
-abbrev pub Inside : List ℕ → List ℕ → Where → Type 0
-Inside main extension (Extension value) = value.place + value.length ≤ length extension
-Inside main extension (Main value) = value.place + value.length ≤ length main
-Inside main extension (NotMain number place) = Unit
-Inside main extension (NotExtension number place) = Unit
-Inside main extension Neither = Unit
+abbrev pub Inside : List ℕ → List ℕ → Result Where NotShown → Type 0
+Inside main extension (Ok (Extension value)) = value.place + value.length ≤ length extension
+Inside main extension (Ok (Main value)) = value.place + value.length ≤ length main
+Inside main extension (Err e) = Unit
 
 first_inside : (main extension : List ℕ) (p q : Option Part)
     → ((a : Part) → p ≡ some a → a.place + a.length ≤ length extension)

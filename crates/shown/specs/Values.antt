@@ -1,12 +1,13 @@
 -- The value of a tag among the features of a content: what it is to have one, and that a legal content has one at the most.
 -- Assumes nothing.
-use Rattle.std.specs.Prelude.{◌≡◌, ◌⊎◌, ℕ, List, [], ◌∷◌, eqb}
+use Rattle.std.specs.Prelude.{◌≡◌, ◌⊎◌, ℕ, List, [], ◌∷◌, Result, Ok, Err, eqb}
 use Rattle.std.proofs.Math.Option.{Option, none, some}
 use Rattle.format.specs.Choice.{pick}
 use Rattle.grammar.specs.Content.{Feature, Content}
 use Rattle.verdict.specs.Report.{part}
 use Rattle.shown.specs.declared.Where.{Where}
-use Rattle.shown.specs.declared.Where.TheVariants.{Extension, Main, NotMain, NotExtension, Neither}
+use Rattle.shown.specs.declared.Where.TheVariants.{Extension, Main}
+use Rattle.shown.specs.declared.NotShown.{NotShown}
 use Rattle.shown.specs.Where.{answer_of}
 
 -- one of these features has this tag and this value
@@ -26,14 +27,12 @@ pub record Seen : Type 0 where
   pub bytes : List ℕ
 
 -- the bytes of the part that is shown of two seals
-abbrev pub bytes_of : List ℕ → List ℕ → Where → List ℕ
-bytes_of main extension (Extension value) = part value.place value.length extension
-bytes_of main extension (Main value) = part value.place value.length main
-bytes_of main extension (NotMain number place) = []
-bytes_of main extension (NotExtension number place) = []
-bytes_of main extension Neither = []
+abbrev pub bytes_of : List ℕ → List ℕ → Result Where NotShown → List ℕ
+bytes_of main extension (Ok (Extension value)) = part value.place value.length extension
+bytes_of main extension (Ok (Main value)) = part value.place value.length main
+bytes_of main extension (Err e) = []
 
-abbrev pub seen : List ℕ → List ℕ → Where → Seen
+abbrev pub seen : List ℕ → List ℕ → Result Where NotShown → Seen
 seen main extension w =
     record { number = (answer_of w).number; which = (answer_of w).which; bytes = bytes_of main extension w }
 

@@ -9,41 +9,37 @@ ghost use Rattle.shown.specs.Found.{HasValue, IsFirst};
 use lent::part;
 pub use reading::Part;
 
-// Where the value of a tag stands.
+// Where the value of a tag stands: in which seal, at which place, and how long it is.
 #[derive(Clone, Copy)]
 pub enum Where {
-    // in the extension, at this place, so long
     Extension(Part),
-    // in the main seal
     Main(Part),
+}
+
+// Why no value of a tag is shown.
+#[derive(Clone, Copy, Debug, PartialEq, Eq)]
+pub enum NotShown {
     // the main seal is refused, with its number and place
-    NotMain(usize, usize),
+    Main(usize, usize),
     // the extension is
-    NotExtension(usize, usize),
+    Extension(usize, usize),
     // neither has that feature
     Neither,
 }
 
-// The value of a tag in one seal.
-#[derive(Clone, Copy)]
-enum Value {
-    Is(Part),
-    NoValue,
-}
-
 // The value of a tag among the features from a place on, found by the walk's steps. No tag is used twice, so the first is the only one.
-fn value_from(seal: &[u8], start: usize, tag: usize) -> Value
+fn value_from(seal: &[u8], start: usize, tag: usize) -> Option<Part>
     ensures { HasValue seal.now start tag result }
 {
     let mut at = start;
     loop {
         let step = walk_steps::step_at(seal, at);
         if step.number != 0 {
-            return Value::NoValue;
+            return None;
         }
         let row = step.row;
         if row.tag == tag {
-            return Value::Is(Part {
+            return Some(Part {
                 place: row.place,
                 length: row.size,
             });
@@ -59,31 +55,27 @@ fn where_from(
     extension: &[u8],
     extension_start: usize,
     tag: usize,
-) -> Where
+) -> Result<Where, NotShown>
     ensures { IsFirst main.now main_start extension.now extension_start tag result }
 {
-    let value = value_from(extension, extension_start, tag);
-    if let Value::Is(part) = value {
-        return Where::Extension(part);
+    if let Some(value) = value_from(extension, extension_start, tag) {
+        return Ok(Where::Extension(value));
     }
-    let value = value_from(main, main_start, tag);
-    match value {
-        Value::Is(part) => Where::Main(part),
-        Value::NoValue => Where::Neither,
-    }
+    let value = value_from(main, main_start, tag).ok_or(NotShown::Neither)?;
+    Ok(Where::Main(value))
 }
 
 // Where the value of a tag stands; a seal that is refused refuses the look-up, the main one first.
-pub fn where_is(main: &[u8], extension: &[u8], tag: usize) -> Where
+pub fn where_is(main: &[u8], extension: &[u8], tag: usize) -> Result<Where, NotShown>
     ensures { result ≡ where_is main.now extension.now tag }
 {
     let first = walk_steps::start_of(main);
     if first.number != 0 {
-        return Where::NotMain(first.number, first.place);
+        return Err(NotShown::Main(first.number, first.place));
     }
     let second = walk_steps::start_of(extension);
     if second.number != 0 {
-        return Where::NotExtension(second.number, second.place);
+        return Err(NotShown::Extension(second.number, second.place));
     }
     where_from(main, first.at, extension, second.at, tag)
 }
@@ -92,12 +84,9 @@ pub fn where_is(main: &[u8], extension: &[u8], tag: usize) -> Where
 pub fn shown<'a>(main: &'a [u8], extension: &'a [u8], tag: usize) -> &'a [u8]
     ensures { IsShown main.entry extension.entry (where_is main.now extension.now tag) result }
 {
-    let found = where_is(main, extension, tag);
-    match found {
-        Where::Extension(value) => part(extension, value.place, value.length),
-        Where::Main(value) => part(main, value.place, value.length),
-        Where::NotMain(_, _) => part(main, 0, 0),
-        Where::NotExtension(_, _) => part(main, 0, 0),
-        Where::Neither => part(main, 0, 0),
+    match where_is(main, extension, tag) {
+        Ok(Where::Extension(value)) => part(extension, value.place, value.length),
+        Ok(Where::Main(value)) => part(main, value.place, value.length),
+        Err(_) => part(main, 0, 0),
     }
 }

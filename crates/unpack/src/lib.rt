@@ -1,7 +1,7 @@
 // What a pair of C40 bytes carries (document 01, C40; Doc 9303-13, 2.6.2).
 #![tactic(auto)]
 
-ghost use Rattle.std.specs.Prelude.{◌≡◌, false, ◌+◌, ◌*◌, ◌<◌, eqb, length};
+ghost use Rattle.std.specs.Prelude.{◌≡◌, false, ◌+◌, ◌*◌, ◌<◌, eqb, length, Ok};
 ghost use Rattle.pairs.specs.Chart.{the_chart};
 ghost use Rattle.pairs.specs.Pairs.{pair_of, chars_of, first, second, third};
 
@@ -44,33 +44,33 @@ pub fn is_full(x: u8, y: u8) -> bool
 }
 
 // What a pair over 64,000 carries: one character, FE and its code plus 1, and only as the last pair.
-fn single(chart: &[u8; 40], x: u8, y: u8, last: bool) -> Pair
+fn single(chart: &[u8; 40], x: u8, y: u8, last: bool) -> Result<Pair, Fault>
     requires { 64000 < x * 256 + y }
     ensures { result ≡ pair_of chart.now last x y }
 {
     if x != 0xFE {
-        return Pair::Wrong(Fault::OutOfRange);
+        return Err(Fault::OutOfRange);
     }
     if !last {
-        return Pair::Wrong(Fault::Single);
+        return Err(Fault::Single);
     }
     if y == 0 {
-        return Pair::Wrong(Fault::Single);
+        return Err(Fault::Single);
     }
     let c = y - 1;
     if chart[value_of(c)] != c {
-        return Pair::Wrong(Fault::Single);
+        return Err(Fault::Single);
     }
-    Pair::One(c)
+    Ok(Pair::One(c))
 }
 
 // What the pair `x`, `y` carries by the chart that is lent, or its fault.
-pub fn pair_of(chart: &[u8; 40], x: u8, y: u8, last: bool) -> Pair
+pub fn pair_of(chart: &[u8; 40], x: u8, y: u8, last: bool) -> Result<Pair, Fault>
     ensures { result ≡ pair_of chart.now last x y }
 {
     let number = wide(x) * 256 + wide(y);
     if number == 0 {
-        return Pair::Wrong(Fault::OutOfRange);
+        return Err(Fault::OutOfRange);
     }
     if 64000 < number {
         return single(chart, x, y, last);
@@ -80,30 +80,30 @@ pub fn pair_of(chart: &[u8; 40], x: u8, y: u8, last: bool) -> Pair
     let b = v.b;
     let c = v.c;
     if a < 3 {
-        return Pair::Wrong(Fault::Shift);
+        return Err(Fault::Shift);
     }
     if b < 3 {
-        return Pair::Wrong(Fault::Shift);
+        return Err(Fault::Shift);
     }
     if 3 <= c {
-        return Pair::Three(chart[a], chart[b], chart[c]);
+        return Ok(Pair::Three(chart[a], chart[b], chart[c]));
     }
     if c == 0 {
         if last {
-            return Pair::Two(chart[a], chart[b]);
+            return Ok(Pair::Two(chart[a], chart[b]));
         }
     }
-    Pair::Wrong(Fault::Shift)
+    Err(Fault::Shift)
 }
 
 // How many characters a pair carries; none where it is wrongly coded.
-pub fn carried(pair: Pair) -> usize
+pub fn carried(pair: Result<Pair, Fault>) -> usize
     ensures { result ≡ length (chars_of pair) }
 {
     match pair {
-        Pair::Three(_, _, _) => 3,
-        Pair::Two(_, _) => 2,
-        Pair::One(_) => 1,
-        Pair::Wrong(_) => 0,
+        Ok(Pair::Three(_, _, _)) => 3,
+        Ok(Pair::Two(_, _)) => 2,
+        Ok(Pair::One(_)) => 1,
+        Err(_) => 0,
     }
 }

@@ -2,58 +2,29 @@
 #![tactic(auto)]
 
 ghost use Rattle.std.specs.Prelude.{◌≤◌, length, IfOk};
-ghost use Rattle.case_file.specs.Line.{Within, Counts};
+ghost use Rattle.case_file.specs.Line.{Onward, Counts};
 
+use case_file::Line;
 use std::fmt::Write;
 use std::fs::File;
-use std::io::{Print, Read};
+use std::io::Print;
 use std::{fmt, io};
 
-// Which calls a file has cases of.
-#[derive(Clone, Copy)]
-enum Calls {
-    C40,
-    Numbers,
-    Signatures,
-    Seals,
-    Writing,
-    Back,
-    Listing,
-    Why,
-    Front,
-    Walk,
-}
-
-// Runs the case of a line, and gives the place after what it puts down; a comment gives nothing.
-fn run_line(calls: Calls, line: &[u8], out: &mut [u8], to: usize) -> usize
-    ensures { Within out.old to result }
-{
-    match calls {
-        Calls::C40 => case_c40::run_line(line, out, to),
-        Calls::Numbers => case_numbers::run_line(line, out, to),
-        Calls::Signatures => case_signatures::run_line(line, out, to),
-        Calls::Seals => case_seals::run_line(line, out, to),
-        Calls::Writing => case_writing::run_line(line, out, to),
-        Calls::Back => case_back::run_line(line, out, to),
-        Calls::Listing => case_listing::run_line(line, out, to),
-        Calls::Why => case_why::run_line(line, out, to),
-        Calls::Front => case_front::run_line(line, out, to),
-        Calls::Walk => case_walk::run_line(line, out, to),
-    }
-}
-
 // Runs every line of `cases`, and gives the length of what stands in `out` then.
-fn run_all(calls: Calls, cases: &[u8], out: &mut [u8]) -> usize
+fn run_all<F: Fn(&[u8], &mut Line)>(run: F, cases: &[u8], out: &mut [u8]) -> usize
+    requires callable { F.IsAlwaysCallable run }
+    requires onward { (line : _) (old : _) (r : _) (new : _) → F.post run line old r new → Onward old.now new.now }
     ensures { Counts result out.new }
 {
+    let mut lines = Line::new(out, 0);
     let mut from: usize = 0;
-    let mut to: usize = 0;
+    // a `for` over `cases.split(..)` gets no proof where the function has a type parameter
     while from < cases.len() {
         let end = case_file::line_end(cases, from);
-        to = run_line(calls, &cases[from..end], out, to);
+        run(&cases[from..end], &mut lines);
         from = end + 1;
     }
-    to
+    lines.at()
 }
 
 // Writes what is wrong with a file, after its name.
@@ -86,14 +57,10 @@ impl fmt::Write for Words {
 fn before_number(text: &[u8]) -> usize
     ensures { result ≤ length text.now }
 {
-    let mut end = text.len();
-    while 0 < end {
-        end -= 1;
-        if text[end] == b'(' {
-            return end.saturating_sub(1);
-        }
+    match text.iter().rposition(|byte| *byte == b'(') {
+        Some(bracket) => bracket.saturating_sub(1),
+        None => text.len(),
     }
-    text.len()
 }
 
 // Says on standard error why a file cannot be opened: its name, and the system's words.
@@ -111,24 +78,8 @@ fn fail(rt: &HostRuntime, path: &[u8], error: io::Error) {
     let _ = stderr.write_all(b"\n");
 }
 
-// Reads until the buffer is full, the file ends or a read fails, and gives how many bytes stand at the start of the buffer.
-fn read_full(file: &mut File, buffer: &mut [u8]) -> usize
-    ensures { Counts result buffer.new }
-{
-    let mut n: usize = 0;
-    while n < buffer.len() {
-        let Ok(more) = file.read(&mut buffer[n..]) else {
-            return n;
-        };
-        if more == 0 {
-            return n;
-        }
-        n += more;
-    }
-    n
-}
-
-// Opens a file and reads it from its start, as `read_full` does. A name that is no text is one that no file has.
+// Opens a file and reads it until the buffer is full, the file ends or a read fails, and gives how many bytes stand at the start of the
+// buffer. A name that is no text is one that no file has.
 fn read_file(rt: &HostRuntime, path: &[u8], buffer: &mut [u8]) -> io::Result<usize>
     ensures { IfOk result (λ n. Counts n buffer.new) }
 {
@@ -136,11 +87,14 @@ fn read_file(rt: &HostRuntime, path: &[u8], buffer: &mut [u8]) -> io::Result<usi
         return Err(io::Error::from(io::ErrorKind::InvalidFilename));
     };
     let mut file = File::open(rt, name)?;
-    Ok(read_full(&mut file, buffer))
+    Ok(input::fill(&mut file, buffer).unwrap_or_else(|unread| unread.count))
 }
 
 // Reads the cases of a file, runs them, and writes all lines in one go.
-fn run_file(rt: &HostRuntime, calls: Calls, path: &[u8]) {
+fn run_file<F: Fn(&[u8], &mut Line)>(rt: &HostRuntime, run: F, path: &[u8])
+    requires callable { F.IsAlwaysCallable run }
+    requires onward { (line : _) (old : _) (r : _) (new : _) → F.post run line old r new → Onward old.now new.now }
+{
     let mut cases = [0u8; 65536];
     let size = match read_file(rt, path, &mut cases) {
         Ok(size) => size,
@@ -155,28 +109,12 @@ fn run_file(rt: &HostRuntime, calls: Calls, path: &[u8]) {
         return;
     }
     let mut out = [0u8; 65536];
-    let n = run_all(calls, &cases[..size], &mut out);
+    let n = run_all(run, &cases[..size], &mut out);
     if n == 65536 {
         tell(rt, path, b": the output is too long\n");
         return;
     }
     let _ = rt.write_all(&out[..n]);
-}
-
-// Which calls a letter stands for in the list of files.
-fn calls_of(letter: u8) -> Calls {
-    match letter {
-        b'c' => Calls::C40,
-        b'n' => Calls::Numbers,
-        b's' => Calls::Signatures,
-        b'r' => Calls::Seals,
-        b'w' => Calls::Writing,
-        b'b' => Calls::Back,
-        b'y' => Calls::Why,
-        b'h' => Calls::Front,
-        b'f' | b't' => Calls::Walk,
-        _ => Calls::Listing,
-    }
 }
 
 // A line of the list of files: `= NAME` puts the name down, for the answers under it, and `LETTER PATH` runs a file.
@@ -190,16 +128,25 @@ fn run_listed(rt: &HostRuntime, line: &[u8]) {
         let _ = rt.write_all(b"\n");
         return;
     }
-    run_file(rt, calls_of(letter), &line[2..]);
+    let path = &line[2..];
+    match letter {
+        b'c' => run_file(rt, case_c40::run_line, path),
+        b'n' => run_file(rt, case_numbers::run_line, path),
+        b's' => run_file(rt, case_signatures::run_line, path),
+        b'r' => run_file(rt, case_seals::run_line, path),
+        b'w' => run_file(rt, case_writing::run_line, path),
+        b'b' => run_file(rt, case_back::run_line, path),
+        b'y' => run_file(rt, case_why::run_line, path),
+        b'h' => run_file(rt, case_front::run_line, path),
+        b'f' | b't' => run_file(rt, case_walk::run_line, path),
+        _ => run_file(rt, case_listing::run_line, path),
+    }
 }
 
 // Runs every file of the list, in its order.
 fn run_list(rt: &HostRuntime, list: &[u8]) {
-    let mut from: usize = 0;
-    while from < list.len() {
-        let end = case_file::line_end(list, from);
-        run_listed(rt, &list[from..end]);
-        from = end + 1;
+    for line in list.split(|byte| *byte == b'\n') {
+        run_listed(rt, line);
     }
 }
 

@@ -2,7 +2,7 @@
 -- place that is told.
 -- Assumes nothing.
 pub mod Pins
-use Rattle.std.specs.Prelude.{Bool, ℕ, ◌+◌, ◌-◌, ◌*◌, List, map, ltb, eqb, length, take, drop, get_or}
+use Rattle.std.specs.Prelude.{Bool, ℕ, ◌+◌, ◌-◌, ◌*◌, List, Result, Ok, Err, map, ltb, eqb, length, take, drop, get_or}
 use Rattle.std.proofs.Math.Option.{Option, none, some}
 use Rattle.format.specs.Choice.{pick, both, within}
 use Rattle.format.specs.BigEndian.{val}
@@ -14,7 +14,6 @@ use Rattle.dates.specs.Days.{is_day, date_of}
 use Rattle.versions.specs.Versions.{version_of_byte}
 use Rattle.der.specs.Length.{read_length}
 use Rattle.der.specs.declared.Length.{Length}
-use Rattle.der.specs.declared.Length.TheVariants.{Is, Not}
 use Rattle.der.specs.declared.Fault.{Fault}
 use Rattle.der.specs.declared.Fault.TheVariants as fault
 use Rattle.causes.specs.declared.Item.{Item as Name}
@@ -174,9 +173,9 @@ length_rule fault.FirstByte = rule.BeginsLength
 length_rule fault.Cut = rule.RestThere
 length_rule fault.NotShortest = rule.Shortest
 
-abbrev pub der_of : ℕ → Length → Item ℕ
-der_of at (Is n width) = is n (at + width)
-der_of at (Not fault) = not (length_rule fault) at
+abbrev pub der_of : ℕ → Result Length Fault → Item ℕ
+der_of at (Ok l) = is l.size (at + l.width)
+der_of at (Err fault) = not (length_rule fault) at
 
 abbrev pub der_length : ℕ → List ℕ → Item ℕ
 der_length at s = der_of at (read_length (drop at s))

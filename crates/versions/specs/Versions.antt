@@ -1,12 +1,11 @@
 -- The versions of a seal, their numbers and their bytes (document 01, Layout; Doc 9303-13, 2.2, Table 1): 02 is version 3, 03 is version 4.
 -- Assumes nothing.
-use Rattle.std.specs.Prelude.{ℕ, eqb}
+use Rattle.std.specs.Prelude.{ℕ, Result, Ok, Err, eqb}
 use Rattle.std.proofs.Math.Option.{Option, none, some}
 use Rattle.format.specs.Choice.{pick}
 use Rattle.versions.specs.declared.Version.{Version}
+use Rattle.versions.specs.declared.NoSuchVersion.{NoSuchVersion}
 use Rattle.versions.specs.declared.Version.TheVariants.{Three as three, Four as four}
-use Rattle.versions.specs.declared.Stated.{Stated}
-use Rattle.versions.specs.declared.Stated.TheVariants as stated
 
 abbrev pub version_number : Version → ℕ
 version_number three = 3
@@ -23,6 +22,6 @@ version_of n = pick (eqb n 3) (some three) (pick (eqb n 4) (some four) none)
 abbrev pub version_of_byte : ℕ → Option Version
 version_of_byte x = pick (eqb x 0x02) (some three) (pick (eqb x 0x03) (some four) none)
 
-abbrev pub stated_of : Stated → Option Version
-stated_of (stated.Is v) = some v
-stated_of stated.NoSuchVersion = none
+abbrev pub stated_of : Result Version NoSuchVersion → Option Version
+stated_of (Ok v) = some v
+stated_of (Err e) = none

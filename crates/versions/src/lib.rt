@@ -5,44 +5,41 @@
 ghost use Rattle.std.specs.Prelude.{◌≡◌};
 ghost use Rattle.versions.specs.Versions.{version_number, version_byte, version_of, version_of_byte, stated_of};
 
-#[derive(Clone, Copy)]
+#[derive(Clone, Copy, Debug, PartialEq, Eq)]
 pub enum Version {
     Three,
     Four,
 }
 
-// What a number or a byte says; `stated_of` of specs/Versions.antt gives the meaning of each case.
-#[derive(Clone, Copy)]
-pub enum Stated {
-    Is(Version),
-    NoSuchVersion,
-}
+// The error of a number or a byte that says no version.
+#[derive(Clone, Copy, Debug, PartialEq, Eq)]
+pub struct NoSuchVersion;
 
 impl Version {
     // The version of this number: 3 or 4.
-    pub fn from_number(number: usize) -> Stated
+    pub fn from_number(number: usize) -> Result<Version, NoSuchVersion>
         ensures { stated_of result ≡ version_of number }
     {
         if number == 3 {
-            return Stated::Is(Version::Three);
+            return Ok(Version::Three);
         }
         if number == 4 {
-            return Stated::Is(Version::Four);
+            return Ok(Version::Four);
         }
-        Stated::NoSuchVersion
+        Err(NoSuchVersion)
     }
 
     // The version of this byte: 02 is version 3, 03 is version 4.
-    pub fn from_byte(byte: usize) -> Stated
+    pub fn from_byte(byte: usize) -> Result<Version, NoSuchVersion>
         ensures { stated_of result ≡ version_of_byte byte }
     {
         if byte == 0x02 {
-            return Stated::Is(Version::Three);
+            return Ok(Version::Three);
         }
         if byte == 0x03 {
-            return Stated::Is(Version::Four);
+            return Ok(Version::Four);
         }
-        Stated::NoSuchVersion
+        Err(NoSuchVersion)
     }
 
     // 3 or 4.

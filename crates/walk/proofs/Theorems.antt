@@ -49,7 +49,7 @@ asked_rows (r ∷ rows) more at s f =
 
 -- "It gives exactly the rows of the full reading, in order": opened on an accepted seal and asked again and again, a walk answers with the
 -- rows that the judging reports, one after another, and from then on 51 for ever. "With tag and value": what these rows say of a published
--- form is its features, `features_reported` in crates/verdict/specs/Report/Laws.antt.
+-- form is its features, `features_reported` in crates/verdict/proofs/Report/Laws.antt.
 pub same_rows : (s : Bor (List ℕ)) → Bytes s.now → (r : Report) → judge s.now ≡ accepted r → (more : ℕ)
     → asked (length r.rows + more) (opened_of s).walk ≡ map found_row r.rows ++ replicate more no_more
 same_rows s bytes r e more =

@@ -4,10 +4,11 @@
 ghost use Rattle.std.specs.Prelude.{◌≡◌, ◌≤◌, ◌++◌, length};
 ghost use Rattle.format.specs.Answers.{done, filled};
 ghost use Rattle.verdict.specs.Judge.{judge};
-ghost use Rattle.lines.specs.Line.{Put, decimal_of};
-ghost use Rattle.walk_lines.specs.Lines.{feature, text_of, Tells, Enough};
+ghost use Rattle.lines.specs.Line.{decimal_of};
+ghost use Rattle.lines.specs.Written.{Puts};
+ghost use Rattle.walk_lines.specs.Lines.{feature, text_of, TellsOn, Enough};
 
-use lines::{put_number, put_text};
+use lines::Line;
 use list_lines::{put_counted, put_refused};
 use walk::Row;
 
@@ -18,35 +19,34 @@ pub const READ: usize = 4097;
 pub const ROOM: usize = 11730;
 
 // Puts down a name and a number.
-fn put_named(out: &mut [u8], at: usize, name: &[u8], n: usize) -> usize
-    ensures { Put out.old at (name.now ++ decimal_of n) out.new result }
+fn put_named(line: &mut Line, name: &[u8], n: usize)
+    ensures { Puts line.old (name.now ++ decimal_of n) line.new }
 {
-    let o = put_text(out, at, name);
-    put_number(out, o, n)
+    line.text(name);
+    line.number(n);
 }
 
 // Puts down the line of a feature.
-fn put_feature(out: &mut [u8], at: usize, row: Row) -> usize
-    ensures { Put out.old at (feature row) out.new result }
+fn put_feature(line: &mut Line, row: Row)
+    ensures { Puts line.old (feature row) line.new }
 {
-    let mut o = put_named(out, at, b"feature ", row.tag);
-    o = put_named(out, o, b" at ", row.start);
-    o = put_named(out, o, b" value at ", row.place);
-    put_counted(out, o, b" length ", row.size)
+    put_named(line, b"feature ", row.tag);
+    put_named(line, b" at ", row.start);
+    put_named(line, b" value at ", row.place);
+    put_counted(line, b" length ", row.size);
 }
 
 // Puts down a line for each feature that the walk finds from a place on.
-fn put_features(out: &mut [u8], at: usize, seal: &[u8], start: usize) -> usize
-    ensures { Tells seal.now start out.old at out.new result }
+fn put_features(line: &mut Line, seal: &[u8], start: usize)
+    ensures { TellsOn seal.now start line.old line.new }
 {
-    let mut o = at;
     let mut place = start;
     loop {
         let step = walk::next_at(seal, place);
         if step.number != 0 {
-            return o;
+            return;
         }
-        o = put_feature(out, o, step.row);
+        put_feature(line, step.row);
         place = step.at;
     }
 }
@@ -59,8 +59,11 @@ pub fn tell(seal: &[u8], out: &mut [u8; ROOM]) -> usize
     ensures enough { Enough READ }
 {
     let start = walk::start_at(seal);
+    let mut line = Line::new(out, 0);
     if start.number != 0 {
-        return put_refused(out, 0, start.number, start.place);
+        put_refused(&mut line, start.number, start.place);
+        return line.at();
     }
-    put_features(out, 0, seal, start.at)
+    put_features(&mut line, seal, start.at);
+    line.at()
 }

@@ -7,7 +7,7 @@ ghost use Rattle.rows.specs.Rows.{row_of};
 ghost use Rattle.walk_steps.specs.Steps.{no_more, found as found_at, start_of, feature_at, step_at};
 ghost use Rattle.walk_steps.specs.Short.{IsShort};
 
-use read_items::{Byte, Cursor, Edition, Number, Whole};
+use read_items::Cursor;
 pub use rows::Row;
 use versions::Version;
 
@@ -26,13 +26,6 @@ pub struct Step {
     pub place: usize,
     pub row: Row,
     pub at: usize,
-}
-
-// A step that finds a feature with a short length, or whatever else it finds.
-#[derive(Clone, Copy)]
-enum Short {
-    Is(Step),
-    Other,
 }
 
 // No further feature.
@@ -87,16 +80,16 @@ fn feature_at(seal: &[u8], version: Version, at: usize) -> Step
     ensures { result ≡ feature_at version seal.now at }
 {
     let here = Cursor { place: at };
-    let Byte::Is(tag, next) = here.byte(seal) else {
+    let Some((tag, next)) = here.byte(seal) else {
         return no_more();
     };
     if tag == 0xFF {
         return no_more();
     }
-    let Number::Is(size, value) = next.feature_length(seal, version) else {
+    let Ok((size, value)) = next.feature_length(seal, version) else {
         return no_more();
     };
-    let Whole::Past(end) = value.skip(seal, size) else {
+    let Some(end) = value.skip(seal, size) else {
         return no_more();
     };
     found(tag, at, value, size, end)
@@ -110,37 +103,29 @@ pub fn step_at(seal: &[u8], at: usize) -> Step
         return no_more();
     }
     let second = Cursor { place: 1 };
-    let Edition::Is(version, _) = second.version(seal) else {
+    let Ok((version, _)) = second.version(seal) else {
         return no_more();
     };
     feature_at(seal, version, at)
 }
 
-// What a step finds whose feature has a length below 128: that is one byte in both versions.
-fn short_step(seal: &[u8], at: usize) -> Short
+// What a step finds whose feature has a length below 128, which is one byte in both versions; none where it finds anything else.
+fn short_step(seal: &[u8], at: usize) -> Option<Step>
     ensures { IsShort seal.now at result }
 {
     let second = Cursor { place: 1 };
-    let Edition::Is(_, _) = second.version(seal) else {
-        return Short::Other;
-    };
+    second.version(seal).ok()?;
     let here = Cursor { place: at };
-    let Byte::Is(tag, next) = here.byte(seal) else {
-        return Short::Other;
-    };
+    let (tag, next) = here.byte(seal)?;
     if tag == 0xFF {
-        return Short::Other;
+        return None;
     }
-    let Byte::Is(size, value) = next.byte(seal) else {
-        return Short::Other;
-    };
+    let (size, value) = next.byte(seal)?;
     if 0x7F < size {
-        return Short::Other;
+        return None;
     }
-    let Whole::Past(end) = value.skip(seal, size) else {
-        return Short::Other;
-    };
-    Short::Is(found(tag, at, value, size, end))
+    let end = value.skip(seal, size)?;
+    Some(found(tag, at, value, size, end))
 }
 
 // What a step finds, as `step_at` has it, with few instructions for the features that most seals have.
@@ -150,7 +135,7 @@ pub fn quick_step(seal: &[u8], at: usize) -> Step
     if at == 0 {
         return no_more();
     }
-    let Short::Is(step) = short_step(seal, at) else {
+    let Some(step) = short_step(seal, at) else {
         return step_at(seal, at);
     };
     step

@@ -13,7 +13,7 @@ use Rattle.rules.proofs.Reason.Inside.{judged_inside}
 use Rattle.verdict.specs.Items.{Way, is, not}
 use Rattle.verdict.specs.Judge.{Report, Verdict, accepted, refused, verdict, judging, judge}
 use Rattle.reading.specs.Calls.{answer_of}
-use Rattle.reason.proofs.Goes.{Told, Goes, own}
+use Rattle.reason.proofs.Goes.{Goes, own}
 use Rattle.reason.proofs.Reading.{judging_goes}
 use Rattle.why.specs.declared.Reason.{Reason as Answer}
 use Rattle.why.specs.Told.{nothing, telling, told}

@@ -1,5 +1,5 @@
 -- What `why` answers (document 02, Ticket 11), for every byte string: number and place, the codes of the item and of the rule that it
--- breaks, and the bytes judged. Theorems.antt shows that it is the true reason.
+-- breaks, and the bytes judged. proofs/Theorems.antt shows that it is the true reason.
 -- Assumes nothing.
 pub mod Laws
 use Rattle.std.specs.Prelude.{ℕ, List}

@@ -10,7 +10,6 @@ ghost use Rattle.why.specs.Told.{telling, told};
 use causes::{Item, Rule};
 use octets::wide;
 use read_items::Refusal;
-use reading::Outcome;
 pub use reading::Part;
 
 // Why a seal is refused: number and place are the judge's, item and rule are told by their codes, and the bytes judged are a part of
@@ -67,11 +66,7 @@ fn length_size(seal: &[u8], place: usize) -> usize
 fn left(seal: &[u8], place: usize) -> usize
     ensures { result ≡ length seal.now - place }
 {
-    let size = seal.len();
-    if size < place {
-        return 0;
-    }
-    size - place
+    seal.len().saturating_sub(place)
 }
 
 // How many bytes were judged, from the place told on.
@@ -125,9 +120,8 @@ pub fn why(seal: &[u8]) -> Reason
 {
     let mut names = [0u8; 259];
     let judged = judging::judge_names(seal, &mut names);
-    let outcome = judged.outcome;
-    match outcome {
-        Outcome::Good(_) => Reason {
+    match judged.outcome {
+        Ok(_) => Reason {
             number: 0,
             place: 0,
             item: 0,
@@ -137,6 +131,6 @@ pub fn why(seal: &[u8]) -> Reason
                 length: 0,
             },
         },
-        Outcome::Not(why) => because(why, seal),
+        Err(why) => because(why, seal),
     }
 }

@@ -4,10 +4,9 @@
 
 ghost use Rattle.std.specs.Prelude.{◌≡◌, length};
 ghost use Rattle.format.specs.Answers.{told, filled};
-ghost use Rattle.pages.specs.Calls.{placed_of};
 ghost use Rattle.why_words.specs.Calls.{naming, wording, told_of, LongestName, LongestWords};
 
-use pages::Placed;
+use octets::NoRoom;
 
 // The length of the longest name of an item: a buffer of so many bytes has room for any.
 pub const ITEM_LONGEST: usize = 20;
@@ -58,39 +57,21 @@ const RULES: [u8; 714] = *b"\
 18 the length is in its shortest form\n\
 ";
 
-// What telling a name or words answers; `told_of` of specs/Calls.antt gives each case its number.
-#[derive(Clone, Copy)]
-pub enum Told {
-    // 0: the count of bytes written
-    Done(usize),
-    // 42: no room
-    NoRoom,
-}
-
-// Words put down, or no room for them, as this crate tells it.
-fn as_told(placed: Placed) -> Told
-    ensures { told_of result ≡ placed_of 42 placed }
-{
-    match placed {
-        Placed::All(count) => Told::Done(count),
-        Placed::NoRoom => Told::NoRoom,
-    }
-}
-
 // Puts the name of an item down from the start of `out`: all of it, or nothing where there is no room. Another code has none.
-pub fn put_item_name(item: usize, out: &mut [u8]) -> Told
+// `told_of` of specs/Calls.antt gives the answer its number: 0 with the count of bytes, or 42.
+pub fn put_item_name(item: usize, out: &mut [u8]) -> Result<usize, NoRoom>
     ensures answer { told_of result ≡ told (naming item (length out.old)) }
     ensures buffer { out.new ≡ filled (naming item (length out.old)) out.old }
     ensures room { LongestName ITEM_LONGEST }
 {
-    as_told(pages::put_words_of(&ITEMS, item, out))
+    pages::put_words_of(&ITEMS, item, out)
 }
 
-// Puts the words of a rule down from the start of `out`: all of them, or nothing where there is no room. Another code has none.
-pub fn put_rule_words(rule: usize, out: &mut [u8]) -> Told
+// Puts the words of a rule down from the start of `out`, likewise.
+pub fn put_rule_words(rule: usize, out: &mut [u8]) -> Result<usize, NoRoom>
     ensures answer { told_of result ≡ told (wording rule (length out.old)) }
     ensures buffer { out.new ≡ filled (wording rule (length out.old)) out.old }
     ensures room { LongestWords RULE_LONGEST }
 {
-    as_told(pages::put_words_of(&RULES, rule, out))
+    pages::put_words_of(&RULES, rule, out)
 }

@@ -3,10 +3,9 @@
 
 ghost use Rattle.std.specs.Prelude.{◌≡◌, length};
 ghost use Rattle.format.specs.Answers.{told, filled};
-ghost use Rattle.pages.specs.Calls.{placed_of};
 ghost use Rattle.words.specs.Calls.{saying, told_of, Longest};
 
-use pages::Placed;
+use octets::NoRoom;
 
 // The length of the longest words: a buffer of so many bytes has room for any.
 pub const LONGEST: usize = 92;
@@ -52,30 +51,12 @@ const PAGE: [u8; 1416] = *b"\
 65 not one whole DER INTEGER of 1 to 8 bytes\n\
 ";
 
-// What telling a number's words answers; `told_of` of specs/Calls.antt gives each case its number.
-#[derive(Clone, Copy)]
-pub enum Told {
-    // 0: the count of bytes written
-    Done(usize),
-    // 63: no room
-    NoRoom,
-}
-
-// Words put down, or no room for them, as this crate tells it.
-fn as_told(placed: Placed) -> Told
-    ensures { told_of result ≡ placed_of 63 placed }
-{
-    match placed {
-        Placed::All(count) => Told::Done(count),
-        Placed::NoRoom => Told::NoRoom,
-    }
-}
-
 // Puts the words of a number down from the start of `out`: all of them, or none where there is no room. Another number has none.
-pub fn put_words(number: usize, out: &mut [u8]) -> Told
+// `told_of` of specs/Calls.antt gives the answer its number: 0 with the count of bytes, or 63.
+pub fn put_words(number: usize, out: &mut [u8]) -> Result<usize, NoRoom>
     ensures answer { told_of result ≡ told (saying number (length out.old)) }
     ensures buffer { out.new ≡ filled (saying number (length out.old)) out.old }
     ensures room { Longest LONGEST }
 {
-    as_told(pages::put_words_of(&PAGE, number, out))
+    pages::put_words_of(&PAGE, number, out)
 }

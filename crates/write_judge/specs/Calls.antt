@@ -2,7 +2,7 @@
 -- writes: all is judged before the first byte.
 -- Assumes nothing.
 pub mod Laws
-use Rattle.std.specs.Prelude.{ℕ, List, [], ◌∷◌, leb, length}
+use Rattle.std.specs.Prelude.{ℕ, List, [], ◌∷◌, Result, Ok, Err, leb, length}
 use Rattle.std.proofs.Math.Option.{Option, none, some}
 use Rattle.format.specs.Answers.{Outcome, Answer, done, refused}
 use Rattle.format.specs.Order.{Test, test, in_order}
@@ -13,8 +13,8 @@ use Rattle.fields.specs.Signature.{is_signature}
 use Rattle.write_given.specs.Tests.{are_names, are_days, are_last}
 use Rattle.write_rows.specs.Tests.{is_table, are_values}
 use Rattle.write_given.specs.Given.{Given, content_as}
-use Rattle.write_judge.specs.declared.Writing.{Writing}
-use Rattle.write_judge.specs.declared.Writing.TheVariants as write
+use Rattle.write_judge.specs.declared.Refused.{Refused}
+use Rattle.write_judge.specs.declared.Refused.TheVariants as write
 
 -- 21 to 28 in order, in a version
 abbrev pub tests_as : Given → ℕ → Version → List Test
@@ -40,15 +40,15 @@ in_version (some v) others = others v
 unfoldable pub writing : Given → ℕ → Outcome
 writing g room = in_version (version_of g.header.version) (writing_as g room)
 
--- number, place and count of each case
-abbrev pub writing_of : Writing → Answer
-writing_of (write.Done count) = record { number = 0; place = 0; count = count }
-writing_of write.Version = record { number = 20; place = 0; count = 0 }
-writing_of write.Names = record { number = 21; place = 0; count = 0 }
-writing_of write.Dates = record { number = 22; place = 0; count = 0 }
-writing_of write.Last = record { number = 23; place = 0; count = 0 }
-writing_of write.Rows = record { number = 24; place = 0; count = 0 }
-writing_of write.Values = record { number = 25; place = 0; count = 0 }
-writing_of write.Signature = record { number = 26; place = 0; count = 0 }
-writing_of write.TooLong = record { number = 27; place = 0; count = 0 }
-writing_of write.NoRoom = record { number = 28; place = 0; count = 0 }
+-- number, place and count of what is written, and of each refusal
+abbrev pub writing_of : Result ℕ Refused → Answer
+writing_of (Ok count) = record { number = 0; place = 0; count = count }
+writing_of (Err write.Version) = record { number = 20; place = 0; count = 0 }
+writing_of (Err write.Names) = record { number = 21; place = 0; count = 0 }
+writing_of (Err write.Dates) = record { number = 22; place = 0; count = 0 }
+writing_of (Err write.Last) = record { number = 23; place = 0; count = 0 }
+writing_of (Err write.Rows) = record { number = 24; place = 0; count = 0 }
+writing_of (Err write.Values) = record { number = 25; place = 0; count = 0 }
+writing_of (Err write.Signature) = record { number = 26; place = 0; count = 0 }
+writing_of (Err write.TooLong) = record { number = 27; place = 0; count = 0 }
+writing_of (Err write.NoRoom) = record { number = 28; place = 0; count = 0 }

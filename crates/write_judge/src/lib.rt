@@ -7,13 +7,11 @@ ghost use Rattle.write_given.specs.Given.{given};
 ghost use Rattle.write_judge.specs.Calls.{writing, writing_of};
 
 use fields::Header;
-use versions::{Stated, Version};
+use versions::Version;
 
-// What a writing answers; `writing_of` of specs/Calls.antt gives each case its number.
-#[derive(Clone, Copy)]
-pub enum Writing {
-    // 0: the count of bytes written
-    Done(usize),
+// The error of what the writer refuses; `writing_of` of specs/Calls.antt gives each case its number.
+#[derive(Clone, Copy, Debug, PartialEq, Eq)]
+pub enum Refused {
     // 20: version not 3 or 4
     Version,
     // 21: country, signer or reference
@@ -42,37 +40,37 @@ pub fn judge(
     values: &[u8],
     signature: &[u8],
     room: usize,
-) -> Writing
+) -> Result<usize, Refused>
     ensures { writing_of result ≡ told (writing
         (given header text.now rows.now values.now signature.now) room) }
 {
-    let Stated::Is(version) = Version::from_number(header.version) else {
-        return Writing::Version;
+    let Ok(version) = Version::from_number(header.version) else {
+        return Err(Refused::Version);
     };
     if !write_given::are_names(version, header, text) {
-        return Writing::Names;
+        return Err(Refused::Names);
     }
     if !write_given::are_days(header) {
-        return Writing::Dates;
+        return Err(Refused::Dates);
     }
     if !write_given::are_last(header) {
-        return Writing::Last;
+        return Err(Refused::Last);
     }
     if !write_rows::are_rows(rows, values.len()) {
-        return Writing::Rows;
+        return Err(Refused::Rows);
     }
     if !write_rows::are_values(version, rows) {
-        return Writing::Values;
+        return Err(Refused::Values);
     }
     if !fields::is_signature(signature.len()) {
-        return Writing::Signature;
+        return Err(Refused::Signature);
     }
     let size = write_size::seal_size(version, text.len(), rows, signature.len());
     if 4096 < size {
-        return Writing::TooLong;
+        return Err(Refused::TooLong);
     }
     if room < size {
-        return Writing::NoRoom;
+        return Err(Refused::NoRoom);
     }
-    Writing::Done(size)
+    Ok(size)
 }

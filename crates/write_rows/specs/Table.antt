@@ -156,21 +156,20 @@ short_cons r rows = refl
 pub values_four : (v : Version) (t : List ℕ) → v ≡ four → true ≡ are_values v t
 values_four v t e = sym (ap (λ w. are_values w t) e)
 
-module _ (v : Version) (t : List ℕ) (at : ℕ) (is_three : v ≡ three) (same : are_short (rows_of t) ≡ are_short (rows_of (drop at t))) where
+module _ (v : Version) (t : List ℕ) (left : List Row) (is_three : v ≡ three) (same : are_short (rows_of t) ≡ are_short left) where
   values_is : (b : Bool) → are_short (rows_of t) ≡ b → b ≡ are_values v t
   values_is b e = sym (ap (λ w. are_values w t) is_three ∙ e)
 
-  pub short_end : length t < at + width → true ≡ are_values v t
-  short_end h = values_is true (same ∙ ap are_short (rows_end t at h) ∙ short_none)
+  pub short_end : left ≡ [] → true ≡ are_values v t
+  short_end none = values_is true (same ∙ ap are_short none ∙ short_none)
 
-  module _ (here : at + width ≤ length t) (r : Row) (e : r ≡ row_at t at) where
-    short_on : are_short (rows_of t) ≡ both (leb r.size 255) (are_short (rows_of (drop (at + width) t)))
-    short_on =
-        same ∙ ap are_short (rows_here t at here ∙ ap (λ q. q ∷ rows_of (drop (at + width) t)) (sym e))
-        ∙ short_cons r (rows_of (drop (at + width) t))
+  -- the first of the rows left
+  module _ (r : Row) (more : List Row) (first : left ≡ r ∷ more) where
+    short_on : are_short (rows_of t) ≡ both (leb r.size 255) (are_short more)
+    short_on = same ∙ ap are_short first ∙ short_cons r more
 
     pub short_stops : 255 < r.size → false ≡ are_values v t
-    short_stops h = values_is false (short_on ∙ ap (λ b. both b (are_short (rows_of (drop (at + width) t)))) (lt-leb r.size 255 h))
+    short_stops h = values_is false (short_on ∙ ap (λ b. both b (are_short more)) (lt-leb r.size 255 h))
 
-    pub short_more : r.size ≤ 255 → are_short (rows_of t) ≡ are_short (rows_of (drop (at + width) t))
-    short_more h = short_on ∙ ap (λ b. both b (are_short (rows_of (drop (at + width) t)))) (le-leb r.size 255 h)
+    pub short_more : r.size ≤ 255 → are_short (rows_of t) ≡ are_short more
+    short_more h = short_on ∙ ap (λ b. both b (are_short more)) (le-leb r.size 255 h)

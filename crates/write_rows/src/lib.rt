@@ -4,7 +4,7 @@
 ghost use Rattle.std.specs.Prelude.{◌≡◌, ◌+◌, leb};
 ghost use Rattle.write_rows.specs.Tests.{is_table, are_values};
 
-use rows::{Found, Row, WIDTH, row_at};
+use rows::{Row, TableRows, WIDTH, row_at};
 use versions::Version;
 
 // Whether a row's value stands inside a buffer of so many bytes; the sum of place and size might wrap, so they are compared apart.
@@ -23,11 +23,9 @@ pub fn are_rows(table: &[usize], size: usize) -> bool
     ensures { result ≡ is_table size table.now }
 {
     let mut marks = [0u8; 255];
+    // the place is counted here, since where the walk ends is asked after it
     let mut at: usize = 0;
-    loop {
-        let Found::Is(row) = row_at(table, at) else {
-            return at == table.len();
-        };
+    while let Some(row) = row_at(table, at) {
         let tag = row.tag;
         if 254 < tag {
             return false;
@@ -41,6 +39,7 @@ pub fn are_rows(table: &[usize], size: usize) -> bool
         marks[tag] = 1;
         at += WIDTH;
     }
+    at == table.len()
 }
 
 // In version 3 no value is over 255 bytes.
@@ -50,14 +49,10 @@ pub fn are_values(version: Version, table: &[usize]) -> bool
     if let Version::Four = version {
         return true;
     }
-    let mut at: usize = 0;
-    loop {
-        let Found::Is(row) = row_at(table, at) else {
-            return true;
-        };
+    for row in TableRows::of(table) {
         if 255 < row.size {
             return false;
         }
-        at += WIDTH;
     }
+    true
 }

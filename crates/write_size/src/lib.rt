@@ -6,7 +6,7 @@ ghost use Rattle.grammar.specs.Publish.{length_of};
 ghost use Rattle.rows.specs.Rows.{rows_of};
 ghost use Rattle.write_size.specs.SealSize.{rows_size, names_size, seal_size};
 
-use rows::{Found, WIDTH, row_at};
+use rows::TableRows;
 use versions::Version;
 
 // How many bytes a length takes.
@@ -26,11 +26,7 @@ fn rows_size(version: Version, rows: &[usize], start: usize) -> usize
     ensures { result ≡ min (start + rows_size version (rows_of rows.now)) 4097 }
 {
     let mut total = start;
-    let mut at: usize = 0;
-    loop {
-        let Found::Is(row) = row_at(rows, at) else {
-            return total;
-        };
+    for row in TableRows::of(rows) {
         let size = row.size;
         if 4096 < size {
             return 4097;
@@ -39,8 +35,8 @@ fn rows_size(version: Version, rows: &[usize], start: usize) -> usize
         if 4096 < total {
             return 4097;
         }
-        at += WIDTH;
     }
+    total
 }
 
 // How many bytes signer and reference take, of so many characters; over 6,144 they take more than 4,096, and 4,097 is told.

@@ -10,15 +10,14 @@ ghost use Rattle.write_text.specs.Coded.{coded};
 use octets::low;
 use pairs::{number_of, number_of_one, number_of_two};
 
-// Puts down a number in two bytes, big-endian.
-fn put_number(number: usize, out: &mut [u8], at: usize) -> usize
-    requires { (number < 65536) × (at + 2 ≤ length out.old) }
-    ensures place { result ≡ at + 2 }
-    ensures buffer { out.new ≡ over out.old at (be 2 number) }
+// Puts down the last two bytes of a number, big-endian, from a place on. What the crates share asks nothing of a caller, so there it
+// would test for the room of each pair.
+fn put_two(number: usize, out: &mut [u8], at: usize)
+    requires { at + 2 ≤ length out.old }
+    ensures { out.new ≡ over out.old at (be 2 number) }
 {
     out[at] = low(number >> 8);
     out[at + 1] = low(number);
-    at + 2
 }
 
 // The number of the last pair, for the one or two characters that are left over.
@@ -39,14 +38,17 @@ fn put_pairs(text: &[u8], out: &mut [u8], start: usize) -> usize
     ensures buffer { out.new ≡ over out.old start (coded text.now) }
 {
     let n = text.len();
+    // two indices, as three characters make two bytes: chunks of the text would leave the second
     let mut at = start;
     let mut i: usize = 0;
     while i + 2 < n {
-        at = put_number(number_of(text[i], text[i + 1], text[i + 2]), out, at);
+        put_two(number_of(text[i], text[i + 1], text[i + 2]), out, at);
         i += 3;
+        at += 2;
     }
     if i < n {
-        return put_number(number_of_left(&text[i..]), out, at);
+        put_two(number_of_left(&text[i..]), out, at);
+        return at + 2;
     }
     at
 }

@@ -13,8 +13,7 @@ use Rattle.grammar.specs.Legal.{ValueSize}
 use Rattle.grammar.specs.Publish.{length_of, feature, message_zone}
 use Rattle.verdict.specs.Report.{feature_of}
 use Rattle.rows.specs.declared.Row.{Row}
-use Rattle.rows.specs.Rows.{width, row_at, rows_of}
-use Rattle.rows.proofs.Rows.Laws.{rows_here, rows_end}
+use Rattle.rows.specs.Rows.{rows_of}
 use Rattle.write_judge.specs.Needs.{Room, Measured, Fits, Fitting}
 use Rattle.write_judge.specs.Size.{zone_none, zone_cons}
 
@@ -95,28 +94,28 @@ module _ (v : Version) (tag : ℕ) (value out : List ℕ) (at : ℕ) (room : Roo
               ∙ over_over out at (tag ∷ form) value (omega arith),
         )
 
--- how far the features are put down
-pub record Putting (version : Version) (values t out₀ : List ℕ) (start : ℕ) (out : List ℕ) (at row : ℕ) : Type 0 where
+-- how far the features are put down, with these rows left
+pub record Putting (version : Version) (values t out₀ : List ℕ) (start : ℕ) (out : List ℕ) (at : ℕ) (left : List Row) : Type 0 where
   pub before : List ℕ
   pub reached : at ≡ start + length before
   pub is : out ≡ over out₀ start before
   pub whole :
-      message_zone version (map (feature_of values) (rows_of t)) ≡ before ++ message_zone version (map (feature_of values) (rows_of (drop row t)))
-  pub fits : Fitting version (length values) (rows_of (drop row t))
+      message_zone version (map (feature_of values) (rows_of t)) ≡ before ++ message_zone version (map (feature_of values) left)
+  pub fits : Fitting version (length values) left
   pub room : Room out₀ start (message_zone version (map (feature_of values) (rows_of t)))
 
 pub putting_start :
     (version : Version) (values t out : List ℕ) (start : ℕ) →
     Fitting version (length values) (rows_of t) →
     Room out start (message_zone version (map (feature_of values) (rows_of t))) →
-    Putting version values t out start out start 0
+    Putting version values t out start out start (rows_of t)
 putting_start version values t out start fits room =
     record { before = []; reached = omega arith; is = sym (over_none out start); whole = refl; fits = fits; room = room }
 
-module _ (version : Version) (values t out₀ : List ℕ) (start : ℕ) (out : List ℕ) (at row : ℕ)
-    (p : Putting version values t out₀ start out at row) where
+module _ (version : Version) (values t out₀ : List ℕ) (start : ℕ) (out : List ℕ) (at : ℕ) (left : List Row)
+    (p : Putting version values t out₀ start out at left) where
   long : length p.before ≤ length (message_zone version (map (feature_of values) (rows_of t)))
-  long = omega (arith, ap length p.whole, length-append p.before (message_zone version (map (feature_of values) (rows_of (drop row t)))))
+  long = omega (arith, ap length p.whole, length-append p.before (message_zone version (map (feature_of values) left)))
 
   pub putting_length : length out ≡ length out₀
   putting_length = ap length p.is ∙ length_over out₀ start p.before (omega (arith, long, p.room))
@@ -124,30 +123,24 @@ module _ (version : Version) (values t out₀ : List ℕ) (start : ℕ) (out : L
   abbrev zone : List Row → List ℕ
   zone rows = message_zone version (map (feature_of values) rows)
 
-  pub putting_end : length t < row + width → (at ≡ start + length (zone (rows_of t))) × (out ≡ over out₀ start (zone (rows_of t)))
-  putting_end h =
+  pub putting_end : left ≡ [] → (at ≡ start + length (zone (rows_of t))) × (out ≡ over out₀ start (zone (rows_of t)))
+  putting_end none =
       let all : zone (rows_of t) ≡ p.before =
-      p.whole ∙ ap (λ rows. p.before ++ zone rows) (rows_end t row h) ∙ ap (λ z. p.before ++ z) (zone_none version values)
+      p.whole ∙ ap (λ rows. p.before ++ zone rows) none ∙ ap (λ z. p.before ++ z) (zone_none version values)
       ∙ append-nil p.before in
       (omega (arith, ap length all, p.reached), p.is ∙ ap (over out₀ start) (sym all))
 
-  -- the row that stands here
-  module _ (here : row + width ≤ length t) (r : Row) (e : r ≡ row_at t row) where
-    abbrev rows_left : List Row
-    rows_left = rows_of (drop (row + width) t)
-
-    row_first : rows_of (drop row t) ≡ r ∷ rows_left
-    row_first = rows_here t row here ∙ ap (λ q. q ∷ rows_left) (sym e)
-
-    all_fit : All (Fits version (length values)) (r ∷ rows_left)
-    all_fit = subst (λ rows. All (Fits version (length values)) rows) row_first p.fits
+  -- the first of the rows left
+  module _ (r : Row) (more : List Row) (first : left ≡ r ∷ more) where
+    all_fit : All (Fits version (length values)) (r ∷ more)
+    all_fit = subst (λ rows. All (Fits version (length values)) rows) first p.fits
 
     -- it was judged
     pub putting_fits : Fits version (length values) r
     putting_fits = all_fit.0
 
-    on : zone (rows_of t) ≡ p.before ++ (feature version (feature_of values r) ++ zone rows_left)
-    on = p.whole ∙ ap (λ rows. p.before ++ zone rows) row_first ∙ ap (λ z. p.before ++ z) (zone_cons version values r rows_left)
+    on : zone (rows_of t) ≡ p.before ++ (feature version (feature_of values r) ++ zone more)
+    on = p.whole ∙ ap (λ rows. p.before ++ zone rows) first ∙ ap (λ z. p.before ++ z) (zone_cons version values r more)
 
     module _ (value : List ℕ) (f : value ≡ take r.size (drop r.place values)) where
       abbrev put : List ℕ
@@ -164,7 +157,7 @@ module _ (version : Version) (values t out₀ : List ℕ) (start : ℕ) (out : L
       fits_here : Room out at put
       fits_here =
           let one = feature version (feature_of values r) in
-          let rest = zone rows_left in
+          let rest = zone more in
           let whole = length-append p.before (one ++ rest) in
           omega (arith, ap length on, whole, length-append one rest, ap length same, p.room, p.reached, putting_length)
 
@@ -177,14 +170,14 @@ module _ (version : Version) (values t out₀ : List ℕ) (start : ℕ) (out : L
 
       pub putting_more :
           (out' : List ℕ) (at' : ℕ) → at' ≡ at + length put → out' ≡ over out at put →
-          Putting version values t out₀ start out' at' (row + width)
+          Putting version values t out₀ start out' at' more
       putting_more out' at' ea eo = record {
         before = p.before ++ put;
         reached = omega (arith, p.reached, ea, length-append p.before put);
         is =
             eo ∙ ap (λ o. over o at put) p.is ∙ ap (λ k. over (over out₀ start p.before) k put) p.reached
             ∙ over_over out₀ start p.before put (omega (arith, long, p.room));
-        whole = on ∙ ap (λ l. p.before ++ (l ++ zone rows_left)) same ∙ sym (append_assoc p.before put (zone rows_left));
+        whole = on ∙ ap (λ l. p.before ++ (l ++ zone more)) same ∙ sym (append_assoc p.before put (zone more));
         fits = all_fit.1;
         room = p.room;
       }

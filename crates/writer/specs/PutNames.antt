@@ -1,6 +1,6 @@
 -- Laws of country, signer and reference put down: the values of their characters, and their pairs one after another.
 -- Assumes nothing.
-use Rattle.std.specs.Prelude.{◌≡◌, refl, ℕ, ◌+◌, ◌-◌, ◌/◌, ◌%◌, ◌<◌, ◌≤◌, List, [], ◌∷◌, ◌++◌, ltb, length, get_or, take, drop}
+use Rattle.std.specs.Prelude.{◌≡◌, refl, ℕ, ◌+◌, ◌-◌, ◌/◌, ◌%◌, ◌<◌, ◌≤◌, List, [], ◌∷◌, ◌++◌, ltb, length, get_or, take, drop, Ok}
 use Rattle.std.proofs.Common.{ap, sym, subst, ◌∙◌, inl, arith, ltb-true, ltb-false, eq-eqb, ne_eqb, length-append, length-drop, take-append-drop, length-take-le, take_all, drop-drop}
 use Rattle.format.specs.Bytes.{All}
 use Rattle.format.specs.Bytes.Laws.{all_append, all_at, all_of}
@@ -54,7 +54,7 @@ value_below v c e = omega (arith, value_range c)
 
 -- three values are the pair of their characters
 pub three_form : (x y z a b c : ℕ) → x ≡ value_of a → y ≡ value_of b → z ≡ value_of c → triple x y z ≡ c40 (a ∷ b ∷ c ∷ [])
-three_form x y z a b c e f g = (λ i. triple (e i) (f i) (g i)) ∙ sym (publish_pair (Three a b c))
+three_form x y z a b c e f g = (λ i. triple (e i) (f i) (g i)) ∙ sym (publish_pair (Ok (Three a b c)))
 
 -- three characters from a place on
 pub three_at : (t : List ℕ) (i : ℕ) → i + 3 ≤ length t → get_or t i 0 ∷ get_or t (i + 1) 0 ∷ get_or t (i + 2) 0 ∷ [] ≡ take 3 (drop i t)
@@ -108,7 +108,7 @@ four_pairs (a ∷ b ∷ c ∷ d ∷ r) h m =
     digit_value (length r % 16) (omega arith) ∙ ap (λ k. k % 16 + 4) same in
     publish_three a b c (d ∷ hex_digit (length r / 16) ∷ hex_digit (length r % 16) ∷ r)
     ∙ ap (λ l. triple (value_of a) (value_of b) (value_of c) ++ l) (publish_three d (hex_digit (length r / 16)) (hex_digit (length r % 16)) r)
-    ∙ (λ i. sym (publish_pair (Three a b c)) i ++ (triple (value_of d) (high i) (low i) ++ c40 r))
+    ∙ (λ i. sym (publish_pair (Ok (Three a b c))) i ++ (triple (value_of d) (high i) (low i) ++ c40 r))
 
 names_pairs : (v : Version) (t : List ℕ) → Named v t → names v (take 4 t) (drop 4 t) ≡ c40 (take 3 t) ++ after v t
 names_pairs three t n =

@@ -10,8 +10,8 @@ mod names;
 mod put;
 
 use fields::Header;
-use versions::{Stated, Version};
-pub use write_judge::Writing;
+use versions::Version;
+pub use write_judge::Refused;
 
 // Writes a seal from the start of `out`. The rows are the reader's: tag, place and length of the value in `values`. All
 // is judged before the first byte is written, so a refusal leaves `out` as it was.
@@ -22,7 +22,7 @@ pub fn write(
     values: &[u8],
     signature: &[u8],
     out: &mut [u8],
-) -> Writing
+) -> Result<usize, Refused>
     ensures answer { writing_of result ≡ told (writing
         (given header text.now rows.now values.now signature.now)
         (length out.old)) }
@@ -30,14 +30,11 @@ pub fn write(
         (given header text.now rows.now values.now signature.now)
         (length out.old)) out.old }
 {
-    let answer = write_judge::judge(header, text, rows, values, signature, out.len());
-    let Writing::Done(_) = answer else {
-        return answer;
-    };
+    let size = write_judge::judge(header, text, rows, values, signature, out.len())?;
     // the judging passed, so there is a version
-    let Stated::Is(version) = Version::from_number(header.version) else {
-        return answer;
+    let Ok(version) = Version::from_number(header.version) else {
+        return Err(Refused::Version);
     };
     put::put_seal(version, header, text, rows, values, signature, out);
-    answer
+    Ok(size)
 }

@@ -13,7 +13,7 @@ use dates::Date;
 use der::Form;
 use fields::Header;
 use octets::low;
-use rows::{Found, WIDTH, row_at};
+use rows::TableRows;
 use versions::Version;
 
 // Puts down a date, which was judged to be a day: its number MMDDYYYY.
@@ -66,23 +66,23 @@ pub(crate) fn put_length(version: Version, size: usize, out: &mut [u8], at: usiz
         return at + 1;
     }
     match der::length_form(size) {
-        Form::One(a) => {
+        Some(Form::One(a)) => {
             out[at] = a;
             at + 1
         }
-        Form::Two(a, b) => {
+        Some(Form::Two(a, b)) => {
             out[at] = a;
             out[at + 1] = b;
             at + 2
         }
-        Form::Three(a, b, c) => {
+        Some(Form::Three(a, b, c)) => {
             out[at] = a;
             out[at + 1] = b;
             out[at + 2] = c;
             at + 3
         }
         // no seal has one
-        Form::Longer => at,
+        None => at,
     }
 }
 
@@ -131,16 +131,12 @@ pub(crate) fn put_rows(
         (message_zone version (map (feature_of values.now) (rows_of rows.now))) }
 {
     let mut at = start;
-    let mut from: usize = 0;
-    loop {
-        let Found::Is(row) = row_at(rows, from) else {
-            return at;
-        };
+    for row in TableRows::of(rows) {
         let place = row.place;
         let end = place + row.size;
         at = put_feature(version, row.tag, &values[place..end], out, at);
-        from += WIDTH;
     }
+    at
 }
 
 // Puts down a seal whose parts were judged, from the start of `out`, which has room for it.

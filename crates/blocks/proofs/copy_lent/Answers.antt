@@ -1,6 +1,5 @@
 -- `blocks::copy_lent` meets its contract: where there is room, all blocks are put down.
 -- Assumes nothing.
-use borrow.Author.Rules.{rules}
 use native.Mathlib.Omega.{arith}
 use mathlib.Core.Path.{◌∙◌}
 use Rattle.octets.specs.Copy.Laws.{copied_not, copied_all}

@@ -1,6 +1,5 @@
 -- `blocks::copy_sixteen` meets its contract: eight bytes, and eight more where these end.
 -- Assumes nothing.
-use borrow.Author.Rules.{rules}
 use native.Mathlib.Omega.{arith}
 use mathlib.Core.Path.{ap, ◌∙◌}
 use Prim.Native.Nat.{◌+◌}

@@ -2,7 +2,7 @@
 -- Assumes nothing.
 use native.Mathlib.Omega.{arith}
 use mathlib.Core.Path.{◌≡◌, ap, sym, ◌∙◌}
-use Prim.Native.Nat.{◌+◌, ◌-◌, ◌≤◌}
+use Prim.Native.Nat.{◌+◌, ◌-◌}
 use lib.ListN.{length, take, drop, set, get_or}
 use lib.Seq.{length-take-le, take_all}
 use Rattle.format.specs.Buffer.{over}
@@ -45,12 +45,6 @@ kept2 c =
     let many = length-take-le c.loop-i-2.i a.from.now c.loop-i-2.invariant.0 in
     ap length c.loop-i-2.invariant.1 ∙ length_over a.out.now a.at (take c.loop-i-2.i a.from.now) (omega arith)
 
-pub overflow_sub-last : goal.overflow_sub-last
-overflow_sub-last c = omega arith
-
-pub copy_sixteen-requires : goal.copy_sixteen-requires
-copy_sixteen-requires c = (omega arith, omega arith)
-
 pub loop-i-init : goal.loop-i-init
 loop-i-init c =
     let a = c.args in
@@ -62,17 +56,8 @@ loop-i-init c =
       e ∙ sym (over_again a.out.now a.at p p (omega arith) (omega arith)) ∙ ap (λ o. over o a.at p) (sym e),
     )
 
-pub overflow_add-at : goal.overflow_add-at
-overflow_add-at c = omega arith
-
 pub copy_sixteen-requires-in-loop-i : goal.copy_sixteen-requires-in-loop-i
 copy_sixteen-requires-in-loop-i c = (omega arith, omega (arith, kept (goal.at.copy_sixteen-requires-in-loop-i c).At-loop-i))
-
-pub overflow_add-i : goal.overflow_add-i
-overflow_add-i c = omega arith
-
-pub loop-i-smaller : goal.loop-i-smaller
-loop-i-smaller c = omega arith
 
 pub loop-i-preserved : goal.loop-i-preserved
 loop-i-preserved c =
@@ -85,9 +70,6 @@ loop-i-preserved c =
           ∙ ap (λ o. over o (a.at + i) (take 16 (drop i from))) c.loop-i.invariant.2
           ∙ block from _ a.at i i 16 (omega arith) (omega arith) (omega arith) (omega arith),
     )
-
-pub overflow_add-at-then-n-gt16 : goal.overflow_add-at-then-n-gt16
-overflow_add-at-then-n-gt16 c = omega arith
 
 pub copy_sixteen-requires-then-n-gt16 : goal.copy_sixteen-requires-then-n-gt16
 copy_sixteen-requires-then-n-gt16 c = (omega arith, omega (arith, kept (goal.at.copy_sixteen-requires-then-n-gt16 c).At-loop-i))
@@ -105,18 +87,6 @@ returns-then-n-gt16 c =
     ∙ block from a.out.now a.at last c.loop-i.i 16 (omega arith) (omega arith) (omega arith) (omega arith)
     ∙ ap (over a.out.now a.at) (take_all (last + 16) from (omega arith))
 
-pub copy_eight-requires : goal.copy_eight-requires
-copy_eight-requires c = (omega arith, omega arith)
-
-pub overflow_add-at-then-n-ge8 : goal.overflow_add-at-then-n-ge8
-overflow_add-at-then-n-ge8 c = omega arith
-
-pub copy_eight-requires-then-n-ge8 : goal.copy_eight-requires-then-n-ge8
-copy_eight-requires-then-n-ge8 c = (omega arith, omega arith)
-
-pub shape_of-out-then-n-ge8 : goal.shape_of-out-then-n-ge8
-shape_of-out-then-n-ge8 c = omega arith
-
 pub returns-then-n-ge8 : goal.returns-then-n-ge8
 returns-then-n-ge8 c =
     let a = c.args in
@@ -130,20 +100,8 @@ returns-then-n-ge8 c =
 pub loop-i-2-init : goal.loop-i-2-init
 loop-i-2-init c = (omega arith, sym (over_none _ _))
 
-pub bounds-from-i : goal.bounds-from-i
-bounds-from-i c = omega arith
-
-pub overflow_add-out : goal.overflow_add-out
-overflow_add-out c = omega arith
-
 pub bounds-out-at : goal.bounds-out-at
 bounds-out-at c = omega (arith, kept2 (goal.at.bounds-out-at c).At-loop-i-2)
-
-pub overflow_add-i-in-loop-i-2 : goal.overflow_add-i-in-loop-i-2
-overflow_add-i-in-loop-i-2 c = omega arith
-
-pub loop-i-2-smaller : goal.loop-i-2-smaller
-loop-i-2-smaller c = omega arith
 
 pub loop-i-2-preserved : goal.loop-i-2-preserved
 loop-i-2-preserved c =

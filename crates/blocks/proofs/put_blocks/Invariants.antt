@@ -1,13 +1,8 @@
 -- `blocks::put_blocks` meets its contract. The loops' invariant: the first i bytes stand in `out`.
-use native.Mathlib.Omega.{arith}
-use mathlib.Core.Path.{◌≡◌, ap, sym, ◌∙◌}
-use Prim.Native.Nat.{◌+◌, ◌-◌, ◌≤◌}
-use lib.ListN.{length, take, drop, set, get_or}
-use lib.Seq.{length-take-le, take_all}
+use mathlib.Core.Path.{◌≡◌}
+use Prim.Native.Nat.{◌-◌, ◌≤◌}
+use lib.ListN.{length, take}
 use Rattle.format.specs.Buffer.{over}
-use Rattle.format.proofs.Buffer.Laws.{over_none, length_over}
-use Rattle.octets.specs.Copy.Laws.{one_more}
-use Rattle.blocks.specs.Blocks.{over_again, block}
 use Rattle.blocks.proofs.put_blocks.Given as goal
 
 abbrev pub invariant-loop-i : goal.invariant-loop-i
@@ -18,6 +13,3 @@ decreases-loop-i l = length l.from - l.i
 
 abbrev pub invariant-loop-i-2 : goal.invariant-loop-i-2
 invariant-loop-i-2 l = (l.i ≤ length l.from) × (l.out ≡ over l.initial.out l.at (take l.i l.from))
-
-abbrev pub decreases-loop-i-2 : goal.decreases-loop-i-2
-decreases-loop-i-2 l = length l.from - l.i

@@ -1,6 +1,6 @@
 -- The first faulty pair decides, exactly: a fault is told at a place exactly when the pair there has it and no pair before has any.
 -- Assumes nothing.
-use Rattle.std.specs.Prelude.{◌≡◌, refl, Bool, true, false, ℕ, zero, suc, ◌+◌, ◌*◌, ◌/◌, ◌%◌, ◌<◌, ◌≤◌, List, [], ◌∷◌, eqb, length, get_or}
+use Rattle.std.specs.Prelude.{◌≡◌, refl, Bool, true, false, ℕ, zero, suc, ◌+◌, ◌*◌, ◌/◌, ◌%◌, ◌<◌, ◌≤◌, List, [], ◌∷◌, eqb, length, get_or, Result, Err}
 use Rattle.std.proofs.Common.{ap, sym, subst, ◌∙◌, arith, eq-eqb, ne_eqb, eqb-true, length-append}
 use Rattle.std.proofs.lemmas.Bool.{eqb-false}
 use Rattle.format.specs.Choice.Laws.{by_test}
@@ -11,7 +11,6 @@ use Rattle.pairs.specs.Faults.{Has}
 use Rattle.pairs.proofs.Faults.Exact.{told_fault}
 use Rattle.pairs.specs.declared.decode.Fault.{Fault}
 use Rattle.pairs.specs.declared.decode.Pair.{Pair}
-use Rattle.pairs.specs.declared.decode.Pair.TheVariants.{Wrong}
 use Rattle.c40.specs.Decode.{Decoded, text, wrong, ahead, follow, none, decode, text_of, wrong_at}
 use Rattle.c40.proofs.Decode.Laws.{none_by_length, follow_good, ahead_text, wrong_text}
 
@@ -20,7 +19,7 @@ abbrev pub FaultAt : Fault → List ℕ → ℕ → Type 0
 FaultAt fault s at = Has fault (eqb (at + 2) (length s)) (get_or s at 0) (get_or s (at + 1) 0)
 
 -- what the last pair carries if it stands at this place
-abbrev pub last_pair : List ℕ → ℕ → Pair
+abbrev pub last_pair : List ℕ → ℕ → Result Pair Fault
 last_pair s at = pair_of the_chart true (get_or s at 0) (get_or s (at + 1) 0)
 
 -- this is the first pair that has a fault, and this is the fault
@@ -76,10 +75,10 @@ same_fault {f} e = ap (fault_or f) e
 
 -- one pair and the rest: a fault of the pair, or else what is told of the rest
 module _ (x y : ℕ) (s : List ℕ) where
-  abbrev pair : Pair
+  abbrev pair : Result Pair Fault
   pair = pair_of the_chart (none s) x y
 
-  first_here : (fault : Fault) → pair ≡ Wrong fault → First (x ∷ y ∷ s) fault 0
+  first_here : (fault : Fault) → pair ≡ Err fault → First (x ∷ y ∷ s) fault 0
   first_here fault e = record {
     even = refl;
     inside = omega arith;
@@ -125,7 +124,7 @@ told_first (x ∷ y ∷ s) at even fault place e =
     (suc (suc r.0), omega (arith, r.1), first_on x y s good fault r.0 r.2))
     (λ g bad.
     let is = sym (ap (λ q. follow at q d) bad) ∙ e in
-    (0, sym (same_place is) ∙ omega arith, first_here x y s fault (bad ∙ ap Wrong (same_fault is))))
+    (0, sym (same_place is) ∙ omega arith, first_here x y s fault (bad ∙ ap Err (same_fault is))))
 
 -- and the first is told
 pub first_told : (s : List ℕ) (at : ℕ) (fault : Fault) (i : ℕ) → First s fault i → decode at s ≡ wrong fault (at + i)

@@ -1,6 +1,6 @@
 -- Laws of reading pair by pair: characters in front, one pair more, the end.
 -- Assumes nothing.
-use Rattle.std.specs.Prelude.{◌≡◌, refl, true, false, ℕ, ◌+◌, ◌-◌, ◌<◌, ◌≤◌, List, [], ◌∷◌, ◌++◌, length}
+use Rattle.std.specs.Prelude.{◌≡◌, refl, true, false, ℕ, ◌+◌, ◌-◌, ◌<◌, ◌≤◌, List, [], ◌∷◌, ◌++◌, length, Ok, Err, Result}
 use Rattle.std.proofs.Math.Path.{ap}
 use Rattle.std.proofs.Common.{sym, ◌∙◌, eq-eqb, ne_eqb, append_assoc, append-nil, length-append, length-drop}
 use native.Mathlib.Omega.{arith}
@@ -12,8 +12,8 @@ use Rattle.pairs.specs.Pairs.{pair_of, chars_of}
 use Rattle.pairs.proofs.Pairs.Laws.{pair_full, chars_some, by_pair}
 use Rattle.pairs.specs.declared.decode.Fault.{Fault}
 use Rattle.pairs.specs.declared.decode.Pair.{Pair}
-use Rattle.pairs.specs.declared.decode.Pair.TheVariants.{Three, Two, One, Wrong}
-use Rattle.c40.specs.declared.Judged.TheVariants as judged
+use Rattle.pairs.specs.declared.decode.Pair.TheVariants.{Three, Two, One}
+use Rattle.c40.specs.declared.WrongPair.{WrongPair}
 use Rattle.c40.specs.Decode.{Decoded, text, wrong, ahead, follow, none, decode, text_of, judged_of}
 
 pub ahead_nothing : (d : Decoded) → ahead [] d ≡ d
@@ -33,20 +33,22 @@ pub wrong_text : {fault : Fault} {at : ℕ} {t : List ℕ} {d : Decoded} → d �
 wrong_text e f = let z : ◌≡◌ {A = ℕ} 0 1 = cc in omega arith
 
 -- what the judge said, turned back
-pub judged_wrong : (d : Decoded) (fault : Fault) (at : ℕ) → judged_of d ≡ judged.Wrong fault at → d ≡ wrong fault at
-judged_wrong (text t) fault at e = let z : ◌≡◌ {A = ℕ} 0 1 = cc in absurd (omega arith)
-judged_wrong (wrong f p) fault at e = cc
+pub judged_wrong : (d : Decoded) (w : WrongPair) → judged_of d ≡ Err w → d ≡ wrong w.fault w.place
+judged_wrong (text t) w e = let z : ◌≡◌ {A = ℕ} 0 1 = cc in absurd (omega arith)
+judged_wrong (wrong f p) w e =
+    let same : ◌≡◌ {A = WrongPair} (record { fault = f; place = p }) w = cc in
+    λ i. wrong (same i).fault (same i).place
 
-pub judged_text : (d : Decoded) (count : ℕ) → judged_of d ≡ judged.Text count → (d ≡ text (text_of d)) × (length (text_of d) ≡ count)
+pub judged_text : (d : Decoded) (count : ℕ) → judged_of d ≡ Ok count → (d ≡ text (text_of d)) × (length (text_of d) ≡ count)
 judged_text (text t) count e = (refl, cc)
 judged_text (wrong f p) count e = let z : ◌≡◌ {A = ℕ} 0 1 = cc in absurd (omega arith)
 
 -- a pair that carries characters
-pub follow_good : (at : ℕ) (p : Pair) (d : Decoded) → 0 < length (chars_of p) → follow at p d ≡ ahead (chars_of p) d
-follow_good at (Three a b c) d h = refl
-follow_good at (Two a b) d h = refl
-follow_good at (One a) d h = refl
-follow_good at (Wrong fault) d h = absurd (omega arith)
+pub follow_good : (at : ℕ) (p : Result Pair Fault) (d : Decoded) → 0 < length (chars_of p) → follow at p d ≡ ahead (chars_of p) d
+follow_good at (Ok (Three a b c)) d h = refl
+follow_good at (Ok (Two a b)) d h = refl
+follow_good at (Ok (One a)) d h = refl
+follow_good at (Err fault) d h = absurd (omega arith)
 
 pub none_by_length : (s : List ℕ) (n k : ℕ) → length s ≡ n - k → k ≤ n → none s ≡ eqb k n
 none_by_length [] n k e h = sym (eq-eqb k n (omega arith))
@@ -91,7 +93,7 @@ pub record Last (s : List ℕ) (i : ℕ) (before t : List ℕ) : Type 0 where
 
 -- a pair's turn: on to the next place, or the answer
 module _ (s : List ℕ) (i : ℕ) (before : List ℕ) (sofar : Sofar s i before) where
-  module _ (h : i + 2 ≤ length s) (pair : Pair) (e : pair ≡ pair_of the_chart (eqb (i + 2) (length s)) (get_or s i 0) (get_or s (i + 1) 0)) where
+  module _ (h : i + 2 ≤ length s) (pair : Result Pair Fault) (e : pair ≡ pair_of the_chart (eqb (i + 2) (length s)) (get_or s i 0) (get_or s (i + 1) 0)) where
     turn : decode 0 s ≡ ahead before (follow i pair (decode (i + 2) (drop (i + 2) s)))
     turn = sofar ∙ ap (ahead before) (decode_pair s i h ∙ ap (λ p. follow i p (decode (i + 2) (drop (i + 2) s))) (sym e))
 
@@ -100,7 +102,7 @@ module _ (s : List ℕ) (i : ℕ) (before : List ℕ) (sofar : Sofar s i before)
         turn ∙ ap (ahead before) (follow_good i pair (decode (i + 2) (drop (i + 2) s)) good)
         ∙ ahead_ahead before (chars_of pair) (decode (i + 2) (drop (i + 2) s))
 
-    pub sofar_wrong : (fault : Fault) → pair ≡ Wrong fault → decode 0 s ≡ wrong fault i
+    pub sofar_wrong : (fault : Fault) → pair ≡ Err fault → decode 0 s ≡ wrong fault i
     sofar_wrong fault bad = turn ∙ ap (λ p. ahead before (follow i p (decode (i + 2) (drop (i + 2) s)))) bad
 
     -- in bytes that decode as text the pair carries characters, and the text has them

@@ -1,6 +1,6 @@
 -- Laws of the published form: its size, its bytes, and text three characters at a time.
 -- Assumes nothing.
-use Rattle.std.specs.Prelude.{◌≡◌, refl, ℕ, ◌+◌, ◌/◌, ◌%◌, ◌<◌, ◌≤◌, List, [], ◌∷◌, ◌++◌, length}
+use Rattle.std.specs.Prelude.{◌≡◌, refl, ℕ, ◌+◌, ◌/◌, ◌%◌, ◌<◌, ◌≤◌, List, [], ◌∷◌, ◌++◌, length, Result, Ok, Err}
 use Rattle.std.proofs.Math.Path.{ap}
 use Rattle.std.proofs.Common.{sym, ◌∙◌, append-nil, length-append}
 use native.Mathlib.Omega.{arith}
@@ -14,8 +14,9 @@ use Rattle.pairs.specs.Chart.{value_of}
 use Rattle.pairs.specs.Chart.Laws.{char_below}
 use Rattle.c40.specs.Text.{Text, publish, width}
 use Rattle.pairs.specs.Pairs.{packed_of, triple, number, chars_of, form_of}
+use Rattle.pairs.specs.declared.decode.Fault.{Fault}
 use Rattle.pairs.specs.declared.decode.Pair.{Pair}
-use Rattle.pairs.specs.declared.decode.Pair.TheVariants.{Three, Two, One, Wrong}
+use Rattle.pairs.specs.declared.decode.Pair.TheVariants.{Three, Two, One}
 
 pub length_publish : (t : List ℕ) → length (publish t) ≡ width (length t)
 unfolding publish triple
@@ -55,14 +56,14 @@ unfolding publish
 publish_none = refl
 
 -- the form of what a pair carries
-pub publish_pair : (p : Pair) → publish (chars_of p) ≡ form_of p
-publish_pair (Three a b c) =
+pub publish_pair : (p : Result Pair Fault) → publish (chars_of p) ≡ form_of p
+publish_pair (Ok (Three a b c)) =
     publish_three a b c []
     ∙ ap (λ q. triple (value_of a) (value_of b) (value_of c) ++ q) publish_none
     ∙ append-nil (triple (value_of a) (value_of b) (value_of c))
-publish_pair (Two a b) = publish_two a b
-publish_pair (One a) = publish_one a
-publish_pair (Wrong fault) = publish_none
+publish_pair (Ok (Two a b)) = publish_two a b
+publish_pair (Ok (One a)) = publish_one a
+publish_pair (Err fault) = publish_none
 
 -- what is left of text at a place, three characters at a time: three or more, two, one, none
 module _ (t : List ℕ) (i : ℕ) where

@@ -1,6 +1,6 @@
 -- Laws of the pairs before the last: one pair more, how many characters they carry, and what the bytes decode as.
 -- Assumes nothing.
-use Rattle.std.specs.Prelude.{◌≡◌, refl, false, ℕ, zero, suc, ◌+◌, ◌*◌, ◌/◌, ◌%◌, ◌<◌, ◌≤◌, List, ◌++◌, ltb, eqb, length, get_or}
+use Rattle.std.specs.Prelude.{◌≡◌, refl, false, ℕ, zero, suc, ◌+◌, ◌*◌, ◌/◌, ◌%◌, ◌<◌, ◌≤◌, List, ◌++◌, ltb, eqb, length, get_or, Result, Err}
 use Rattle.std.proofs.Common.{ap, sym, subst, ◌∙◌, arith, eq-eqb, ne_eqb, ltb-true, ltb-false, eqb-true, length-append}
 use Rattle.std.proofs.lemmas.Bool.{eqb-false}
 use Rattle.format.specs.Choice.Laws.{by_test}
@@ -9,7 +9,6 @@ use Rattle.pairs.specs.Pairs.{pair_of, chars_of}
 use Rattle.pairs.proofs.Pairs.Laws.{pair_full, chars_some}
 use Rattle.pairs.specs.declared.decode.Fault.{Fault}
 use Rattle.pairs.specs.declared.decode.Pair.{Pair}
-use Rattle.pairs.specs.declared.decode.Pair.TheVariants.{Wrong}
 use Rattle.c40.specs.Decode.{decode, text, wrong}
 use Rattle.c40.proofs.Decode.Laws.{Sofar, sofar_start, sofar_more, sofar_wrong, sofar_end}
 use Rattle.c40_read.specs.Full.{inner, before, FullTo, Stopped}
@@ -60,13 +59,13 @@ before_sofar s (suc (suc i)) f h =
     (sofar_more s i (before s i) ih (omega arith) (pair_of the_chart false (get_or s i 0) (get_or s (i + 1) 0)) is (omega arith))
 
 -- the bytes are text: the characters of the pairs before the last, and those of the last
-pub record Whole (s : List ℕ) (last : ℕ) (pair : Pair) : Type 0 where
+pub record Whole (s : List ℕ) (last : ℕ) (pair : Result Pair Fault) : Type 0 where
   pub is_text_lem : decode 0 s ≡ text (before s last ++ chars_of pair)
   pub size : length (before s last ++ chars_of pair) ≡ last / 2 * 3 + length (chars_of pair)
 
 -- where the pairs stopped to be full, the pair that stands there decides
 module _ (s : List ℕ) (last at : ℕ) (ends : last + 2 ≡ length s) (stopped : Stopped s last at)
-    (pair : Pair) (e : pair ≡ pair_of the_chart (eqb at last) (get_or s at 0) (get_or s (at + 1) 0)) where
+    (pair : Result Pair Fault) (e : pair ≡ pair_of the_chart (eqb at last) (get_or s at 0) (get_or s (at + 1) 0)) where
   sofar : Sofar s at (before s at)
   sofar = before_sofar s at stopped.full (omega (arith, stopped.inside))
 
@@ -78,7 +77,7 @@ module _ (s : List ℕ) (last at : ℕ) (ends : last + 2 ≡ length s) (stopped 
       (λ t. t ∙ sym (ne_eqb (at + 2) (length s) (λ z. eqb-false at last t (omega arith)))) in
       e ∙ ap (λ l. pair_of the_chart l (get_or s at 0) (get_or s (at + 1) 0)) same
 
-  pub stopped_wrong : (fault : Fault) → pair ≡ Wrong fault → decode 0 s ≡ wrong fault at
+  pub stopped_wrong : (fault : Fault) → pair ≡ Err fault → decode 0 s ≡ wrong fault at
   stopped_wrong fault bad = sofar_wrong s at (before s at) sofar (omega (arith, stopped.inside)) pair by_end fault bad
 
   module _ (good : 0 < length (chars_of pair)) where

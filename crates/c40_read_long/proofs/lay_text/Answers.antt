@@ -1,6 +1,5 @@
 -- `c40_read_long::lay_text` meets its contract: all pairs before the last are put down, and then the last.
 -- Assumes nothing.
-use borrow.Author.Rules.{rules}
 use mathlib.Core.Path.{refl}
 use mathlib.Core.List.{List}
 use Prim.Native.Nat.{ℕ, ◌*◌, ◌-◌, ◌/◌}
@@ -17,11 +16,8 @@ bytes c = c.args.bytes.now
 come : (c : Else-not-put_front) → Come (bytes c) (length (bytes c) - 2) c.put_front.new.text ((length (bytes c) - 2) / 2 * 3)
 come c = c.put_front.ensures c.if-not-put_front.false
 
-pub lay_heads-requires : goal.lay_heads-requires
-lay_heads-requires c = (c.the_chart-chart.ensures, sound_blank HeadAt 41 _ refl)
-
-pub lay-requires : goal.lay-requires
-lay-requires c = (c.the_chart-chart.ensures, sound_blank TailAt 1601 _ refl)
+pub invariant_of-tables : goal.invariant_of-tables
+invariant_of-tables c = record { heads_are_sound = sound_blank HeadAt 41 _ refl; tails_are_sound = sound_blank TailAt 1601 _ refl }
 
 pub put_last-requires : goal.put_last-requires
 put_last-requires c =

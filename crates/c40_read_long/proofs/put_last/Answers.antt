@@ -1,6 +1,5 @@
 -- `c40_read_long::put_last` meets its contract: where the last pair is text of its own, it ends the text.
 -- Assumes nothing.
-use borrow.Author.Rules.{rules}
 use native.Mathlib.Omega.{arith}
 use mathlib.Core.Path.{refl, ap, sym, ◌∙◌}
 use mathlib.Core.List.{List}
@@ -9,7 +8,7 @@ use lib.ListN.{length, take, drop, length-take}
 use Rattle.c40.specs.Calls.{reading_of}
 use Rattle.c40_read_long.specs.Laid.Laws.{Read, read_done, come_last, last_is, last_two}
 use Rattle.c40_read_long.proofs.put_last.Goals as goal
-use Rattle.c40_read_long.proofs.put_last.Goals.{After-read-read, In-Done}
+use Rattle.c40_read_long.proofs.put_last.Goals.{After-read-read, In-Ok}
 
 abbrev bytes : After-read-read → List ℕ
 bytes c = c.args.bytes.now
@@ -25,11 +24,11 @@ abbrev lent : After-read-read → List ℕ
 lent c = let text = c.args.text.now in take (length text - at c) (drop (at c) text)
 
 -- what was read there
-is_read : (c : In-Done) → Read (pair (goal.at.In-Done c).After-read-read) (length (lent (goal.at.In-Done c).After-read-read)) c.in-Done.more
+is_read : (c : In-Ok) → Read (pair (goal.at.In-Ok c).After-read-read) (length (lent (goal.at.In-Ok c).After-read-read)) c.in-Ok.more
 is_read c =
-    let two = last_two (bytes (goal.at.In-Done c).After-read-read) c.requires.0.some in
-    read_done (pair (goal.at.In-Done c).After-read-read) (length (lent (goal.at.In-Done c).After-read-read)) _ (omega arith) (λ odd. omega arith)
-    (sym (ap reading_of c.in-Done.is) ∙ c.read-read.ensures.answer)
+    let two = last_two (bytes (goal.at.In-Ok c).After-read-read) c.requires.0.some in
+    read_done (pair (goal.at.In-Ok c).After-read-read) (length (lent (goal.at.In-Ok c).After-read-read)) _ (omega arith) (λ odd. omega arith)
+    (sym (ap reading_of c.in-Ok.is) ∙ c.read-read.ensures.answer)
 
 -- the place is in the text
 inside : (c : After-read-read) → at c ≤ length c.args.text.now

@@ -1,11 +1,12 @@
 -- Laws of the laid out chart: a blank table, one entry more, what two entries that are not 0 say of a pair, and the text so far.
 -- Assumes nothing.
-use Rattle.std.specs.Prelude.{◌≡◌, refl, true, false, ℕ, zero, suc, ◌+◌, ◌-◌, ◌*◌, ◌/◌, ◌%◌, ◌^◌, ◌<◌, ◌≤◌, List, [], ◌∷◌, ◌++◌, eqb, ltb, length, get_or, set, take, drop, replicate}
+use Rattle.std.specs.Prelude.{◌≡◌, refl, true, false, ℕ, zero, suc, ◌+◌, ◌-◌, ◌*◌, ◌/◌, ◌%◌, ◌^◌, ◌<◌, ◌≤◌, List, [], ◌∷◌, ◌++◌, eqb, ltb, length, get_or, set, take, drop, replicate, Result, Ok}
 use Rattle.std.proofs.Common.{ap, sym, subst, ◌∙◌, arith, eqb-true, ne_eqb, ltb-true, ltb-false, append_assoc, length-append, length-take, length-drop, length-set, get_or-set_same, get_or-set_other, take_at, take_all, length-take-le}
 use Rattle.std.proofs.lemmas.Bool.{eqb-false}
 use Rattle.std.specs.Int.Bits.{bit_and}
 use Rattle.std.proofs.lemmas.Nat.Bits.{and_high}
-use Rattle.std.proofs.lemmas.List.{length-replicate, get_or-replicate}
+use Rattle.std.proofs.lemmas.List.{length-replicate, get_or-replicate, get_or-append_right, get_or-drop}
+use Rattle.std.proofs.Math.ListN.{get_or-append}
 use Rattle.format.specs.Answers.{Outcome, done, told, filled}
 use Rattle.format.specs.Choice.Laws.{by_test}
 use Rattle.format.specs.Buffer.{over}
@@ -14,13 +15,14 @@ use Rattle.pairs.specs.Chart.{the_chart, char}
 use Rattle.pairs.specs.Chart.Laws.{char_in_lem, char_below}
 use Rattle.pairs.specs.Pairs.{number, first, second, third, pair_of, chars_of}
 use Rattle.pairs.proofs.Pairs.Laws.{pair_values, values_three, by_pair}
+use Rattle.pairs.specs.declared.decode.Fault.{Fault}
 use Rattle.pairs.specs.declared.decode.Pair.{Pair}
 use Rattle.pairs.specs.declared.decode.Pair.TheVariants.{Three}
 use Rattle.c40.specs.Calls.{reading, reading_of}
 use Rattle.c40.proofs.Calls.Laws.{fault_some, reading_wrong, reading_no_room, reading_done}
 use Rattle.c40.specs.Decode.{Decoded, decode, text, wrong, ahead, follow, none}
 use Rattle.c40.proofs.Decode.Laws.{sofar_start, sofar_more, follow_good, ahead_text, wrong_text}
-use Rattle.c40.specs.declared.Reading.TheVariants.{Done}
+use Rattle.std.specs.Prelude.{Ok}
 use Rattle.c40_read_long.specs.Laid.{Sound, HeadAt, TailAt, Heads, Tails, Full, Come, Decodes}
 
 module _ (Right : ℕ → ℕ → Type 0) (n : ℕ) where
@@ -52,8 +54,28 @@ char_some (suc zero) h = absurd (omega arith)
 char_some (suc (suc zero)) h = absurd (omega arith)
 char_some (suc (suc (suc v))) h = omega arith
 
+chart_size : length the_chart ≡ 40
+unfolding the_chart
+chart_size = refl
+
 pub head_right : (a x : ℕ) → a < 40 → x ≡ char a → 0 < x → HeadAt a x
 head_right a x k e some = (char_some a (omega arith), k, e)
+
+-- the chart, and what stood behind it
+pub heads_laid : (chart heads : List ℕ) → chart ≡ the_chart → Heads heads → Heads (chart ++ drop 40 heads)
+heads_laid chart heads e h =
+    let many : length chart ≡ 40 = ap length e ∙ chart_size in record {
+      size = omega (arith, length-append chart (drop 40 heads), length-drop 40 heads, h.size);
+      right = λ i k some. by_test (ltb i 40)
+          (λ t. let low = ltb-true i 40 t in
+          head_right i (get_or (chart ++ drop 40 heads) i 0) low
+          (get_or-append chart (drop 40 heads) 0 i (omega arith) ∙ ap (λ l. get_or l i 0) e) some)
+          (λ t. let high = ltb-false i 40 t in
+          let back : 40 + (i - 40) ≡ i = omega arith in
+          let is : get_or (chart ++ drop 40 heads) i 0 ≡ get_or heads i 0 =
+          get_or-append_right chart (drop 40 heads) 40 i 0 many high ∙ get_or-drop 40 heads (i - 40) 0 ∙ ap (λ j. get_or heads j 0) back in
+          subst (λ x. HeadAt i x) (sym is) (h.right i k (omega arith)));
+    }
 
 pub tail_right : (b c x : ℕ) → 3 ≤ b → b < 40 → 3 ≤ c → c < 40 → x ≡ char c * 256 + char b → TailAt (b * 40 + 1 + c) x
 tail_right b c x hb kb hc kc e =
@@ -107,7 +129,7 @@ module _
     abbrev tail_of : ℕ
     tail_of = get_or tails (n - n * 41943 / 67108864 * 1600) 0
 
-    pub full_pair : 0 < head_of → 0 < tail_of → pair_of the_chart false x y ≡ Three head_of (tail_of % 256) (tail_of / 256 % 256)
+    pub full_pair : 0 < head_of → 0 < tail_of → pair_of the_chart false x y ≡ Ok (Three head_of (tail_of % 256) (tail_of / 256 % 256))
     full_pair ha hr =
         let m = number x y in
         let a = n * 41943 / 67108864 in
@@ -124,7 +146,7 @@ module _
         (char_small ((r - 1) % 40) t.2 (omega arith)) t.3 in
         sym (pair_values the_chart false x y low (omega arith))
         ∙ sym (values_three the_chart false (first m) (second m) (third m) (omega arith) (omega arith) (omega arith))
-        ∙ (λ i. Three (sym (h.2 ∙ ap char f) i) (sym (cut.0 ∙ ap char b) i) (sym (cut.1 ∙ ap char c) i))
+        ∙ (λ i. Ok (Three (sym (h.2 ∙ ap char f) i) (sym (cut.0 ∙ ap char b) i) (sym (cut.1 ∙ ap char c) i)))
 
     -- and three stores put them down
     pub full_put :
@@ -197,7 +219,7 @@ come_more bytes i out at come after k next h room full =
 
 -- bytes that decode as text do so from any place on
 follow_from :
-    (i j : ℕ) (p : Pair) (d d' : Decoded) (t : List ℕ) →
+    (i j : ℕ) (p : Result Pair Fault) (d d' : Decoded) (t : List ℕ) →
     ((u : List ℕ) → d ≡ text u → d' ≡ text u) →
     follow i p d ≡ text t →
     follow j p d' ≡ text t
@@ -224,7 +246,7 @@ pub record Read (s : List ℕ) (room count : ℕ) : Type 0 where
   pub fits : count ≤ room
 
 module _ (s : List ℕ) (room count : ℕ) (size : length s ≤ 4096) (even : length s % 2 ≡ 1 → ⊥) where
-  pub read_done : reading_of (Done count) ≡ told (reading s room) → Read s room count
+  pub read_done : reading_of (Ok count) ≡ told (reading s room) → Read s room count
   read_done e = by (decode 0 s) refl
     where
       told_number : {o : Outcome} → reading s room ≡ o → 0 ≡ o.number

@@ -1,11 +1,9 @@
 -- `c40_write::write` meets its contract: each `return` is one case of the definition, with the tests that led there.
 -- Assumes nothing.
-use borrow.Author.Rules.{rules}
 use borrow.Author.Tests.{leb-true, leb-false}
 use native.Mathlib.Omega.{arith}
 use mathlib.Core.Path.{◌∙◌, sym, ap}
-use Prim.Native.Nat.{ℕ, ◌*◌, ◌<◌, ◌≤◌}
-use mathlib.Core.List.{List}
+use Prim.Native.Nat.{◌*◌, ◌<◌, ◌≤◌}
 use lib.ListN.{length}
 use Rattle.format.specs.Answers.{refused}
 use Rattle.format.proofs.Answers.Laws.{refuses, gives}
@@ -46,7 +44,7 @@ returns-then-out-size c =
 
 pub put-requires : goal.put-requires
 put-requires c =
-    (c.turned_chart-values.ensures, known_text c.args.text.now (good (goal.at.put-requires c).Else-not-all_known), omega arith)
+    (known_text c.args.text.now (good (goal.at.put-requires c).Else-not-all_known), omega arith)
 
 pub returns : goal.returns
 returns c =

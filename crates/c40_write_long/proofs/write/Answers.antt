@@ -1,7 +1,6 @@
 -- `c40_write_long::write` meets its contract: what `c40_write` answers is the definition's, and so is each other `return`, with the tests
 -- that led there.
 -- Assumes nothing.
-use borrow.Author.Rules.{rules}
 use native.Mathlib.Omega.{arith}
 use mathlib.Core.Path.{◌≡◌, ◌∙◌, sym, ap}
 use Prim.Native.Nat.{ℕ, ◌*◌, ◌≤◌}

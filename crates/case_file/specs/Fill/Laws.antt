@@ -1,19 +1,34 @@
--- A turn of the loop that looks whether every byte from a place on is the filling.
+-- Whether every byte of a text is the filling, by its bytes: each is, or one is not.
 -- Assumes nothing.
-use Rattle.std.specs.Prelude.{ℕ, suc, ◌≤◌, ◌<◌, ◌≡◌, true, false, List, length, get_or, drop}
+use Rattle.std.specs.Prelude.{ℕ, zero, suc, ◌<◌, ◌≡◌, Bool, true, false, cond, eqb, List, [], ◌∷◌, length}
+use Rattle.std.specs.Bool.{MatchBool}
+use Rattle.std.specs.List.{AllWithin, HoldsAt}
 use borrow.Author.Tests.{eq-eqb, ne_eqb}
-use Rattle.std.proofs.Common.{drop_of_length-le, drop-cons}
+use Rattle.std.proofs.Common.{sym, ◌∙◌, refl, arith}
+use Rattle.std.proofs.Math.Path.{ap}
 use Rattle.case_file.specs.Fill.{all_are}
 
-module _ (s : List ℕ) (i filling : ℕ) (here : i < length s) where
-  pub all_turn : get_or s i 0 ≡ filling → all_are filling (drop i s) ≡ all_are filling (drop (suc i) s)
-  unfolding all_are
-  all_turn e = rw (drop-cons s i 0, eq-eqb (get_or s i 0) filling e)
+no_more : (b : Bool) → false ≡ cond b false false
+no_more true = refl
+no_more false = refl
 
-  pub all_not : (get_or s i 0 ≡ filling → ⊥) → all_are filling (drop i s) ≡ false
+module _ (filling : ℕ) where
+  all_same : (t : List ℕ) → AllWithin (λ b. b ≡ filling) t 0 (length t) → true ≡ all_are filling t
   unfolding all_are
-  all_not n = rw (drop-cons s i 0, ne_eqb (get_or s i 0) filling n)
+  all_same [] f = refl
+  all_same (b ∷ t) f =
+      let rest = all_same t (λ k d l h. f (suc k) d (omega arith) (omega arith)) in
+      rest ∙ sym (ap (λ e. cond e (all_are filling t) false) (eq-eqb b filling (f 0 0 (omega arith) (omega arith))))
 
-pub all_end : (s : List ℕ) (i filling : ℕ) → length s ≤ i → all_are filling (drop i s) ≡ true
-unfolding all_are
-all_end s i filling h = rw (drop_of_length-le s h)
+  one_other : (t : List ℕ) (k : ℕ) → k < length t → HoldsAt (λ b. b ≡ filling → ⊥) t k → false ≡ all_are filling t
+  unfolding all_are
+  one_other [] k h f = absurd (omega arith)
+  one_other (b ∷ t) zero h f = sym (ap (λ e. cond e (all_are filling t) false) (ne_eqb b filling (f 0)))
+  one_other (b ∷ t) (suc k) h f = no_more (eqb b filling) ∙ ap (λ a. cond (eqb b filling) a false) (one_other t k (omega arith) f)
+
+  pub all_by_cases :
+      (t : List ℕ) (r : Bool) →
+      MatchBool r (AllWithin (λ b. b ≡ filling) t 0 (length t)) ((k : ℕ) × (k < length t) × HoldsAt (λ b. b ≡ filling → ⊥) t k) →
+      r ≡ all_are filling t
+  all_by_cases t true f = all_same t f
+  all_by_cases t false (k, h, f) = one_other t k h f

@@ -1,25 +1,32 @@
--- The letter in the turns of the loop that looks for it, and a number with `~` before it or without.
+-- The first such letter of a line, and a number with `~` before it or without.
 -- Assumes nothing.
-use Rattle.std.specs.Prelude.{ℕ, suc, ◌+◌, ◌-◌, ◌≤◌, ◌<◌, ◌≡◌, List, length, get_or, drop}
-use Rattle.std.proofs.Common.{ap, arith, drop_of_length-le, drop-cons}
+use Rattle.std.specs.Prelude.{ℕ, zero, suc, ◌+◌, ◌-◌, ◌≤◌, ◌<◌, ◌≡◌, refl, List, [], ◌∷◌, length, get_or}
+use Rattle.std.proofs.Common.{ap, arith}
 use borrow.Author.Tests.{eq-eqb, ne_eqb}
 use Rattle.std.proofs.Math.Decide.{dec_le}
 use Rattle.std.proofs.Math.ListN.{get_or-eq_default}
 use Rattle.case_scan.specs.Scan.{number_at, number_end}
 use Rattle.case_file.specs.Given.{after_first, any_number_at, any_number_end}
 
-module _ (s : List ℕ) (i letter : ℕ) (here : i < length s) where
-  pub after_found : get_or s i 0 ≡ letter → after_first letter (drop i s) ≡ 1
-  unfolding after_first
-  after_found e = rw (drop-cons s i 0, eq-eqb (get_or s i 0) letter e)
-
-  pub after_turn : (get_or s i 0 ≡ letter → ⊥) → after_first letter (drop i s) ≡ suc (after_first letter (drop (suc i) s))
-  unfolding after_first
-  after_turn n = rw (drop-cons s i 0, ne_eqb (get_or s i 0) letter n)
-
-pub after_end : (s : List ℕ) (i letter : ℕ) → length s ≤ i → after_first letter (drop i s) ≡ 0
+pub after_found :
+    (letter : ℕ) (s : List ℕ) (i : ℕ) →
+    i < length s →
+    get_or s i 0 ≡ letter →
+    ((k : ℕ) → k < i → get_or s k 0 ≡ letter → ⊥) →
+    after_first letter s ≡ i + 1
 unfolding after_first
-after_end s i letter h = rw (drop_of_length-le s h)
+after_found letter [] i h e f = absurd (omega arith)
+after_found letter (b ∷ t) zero h e f = rw (eq-eqb b letter e)
+after_found letter (b ∷ t) (suc i) h e f =
+    let rest = after_found letter t i (omega arith) e (λ k g. f (suc k) (omega arith)) in
+    rw (ne_eqb b letter (f 0 (omega arith))) (omega arith)
+
+pub after_none : (letter : ℕ) (s : List ℕ) → ((k : ℕ) → k < length s → get_or s k 0 ≡ letter → ⊥) → after_first letter s ≡ length s
+unfolding after_first
+after_none letter [] f = refl
+after_none letter (b ∷ t) f =
+    let rest = after_none letter t (λ k g. f (suc k) (omega arith)) in
+    rw (ne_eqb b letter (f 0 (omega arith))) (ap suc rest)
 
 -- where `~` stands there is a byte
 pub tilde_there : (s : List ℕ) (i : ℕ) → get_or s i 10 ≡ 126 → i < length s

@@ -1,10 +1,13 @@
 -- What numbers and bytes are put down as, in the turns of the loops that do it.
 -- Assumes nothing.
-use Rattle.std.specs.Prelude.{ℕ, suc, ◌+◌, ◌*◌, ◌/◌, ◌%◌, ◌<◌, ◌≡◌, refl, List, [], ◌∷◌, ◌++◌, length, get_or, take, drop}
-use Rattle.std.proofs.Common.{arith, suc-mul, ap, append_assoc, append-nil, add-one, take-suc, drop-cons}
-pub use Rattle.lines.specs.Line.Laws.{within_more, counts, put_none, put_more}
+use Rattle.std.specs.Prelude.{ℕ, suc, ◌+◌, ◌*◌, ◌/◌, ◌%◌, ◌<◌, ◌≡◌, refl, List, [], ◌∷◌, ◌++◌, length, get_or, take}
+use Rattle.std.proofs.Common.{arith, suc-mul, ap, append_assoc, append-nil, add-one, take-suc}
+pub use Rattle.lines.specs.Line.Laws.{counts}
+use Rattle.lines.specs.declared.written.Line.{Line}
+use Rattle.lines.specs.Written.{Puts}
+pub use Rattle.lines.specs.Written.Laws.{puts_none, puts_more}
 use Rattle.format.specs.Hex.{hex_digit}
-use Rattle.case_file.specs.Line.{Put, decimal_of, words_of, hex_of, weighted}
+use Rattle.case_file.specs.Line.{decimal_of, words_of, hex_of, weighted}
 
 pub words_more : (xs : List ℕ) (n : ℕ) → words_of (xs ++ (n ∷ [])) ≡ words_of xs ++ (32 ∷ decimal_of n)
 unfolding words_of
@@ -19,27 +22,14 @@ hex_more [] b = refl
 hex_more (x ∷ xs) b = ap (λ (t : List ℕ). hex_digit (x / 16) ∷ hex_digit (x % 16) ∷ t) (hex_more xs b)
 
 -- a turn of the loop that puts down numbers, and of the one that puts down bytes in hex
-module _ (s old : List ℕ) (at i : ℕ) (here : i < length s) (mid : List ℕ) (m : ℕ) (long : length mid ≡ length old) where
-  pub words_turn :
-      (mid' : List ℕ) (m' : ℕ) →
-      length mid' ≡ length mid →
-      (new : List ℕ) (r : ℕ) →
-      Put old at (words_of (take i s)) mid m →
-      Put mid m (32 ∷ []) mid' m' →
-      Put mid' m' (decimal_of (get_or s i 0)) new r →
-      Put old at (words_of (take (i + 1) s)) new r
-  words_turn mid' m' g new r p q t =
-      let both : Put mid m (32 ∷ decimal_of (get_or s i 0)) new r = put_more mid m (32 ∷ []) mid' m' (decimal_of (get_or s i 0)) new r q g t in
-      rw (add-one, take-suc s i 0, words_more) (put_more old at (words_of (take i s)) mid m _ new r p long both)
+module _ (s : List ℕ) (i : ℕ) (here : i < length s) (a b c d : Line) where
+  pub words_turn : Puts a (words_of (take i s)) b → Puts b (32 ∷ []) c → Puts c (decimal_of (get_or s i 0)) d → Puts a (words_of (take (i + 1) s)) d
+  words_turn p q t = rw (add-one, take-suc s i 0, words_more) (puts_more _ _ _ _ _ p (puts_more _ _ _ _ _ q t))
 
-  pub hex_turn : (high low : ℕ) → high ≡ hex_digit (get_or s i 0 / 16) → low ≡ hex_digit (get_or s i 0 % 16) →
-      (mid' : List ℕ) (m' : ℕ) → length mid' ≡ length mid → (new : List ℕ) (r : ℕ) → Put old at (hex_of (take i s)) mid m →
-      Put mid m (high ∷ []) mid' m' → Put mid' m' (low ∷ []) new r → Put old at (hex_of (take (i + 1) s)) new r
-  hex_turn high low e f mid' m' g new r p q t =
-      let one = hex_digit (get_or s i 0 / 16) in
-      let two = hex_digit (get_or s i 0 % 16) in
-      let both : Put mid m (one ∷ two ∷ []) new r = put_more mid m (one ∷ []) mid' m' (two ∷ []) new r (rw e at q) g (rw f at t) in
-      rw (add-one, take-suc s i 0, hex_more) (put_more old at (hex_of (take i s)) mid m _ new r p long both)
+  pub hex_turn : (high low : ℕ) → high ≡ hex_digit (get_or s i 0 / 16) → low ≡ hex_digit (get_or s i 0 % 16) → Puts a (hex_of (take i s)) b
+      → Puts b (high ∷ []) c → Puts c (low ∷ []) d → Puts a (hex_of (take (i + 1) s)) d
+  hex_turn high low e f p q t =
+      rw (add-one, take-suc s i 0, hex_more) (puts_more _ _ _ _ _ p (puts_more _ _ _ _ _ (rw e at q) (rw f at t)))
 
 -- the plain sum of all bytes, which is what a place one further on adds
 unfoldable pub total : List ℕ → ℕ
@@ -54,16 +44,9 @@ further k (b ∷ t) =
     let f : suc k * b ≡ k * b + b = suc-mul k b in
     omega arith
 
--- a turn of the loop that sums up from the end, one place further to the front
-pub total_turn : (s : List ℕ) (i : ℕ) → i < length s → total (drop i s) ≡ get_or s i 0 + total (drop (suc i) s)
-unfolding total
-total_turn s i h = rw (drop-cons s i 0)
-
-pub weighted_turn :
-    (s : List ℕ) (i : ℕ) →
-    i < length s →
-    weighted 1 (drop i s) ≡ get_or s i 0 + total (drop (suc i) s) + weighted 1 (drop (suc i) s)
+-- one byte more at the front
+pub weighted_more : (b : ℕ) (t : List ℕ) → weighted 1 (b ∷ t) ≡ b + total t + weighted 1 t
 unfolding weighted
-weighted_turn s i h =
-    let e : weighted 2 (drop (suc i) s) ≡ weighted 1 (drop (suc i) s) + total (drop (suc i) s) = further 1 (drop (suc i) s) in
-    rw (drop-cons s i 0) (omega arith)
+weighted_more b t =
+    let e : weighted 2 t ≡ weighted 1 t + total t = further 1 t in
+    omega arith

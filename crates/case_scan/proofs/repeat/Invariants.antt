@@ -1,13 +1,8 @@
--- `case_scan::repeat` meets its contract. The loop's invariant: the pairs are put down k - 1 times.
-use mathlib.Core.Path.{◌≡◌}
-use Prim.Native.Nat.{◌-◌, ◌≤◌}
-use lib.ListN.{length}
-use Rattle.lines.specs.Line.{Put}
+-- `case_scan::repeat` meets its contract. The loop's invariant: the pairs are put down once less than the counter says.
+use Rattle.std.proofs.Common.{◌-◌, ◌≤◌}
+use Rattle.lines.specs.Written.{Puts}
 use Rattle.case_scan.specs.Scan.{times, pairs_at}
 use Rattle.case_scan.proofs.repeat.Given as goal
 
-abbrev pub invariant-loop-k : goal.invariant-loop-k
-invariant-loop-k l = (length l.out ≡ length l.initial.out) × (1 ≤ l.k) × (l.k - 1 ≤ l.count - 1) × Put l.initial.out l.to (times (l.k - 1) (pairs_at l.s l.from)) l.out l.o
-
-abbrev pub decreases-loop-k : goal.decreases-loop-k
-decreases-loop-k l = l.count - l.k
+abbrev pub invariant-loop : goal.invariant-loop
+invariant-loop l = (l.counter - 1 ≤ l.count - 1) × Puts l.initial.out (times (l.counter - 1) (pairs_at l.s l.from)) l.out

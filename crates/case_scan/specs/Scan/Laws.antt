@@ -3,7 +3,7 @@
 use Prim.Native.Nat.{ℕ, zero, suc, ◌+◌, ◌*◌, ◌-◌, ◌≤◌, ◌<◌}
 use native.Mathlib.Omega.{arith}
 use Rattle.std.proofs.Math.Decide.{dec_le}
-use Rattle.std.proofs.Common.{not-suc-le-zero, le_of_suc-le-suc, below_more, ◌∙◌, length-append, drop_of_length-le, drop-cons, add-one}
+use Rattle.std.proofs.Common.{below_more, ◌∙◌, length-append, drop_of_length-le, drop-cons, add-one}
 use borrow.Author.Tests.{lt-ltb, le-ltb, le-leb, lt-leb, eq-eqb, ne_eqb}
 use Rattle.std.specs.Prelude.{◌≡◌, refl, Bool}
 use Rattle.std.proofs.Math.Path.{ap, sym}
@@ -13,16 +13,21 @@ use mathlib.Core.List.{List, [], ◌∷◌, ◌++◌, append_assoc, append-nil}
 use Rattle.std.proofs.Math.ListN.{length, get_or, drop, get_or-eq_default}
 use Rattle.format.specs.Hex.{hex_value}
 use Rattle.format.proofs.Hex.Laws.{value_most}
-use Rattle.lines.specs.Line.{Put}
-use Rattle.lines.specs.Line.Laws.{put_more}
+use Rattle.lines.specs.Written.{Puts}
+use Rattle.lines.specs.Written.Laws.{puts_more}
+use Rattle.lines.specs.declared.written.Line.{Line}
 use Rattle.case_scan.specs.Scan.{Numeral, value_of, pairs_of, pairs_at, pairs_end, goes_on, number_of, width_of, number_at, number_end, times}
 use Rattle.case_scan.specs.Scan.{run_at, run_end, some_runs, runs_at}
 
--- an element that is there does not depend on what stands for one that is not
-pub there : (l : List ℕ) (i d e : ℕ) → i < length l → get_or l i d ≡ get_or l i e
-there [] i d e h = absurd (not-suc-le-zero h)
-there (x ∷ l) zero d e h = refl
-there (x ∷ l) (suc i) d e h = there l i d e (le_of_suc-le-suc h)
+-- what is no newline stands before the end
+here_by : (s : List ℕ) (i b : ℕ) → get_or s i 10 ≡ b → (b ≡ 10 → ⊥) → Dec (length s ≤ i) → i < length s
+here_by s i b e f (yes h) =
+    let past = get_or-eq_default s 10 h in
+    absurd (omega (arith, f))
+here_by s i b e f (no h) = omega arith
+
+pub here : (s : List ℕ) (i b : ℕ) → get_or s i 10 ≡ b → (b ≡ 10 → ⊥) → i < length s
+here s i b e f = here_by s i b e f (dec_le (length s) i)
 
 pub numeral_none : (s : List ℕ) (from : ℕ) → Numeral s from 0 from
 unfolding value_of
@@ -154,11 +159,8 @@ module _ (s : List ℕ) (from i : ℕ) (bytes : List ℕ) (p : PairsTo s from i 
   unfolding pairs_end
   pairs_end_lem = p.count ∙ ap (λ (t : List ℕ). from + 2 * length t) (sym pairs_all)
 
-  pub pairs_done :
-      (old : List ℕ) (at : ℕ) (new : List ℕ) (r : ℕ) →
-      Put old at bytes new r →
-      (i ≡ pairs_end s from) × Put old at (pairs_at s from) new r
-  pairs_done old at new r q = (pairs_end_lem, rw pairs_all q)
+  pub pairs_done : (a b : Line) → Puts a bytes b → (i ≡ pairs_end s from) × Puts a (pairs_at s from) b
+  pairs_done a b q = (pairs_end_lem, rw pairs_all q)
 
 -- a value that was found to be a digit's
 pub digit_small : (b v : ℕ) → v ≡ hex_value b → (v ≡ 16 → ⊥) → v < 16
@@ -223,60 +225,35 @@ module _ (s : List ℕ) (from v i : ℕ) (n : NumberTo s from v i) where
             record { value = n.value ∙ a; place = omega arith }
 
 -- once more
-pub times_turn :
-    (bytes : List ℕ) (k : ℕ) →
-    1 ≤ k →
-    (old : List ℕ) (at : ℕ) (mid : List ℕ) (m : ℕ) (new : List ℕ) (r : ℕ) →
-    Put old at (times (k - 1) bytes) mid m →
-    length mid ≡ length old →
-    Put mid m bytes new r →
-    Put old at (times (k + 1 - 1) bytes) new r
+pub times_turn : (bytes : List ℕ) (k : ℕ) → 1 ≤ k → (a b c : Line) → Puts a (times (k - 1) bytes) b → Puts b bytes c
+    → Puts a (times (k + 1 - 1) bytes) c
 unfolding times
-times_turn bytes k h old at mid m new r p e q =
+times_turn bytes k h a b c p q =
     let next : k + 1 - 1 ≡ suc (k - 1) = omega arith in
-    rw next (put_more old at (times (k - 1) bytes) mid m bytes new r p e q)
+    rw next (puts_more a b c (times (k - 1) bytes) bytes p q)
 
-pub times_done :
-    (bytes : List ℕ) (k n : ℕ) →
-    k ≡ n →
-    (old : List ℕ) (at : ℕ) (new : List ℕ) (r : ℕ) →
-    Put old at (times k bytes) new r →
-    Put old at (times n bytes) new r
-times_done bytes k n e old at new r p = rw e at p
+pub times_done : (bytes : List ℕ) (k n : ℕ) → k ≡ n → (a b : Line) → Puts a (times k bytes) b → Puts a (times n bytes) b
+times_done bytes k n e a b p = rw e at p
 
 -- a run, with a count and without
-module _ (s : List ℕ) (from after : ℕ) (is : after ≡ pairs_end s from) (old : List ℕ) (at : ℕ) where
-  module _ (new : List ℕ) (r : ℕ) (p : Put old at (pairs_at s from) new r) where
-    bare : (get_or s after 10 ≡ 42 → ⊥) → (after ≡ run_end s from) × Put old at (run_at s from) new r
-    unfolding run_end run_at
-    bare f =
-        let t : eqb (get_or s (pairs_end s from) 10) 42 ≡ false = ap (λ k. eqb (get_or s k 10) 42) (sym is) ∙ ne_eqb (get_or s after 10) 42 f in
-        (is ∙ sym (ap (λ b. cond b (number_end s (pairs_end s from + 1)) (pairs_end s from)) t), rw t p)
+module _ (s : List ℕ) (from after : ℕ) (is : after ≡ pairs_end s from) (a b : Line) (p : Puts a (pairs_at s from) b) where
+  pub run_other : (get_or s after 10 ≡ 42 → ⊥) → (after ≡ run_end s from) × Puts a (run_at s from) b
+  unfolding run_end run_at
+  run_other f =
+      let t : eqb (get_or s (pairs_end s from) 10) 42 ≡ false = ap (λ k. eqb (get_or s k 10) 42) (sym is) ∙ ne_eqb (get_or s after 10) 42 f in
+      (is ∙ sym (ap (λ b. cond b (number_end s (pairs_end s from + 1)) (pairs_end s from)) t), rw t p)
 
-    pub run_other : after < length s → (get_or s after 0 ≡ 42 → ⊥) → (after ≡ run_end s from) × Put old at (run_at s from) new r
-    run_other h f = bare (λ e. f (there s after 0 10 h ∙ e))
-
-    pub run_ended : length s ≤ after → (after ≡ run_end s from) × Put old at (run_at s from) new r
-    run_ended h =
-        let e = get_or-eq_default s 10 h in
-        bare (λ f. omega arith)
-
-  module _ (h : after < length s) (star : get_or s after 0 ≡ 42) (v n : ℕ) (value : v ≡ number_at s (after + 1))
+  module _ (star : get_or s after 10 ≡ 42) (v n : ℕ) (value : v ≡ number_at s (after + 1))
       (place : n ≡ number_end s (after + 1)) where
-    pub run_counted :
-        (mid : List ℕ) (m : ℕ) (new : List ℕ) (r : ℕ) →
-        Put old at (pairs_at s from) mid m →
-        length mid ≡ length old →
-        Put mid m (times (v - 1) (pairs_at s from)) new r →
-        (n ≡ run_end s from) × Put old at (run_at s from) new r
+    pub run_counted : (c : Line) → Puts b (times (v - 1) (pairs_at s from)) c → (n ≡ run_end s from) × Puts a (run_at s from) c
     unfolding run_end run_at
-    run_counted mid m new r p e q =
+    run_counted c q =
         let t : eqb (get_or s (pairs_end s from) 10) 42 ≡ true =
-        ap (λ k. eqb (get_or s k 10) 42) (sym is) ∙ eq-eqb (get_or s after 10) 42 (sym (there s after 0 10 h) ∙ star) in
+        ap (λ k. eqb (get_or s k 10) 42) (sym is) ∙ eq-eqb (get_or s after 10) 42 star in
         let count : v ≡ number_at s (pairs_end s from + 1) = value ∙ ap (λ k. number_at s (k + 1)) is in
         let last : n ≡ number_end s (pairs_end s from + 1) = place ∙ ap (λ k. number_end s (k + 1)) is in
-        let both : Put old at (pairs_at s from ++ times (number_at s (pairs_end s from + 1) - 1) (pairs_at s from)) new r =
-        put_more old at (pairs_at s from) mid m _ new r p e (times_done (pairs_at s from) (v - 1) _ (ap (λ k. k - 1) count) mid m new r q) in
+        let both : Puts a (pairs_at s from ++ times (number_at s (pairs_end s from + 1) - 1) (pairs_at s from)) c =
+        puts_more a b c (pairs_at s from) _ p (times_done (pairs_at s from) (v - 1) _ (ap (λ k. k - 1) count) b c q) in
         (last ∙ sym (ap (λ b. cond b (number_end s (pairs_end s from + 1)) (pairs_end s from)) t), rw t both)
 
 -- a run ends no earlier than it begins
@@ -314,24 +291,16 @@ unfolding some_runs
 one_run zero s i h g e = absurd (omega arith)
 one_run (suc k) s i h g e = (k, refl, simp (eq-eqb (get_or s i 10) 32 e))
 
-module _ (s : List ℕ) (from i : ℕ) (bytes : List ℕ) (p : RunsTo s from i bytes) (old : List ℕ) (at : ℕ) where
-  module _ (new : List ℕ) (r : ℕ) (q : Put old at bytes new r) where
-    stopped : (get_or s i 10 ≡ 32 → ⊥) → Put old at (runs_at s from) new r
-    stopped f =
-        let all : runs_at s from ≡ bytes = p.so_far ∙ ap (λ (t : List ℕ). bytes ++ t) (no_space p.left s i f) ∙ append-nil bytes in
-        rw all q
+module _ (s : List ℕ) (from i : ℕ) (bytes : List ℕ) (p : RunsTo s from i bytes) where
+  pub runs_other : (a b : Line) → Puts a bytes b → (get_or s i 10 ≡ 32 → ⊥) → Puts a (runs_at s from) b
+  runs_other a b q f =
+      let all : runs_at s from ≡ bytes = p.so_far ∙ ap (λ (t : List ℕ). bytes ++ t) (no_space p.left s i f) ∙ append-nil bytes in
+      rw all q
 
-    pub runs_other : i < length s → (get_or s i 0 ≡ 32 → ⊥) → Put old at (runs_at s from) new r
-    runs_other h f = stopped (λ e. f (there s i 0 10 h ∙ e))
-
-    pub runs_ended : length s ≤ i → Put old at (runs_at s from) new r
-    runs_ended h =
-        let e = get_or-eq_default s 10 h in
-        stopped (λ f. omega arith)
-
-  pub runs_go : i < length s → get_or s i 0 ≡ 32 → (n : ℕ) → n ≡ run_end s (i + 1) → RunsTo s from n (bytes ++ run_at s (i + 1))
-  runs_go h e n is =
-      let one = one_run p.left s i h p.enough (sym (there s i 0 10 h) ∙ e) in
+  pub runs_go : get_or s i 10 ≡ 32 → (n : ℕ) → n ≡ run_end s (i + 1) → RunsTo s from n (bytes ++ run_at s (i + 1))
+  runs_go e n is =
+      let h = here s i 32 e (omega arith) in
+      let one = one_run p.left s i h p.enough e in
       let on = run_on s (i + 1) in
       let g = p.enough in
       let f = one.1 in

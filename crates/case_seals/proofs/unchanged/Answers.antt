@@ -1,35 +1,18 @@
--- `case_seals::unchanged` meets its contract. The loop's invariant: the answer is that for the numbers from `i` on.
+-- `case_seals::unchanged` meets its contract: it asks of each number from the place on.
 -- Assumes nothing.
 use borrow.Author.Rules.{rules}
-use native.Mathlib.Omega.{arith}
-use native.Mathlib.Numerals.{add-one}
-use mathlib.Core.Path.{◌≡◌, refl, sym, ◌∙◌}
-use Prim.Native.Nat.{◌-◌}
-use lib.ListN.{length, drop}
-use Rattle.case_file.specs.Fill.{all_are}
-use Rattle.case_file.specs.Fill.Laws.{all_turn, all_not, all_end}
+use borrow.Author.Tests.{tests}
+use Rattle.std.proofs.Common.{◌≡◌, drop}
+use Rattle.std.specs.Prelude.{◌≢◌}
+use Rattle.std.proofs.lemmas.Iterator.{cases_from_all, YieldsList-from_slice}
+use Rattle.std.proofs.lemmas.Iterator.Adapters.{YieldsList-from_skip}
+use Rattle.case_seals.proofs.Kept.{all_tells}
 use Rattle.case_seals.proofs.unchanged.Goals as goal
-
-pub loop-i-init : goal.loop-i-init
-loop-i-init c = refl
-
-pub bounds-table-i : goal.bounds-table-i
-bounds-table-i c = omega arith
-
-pub returns-then-table-i-ne-NUMBER : goal.returns-then-table-i-ne-NUMBER
-returns-then-table-i-ne-NUMBER c =
-    sym (c.loop-i.invariant ∙ all_not c.args.table.now c.loop-i.i 0x5A5A5A5A (omega arith) c.if-table-i-ne-NUMBER.true)
-
-pub overflow_add-i : goal.overflow_add-i
-overflow_add-i c = omega arith
-
-pub loop-i-smaller : goal.loop-i-smaller
-loop-i-smaller c = omega arith
-
-pub loop-i-preserved : goal.loop-i-preserved
-loop-i-preserved c =
-    rw add-one (c.loop-i.invariant ∙ all_turn c.args.table.now c.loop-i.i 0x5A5A5A5A (omega arith) c.if-table-i-ne-NUMBER.false)
 
 pub returns : goal.returns
 returns c =
-    sym (c.loop-i.invariant ∙ all_end c.args.table.now c.loop-i.i 0x5A5A5A5A (omega arith))
+    all_tells 0x5A5A5A5A (drop c.args.from c.args.table.now) c.all.result
+    (cases_from_all _ _ _ (λ x. x ≡ 0x5A5A5A5A) (λ x. x ≢ 0x5A5A5A5A) c.all.ensures.ran
+    (YieldsList-from_skip c.args.from (YieldsList-from_slice c.args.table.now cc) cc)
+    (λ x q k. search (rules, tests))
+    (λ x q k. search (rules, tests)))

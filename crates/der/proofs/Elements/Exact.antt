@@ -1,18 +1,17 @@
 -- Reading an element is exact: complete and sound.
 -- Assumes nothing.
-use Rattle.std.specs.Prelude.{◌≡◌, refl, ℕ, suc, ◌+◌, ◌-◌, ◌≤◌, List, [], ◌∷◌, ◌++◌, ltb, eqb, length, take, drop}
+use Rattle.std.specs.Prelude.{◌≡◌, refl, ℕ, suc, ◌+◌, ◌-◌, ◌≤◌, List, [], ◌∷◌, ◌++◌, Option, None, Result, Ok, Err, ltb, eqb, length, take, drop}
 use Rattle.std.proofs.Common.{ap, ap₂, sym, subst, subst₂, ◌∙◌, arith, add-one, ltb-true, ltb-false, eq-eqb, eqb-true, append_assoc, length-append, length-drop, drop_at, take-add, length-take-le}
 use Rattle.format.specs.Bytes.{Bytes}
 use Rattle.format.specs.Choice.Laws.{by_test}
 use Rattle.format.specs.Cut.{counted}
 use Rattle.der.specs.Length.{Sized, form, read_length}
 use Rattle.der.proofs.Lengths.Exact.{Taken, form_reads, read_is_form}
-use Rattle.der.specs.Element.{element, body_in, element_in}
-use Rattle.der.specs.Element.Laws.{body_not, body_is}
+use Rattle.der.specs.Element.{element, lies, body_in, element_in}
+use Rattle.der.specs.Element.Laws.{lies_same, body_not, body_is}
+use Rattle.der.specs.declared.Fault.{Fault}
 use Rattle.der.specs.declared.Length.{Length}
-use Rattle.der.specs.declared.Length.TheVariants as is
-use Rattle.der.specs.declared.Element.{Element}
-use Rattle.der.specs.declared.Element.TheVariants.{Body, Nothing}
+use Rattle.der.specs.declared.Body.{Body}
 
 -- where the body of an element starts
 abbrev pub start : List ℕ → ℕ
@@ -22,7 +21,7 @@ start body = length (form (length body)) + 1
 pub element_found :
     (tag : ℕ) (body rest : List ℕ) →
     Sized (length body) →
-    element_in tag (element tag body ++ rest) ≡ Body (start body) (start body + length body)
+    element_in tag (element tag body ++ rest) ≡ lies (start body) (start body + length body)
 unfolding element_in
 element_found tag body rest sized =
     let m = length body in
@@ -50,7 +49,7 @@ pub record Found (tag : ℕ) (s : List ℕ) (from to : ℕ) : Type 0 where
   pub inside : to ≤ length s
   pub order : from ≤ to
 
-nothing : {from to : ℕ} {r : Element} → r ≡ Nothing → r ≡ Body from to → ⊥
+nothing : {from to : ℕ} {r : Option Body} → r ≡ None → r ≡ lies from to → ⊥
 nothing e f = let z : ◌≡◌ {A = ℕ} 0 1 = cc in omega arith
 
 -- where the length was read and the body is there
@@ -70,7 +69,7 @@ found x t m w taken room =
       order = omega arith;
     }
 
-pub element_whole : (tag : ℕ) (s : List ℕ) → Bytes s → (from to : ℕ) → element_in tag s ≡ Body from to → Found tag s from to
+pub element_whole : (tag : ℕ) (s : List ℕ) → Bytes s → (from to : ℕ) → element_in tag s ≡ lies from to → Found tag s from to
 unfolding element_in
 element_whole tag [] bytes from to e = absurd (nothing {from = from} {to = to} refl e)
 element_whole tag (x ∷ t) bytes from to e =
@@ -78,17 +77,18 @@ element_whole tag (x ∷ t) bytes from to e =
     (λ h. read (eqb-true x tag h) (read_length t) refl (sym (simp h) ∙ e))
     (λ h. absurd (nothing {from = from} {to = to} refl (sym (simp h) ∙ e)))
   where
-    read : x ≡ tag → (r : Length) → read_length t ≡ r → body_in (length t) (read_length t) ≡ Body from to → Found tag (x ∷ t) from to
-    read same (is.Is m w) f g =
+    read : x ≡ tag → (r : Result Length Fault) → read_length t ≡ r → body_in (length t) (read_length t) ≡ lies from to → Found tag (x ∷ t) from to
+    read same (Ok l) f g =
+        let m = l.size in
+        let w = l.width in
         by_test (ltb (length t) (w + m))
         (λ h.
         absurd
         (nothing {from = from} {to = to} (ap (body_in (length t)) f ∙ sym (body_not (length t) m w (ltb-true (length t) (w + m) h))) g))
         (λ h.
         let room = ltb-false (length t) (w + m) h in
-        let is_body : Body (w + 1) (w + 1 + m) ≡ Body from to = body_is (length t) m w room ∙ sym (ap (body_in (length t)) f) ∙ g in
-        let a : w + 1 ≡ from = cc in
-        let b : w + 1 + m ≡ to = cc in
+        let is_body : lies (w + 1) (w + 1 + m) ≡ lies from to = body_is (length t) m w room ∙ sym (ap (body_in (length t)) f) ∙ g in
+        let places = lies_same is_body in
         subst (λ z. Found z (x ∷ t) from to) same
-        (subst₂ (λ y z. Found x (x ∷ t) y z) a b (found x t m w (read_is_form t (λ i. bytes (suc i)) m w f) room)))
-    read same (is.Not fault) f g = absurd (nothing {from = from} {to = to} (ap (body_in (length t)) f) g)
+        (subst₂ (λ y z. Found x (x ∷ t) y z) places.0 places.1 (found x t m w (read_is_form t (λ i. bytes (suc i)) m w f) room)))
+    read same (Err fault) f g = absurd (nothing {from = from} {to = to} (ap (body_in (length t)) f) g)

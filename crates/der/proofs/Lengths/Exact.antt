@@ -1,6 +1,6 @@
 -- Reading a length is exact for its form: complete and sound; and a length is cut off the front of a byte string in one way only.
 -- Assumes nothing.
-use Rattle.std.specs.Prelude.{◌≡◌, refl, ℕ, zero, suc, ◌+◌, ◌-◌, ◌^◌, ◌<◌, ◌≤◌, List, [], ◌∷◌, ◌++◌, ltb, length, take}
+use Rattle.std.specs.Prelude.{◌≡◌, refl, ℕ, zero, suc, ◌+◌, ◌-◌, ◌^◌, ◌<◌, ◌≤◌, List, [], ◌∷◌, ◌++◌, Result, Err, ltb, length, take}
 use Rattle.std.proofs.Common.{ap, sym, subst, subst₂, ◌∙◌, arith, lt_of_lt_of_le, add-one, lt-ltb, le-ltb, ltb-true, ltb-false, lit≤, length-append, length-take-le}
 use Rattle.std.proofs.Math.Nat.{pow-le-pow_right}
 use Rattle.std.proofs.lemmas.List.{append_cancel_left}
@@ -9,12 +9,11 @@ use Rattle.format.specs.Choice.Laws.{by_test}
 use Rattle.format.specs.Cut.{Cut}
 use Rattle.format.specs.BigEndian.{be, val}
 use Rattle.format.specs.BigEndian.Laws.{length_be, val_be, be_val, val_append, val_below}
-use Rattle.der.specs.Length.{Sized, form, least, long_form, read_length}
-use Rattle.der.proofs.Lengths.Laws.{long_cut, long_loose, long_is, first_short, first_bad, first_high, first_long}
+use Rattle.der.specs.Length.{Sized, form, is, least, long_form, read_length}
+use Rattle.der.proofs.Lengths.Laws.{is_same, long_cut, long_loose, long_is, first_short, first_bad, first_high, first_long}
 use Rattle.der.specs.declared.Fault.{Fault}
 use Rattle.der.specs.declared.Fault.TheVariants.{NoByte}
 use Rattle.der.specs.declared.Length.{Length}
-use Rattle.der.specs.declared.Length.TheVariants as is
 
 -- what holds of 1, 2, 3 and 4 holds of every width
 four : (C : ℕ → Type 0) → C 1 → C 2 → C 3 → C 4 → (k : ℕ) → 0 < k → k < 5 → C k
@@ -61,15 +60,15 @@ size_cases n sized short long =
     (λ d. long 4 (omega arith) (omega arith) (ltb-false n 0x1000000 d) sized))))
 
 -- complete: the form of a length, followed by anything, reads as that length and the form's width
-pub form_reads : (n : ℕ) → Sized n → (rest : List ℕ) → read_length (form n ++ rest) ≡ is.Is n (length (form n))
+pub form_reads : (n : ℕ) → Sized n → (rest : List ℕ) → read_length (form n ++ rest) ≡ is n (length (form n))
 form_reads n sized rest = size_cases n sized short long
   where
-    short : n < 0x80 → read_length (form n ++ rest) ≡ is.Is n (length (form n))
+    short : n < 0x80 → read_length (form n ++ rest) ≡ is n (length (form n))
     short h =
         let e = form_short n h in
-        ap (λ f. read_length (f ++ rest)) e ∙ first_short n rest h ∙ ap (is.Is n) (sym (ap length e))
+        ap (λ f. read_length (f ++ rest)) e ∙ first_short n rest h ∙ ap (is n) (sym (ap length e))
 
-    long : (k : ℕ) → 0 < k → k < 5 → least k ≤ n → n < 256 ^ k → read_length (form n ++ rest) ≡ is.Is n (length (form n))
+    long : (k : ℕ) → 0 < k → k < 5 → least k ≤ n → n < 256 ^ k → read_length (form n ++ rest) ≡ is n (length (form n))
     long k low high h l =
         let e = form_long k low high n h l in
         let x : 0x80 + k - 0x80 ≡ k = omega arith in
@@ -79,7 +78,7 @@ form_reads n sized rest = size_cases n sized short long
         ∙ first_long (0x80 + k) (be k n ++ rest) (omega arith) (omega arith)
         ∙ ap (λ j. long_form j (be k n ++ rest)) x
         ∙ long_is k (be k n ++ rest) (omega (arith, length-append (be k n) rest, length_be k n)) (subst (λ m. least k ≤ m) (sym v) h)
-        ∙ (λ i. is.Is (v i) (many i))
+        ∙ (λ i. is (v i) (many i))
 
 four_at_most : (x : ℕ) → x < 0x85 → x - 0x80 ≤ 4
 four_at_most x h = omega arith
@@ -91,7 +90,7 @@ pub record Taken (s : List ℕ) (n width : ℕ) : Type 0 where
   pub front : form n ≡ take width s
   pub size : length (form n) ≡ width
 
-differs : {n w : ℕ} {fault : Fault} {r : Length} → r ≡ is.Not fault → r ≡ is.Is n w → ⊥
+differs : {n w : ℕ} {fault : Fault} {r : Result Length Fault} → r ≡ Err fault → r ≡ is n w → ⊥
 differs e f = let z : ◌≡◌ {A = ℕ} 0 1 = cc in omega arith
 
 -- the long form, where its bytes are there and are the shortest
@@ -116,7 +115,7 @@ took_long x t bytes low high there least-is =
       size = ap length e ∙ ap suc (length-take-le k t there) ∙ sym (add-one k);
     }
 
-took : (x : ℕ) (t : List ℕ) → Bytes t → (n width : ℕ) → read_length (x ∷ t) ≡ is.Is n width → Taken (x ∷ t) n width
+took : (x : ℕ) (t : List ℕ) → Bytes t → (n width : ℕ) → read_length (x ∷ t) ≡ is n width → Taken (x ∷ t) n width
 took x t bytes n width e =
     by_test (ltb x 0x80)
     (λ h. same (first_short x t (ltb-true x 0x80 h))
@@ -132,11 +131,8 @@ took x t bytes n width e =
     (λ c. absurd (differs (first_high x t (ltb-false x 0x85 c)) e)))
     (λ b. let low = ltb-false x 0x80 a in let high = ltb-false 0x80 x b in absurd (differs (first_bad x t (omega arith)) e)))
   where
-    same : {m v : ℕ} → read_length (x ∷ t) ≡ is.Is m v → Taken (x ∷ t) m v → Taken (x ∷ t) n width
-    same {m} {v} f taken =
-        let value : m ≡ n = cc in
-        let wide : v ≡ width = cc in
-        subst₂ (λ a b. Taken (x ∷ t) a b) value wide taken
+    same : {m v : ℕ} → read_length (x ∷ t) ≡ is m v → Taken (x ∷ t) m v → Taken (x ∷ t) n width
+    same f taken = let told = is_same (sym f ∙ e) in subst₂ (λ a b. Taken (x ∷ t) a b) told.0 told.1 taken
 
     long : 0x80 < x → x < 0x85 → Taken (x ∷ t) n width
     long low high =
@@ -150,7 +146,7 @@ took x t bytes n width e =
         (took_long x t bytes low high (ltb-false (length t) k h) (ltb-false (val t k) (least k) l))))
 
 -- sound: what reads as a length is the form of that length, below 2 ^ 32
-pub read_is_form : (s : List ℕ) → Bytes s → (n width : ℕ) → read_length s ≡ is.Is n width → Taken s n width
+pub read_is_form : (s : List ℕ) → Bytes s → (n width : ℕ) → read_length s ≡ is n width → Taken s n width
 unfolding read_length
 read_is_form [] bytes n width e = absurd (differs {n = n} {w = width} {fault = NoByte} refl e)
 read_is_form (x ∷ t) bytes n width e = took x t (λ i. bytes (suc i)) n width e
@@ -158,6 +154,6 @@ read_is_form (x ∷ t) bytes n width e = took x t (λ i. bytes (suc i)) n width 
 -- a length is cut off the front in one way only
 pub cut_form : Cut Sized form
 cut_form a b t u la lb e =
-    let read : is.Is a (length (form a)) ≡ is.Is b (length (form b)) = sym (form_reads a la t) ∙ ap read_length e ∙ form_reads b lb u in
-    let same : a ≡ b = cc in
+    let read : is a (length (form a)) ≡ is b (length (form b)) = sym (form_reads a la t) ∙ ap read_length e ∙ form_reads b lb u in
+    let same = (is_same read).0 in
     (same, append_cancel_left (form a) t u (e ∙ ap (λ n. form n ++ u) (sym same)))

@@ -1,6 +1,6 @@
 -- What is written for a length: its form, byte by byte, and a buffer in which those bytes stand or do not fit.
 -- Assumes nothing.
-use Rattle.std.specs.Prelude.{◌≡◌, refl, ℕ, ◌+◌, ◌/◌, ◌%◌, ◌<◌, ◌≤◌, ltb, length}
+use Rattle.std.specs.Prelude.{◌≡◌, refl, ℕ, ◌+◌, ◌/◌, ◌%◌, ◌<◌, ◌≤◌, Some, None, ltb, length}
 use Rattle.std.proofs.Math.Path.{ap, sym}
 use Rattle.std.proofs.Common.{◌∙◌}
 use native.Mathlib.Omega.{arith}
@@ -18,20 +18,20 @@ use Rattle.der.specs.declared.Form.TheVariants as is
 
 -- the length as it is written, by the tests
 module _ (n : ℕ) where
-  pub form_one : n < 0x80 → is.One n ≡ length_form n
+  pub form_one : n < 0x80 → Some (is.One n) ≡ length_form n
   form_one h = ap by_bytes (sym (form_short n h))
 
-  pub form_two : 0x80 ≤ n → n < 0x100 → is.Two 0x81 n ≡ length_form n
+  pub form_two : 0x80 ≤ n → n < 0x100 → Some (is.Two 0x81 n) ≡ length_form n
   unfolding be
   form_two h l =
       let low : n ≡ n % 256 = omega arith in
-      ap (is.Two 0x81) low ∙ ap by_bytes (sym (form_long 1 (omega arith) (omega arith) n h l))
+      ap (λ b. Some (is.Two 0x81 b)) low ∙ ap by_bytes (sym (form_long 1 (omega arith) (omega arith) n h l))
 
-  pub form_three : 0x100 ≤ n → n < 0x10000 → is.Three 0x82 (n / 256) (n % 256) ≡ length_form n
+  pub form_three : 0x100 ≤ n → n < 0x10000 → Some (is.Three 0x82 (n / 256) (n % 256)) ≡ length_form n
   form_three h l =
       ap (λ b. by_bytes (0x82 ∷ b)) (sym (be_two n l)) ∙ ap by_bytes (sym (form_long 2 (omega arith) (omega arith) n h l))
 
-  pub form_longer : 0x10000 ≤ n → is.Longer ≡ length_form n
+  pub form_longer : 0x10000 ≤ n → None ≡ length_form n
   unfolding form be
   form_longer h =
       let one = le-ltb n 0x80 (omega arith) in

@@ -1,6 +1,5 @@
 -- `der::long_form` meets its contract: each `return` is one case of the definition, with the tests that led there.
 -- Assumes nothing.
-use borrow.Author.Rules.{rules}
 use native.Mathlib.Omega.{arith}
 use native.Mathlib.Nat.{add-sub_cancel}
 use mathlib.Core.Path.{◌≡◌, ◌∙◌, ap, sym, subst}
@@ -9,9 +8,8 @@ use mathlib.Core.List.{List}
 use lib.ListN.{length, drop, length-drop}
 use Rattle.format.specs.BigEndian.{val}
 use Rattle.format.specs.BigEndian.Laws.{val_part}
-use Rattle.der.specs.Length.{least}
+use Rattle.der.specs.Length.{is, least}
 use Rattle.der.proofs.Lengths.Laws.{long_cut, long_loose, long_is}
-use Rattle.der.specs.declared.Length.TheVariants.{Is}
 use Rattle.der.proofs.long_form.Goals as goal
 use Rattle.der.proofs.long_form.Goals.{After-number-value}
 
@@ -38,12 +36,6 @@ value c =
 pub returns-then-s-k : goal.returns-then-s-k
 returns-then-s-k c = let a = c.args in sym (long_cut a.k (drop 1 a.s.now) (missing a.s.now a.k c.if-s-k.true))
 
--- GONE overflow-sub-number
-
--- GONE slice-bounds-number-start
-
--- GONE slice-bounds-number-end
-
 pub returns-then-value-least : goal.returns-then-value-least
 returns-then-value-least c =
     let a = c.args in
@@ -56,7 +48,7 @@ pub returns : goal.returns
 returns c =
     let a = c.args in
     let s = a.s.now in
-    ap (λ n. Is n (a.k + 1)) (value (goal.at.returns c).After-number-value)
+    ap (λ n. is n (a.k + 1)) (value (goal.at.returns c).After-number-value)
     ∙ sym
     (long_is a.k (drop 1 s) (there s a.k c.if-s-k.false)
     (subst (λ n. least a.k ≤ n) (value (goal.at.returns c).After-number-value) (subst (λ n. n ≤ c.number-value.result) c.least.ensures c.if-value-least.false)))

@@ -1,6 +1,5 @@
 -- `der::read_length` meets its contract: each `return` is one case of the definition, with the tests that led there.
 -- Assumes nothing.
-use borrow.Author.Rules.{rules}
 use native.Mathlib.Omega.{arith}
 use mathlib.Core.Path.{◌∙◌}
 use Rattle.der.proofs.Lengths.Laws.{length_none, length_short, length_bad, length_high, length_long}

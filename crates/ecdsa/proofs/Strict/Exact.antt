@@ -1,6 +1,6 @@
 -- Reading strict DER is exact, for one number and for both: complete, what is published is read; and sound, what is read is published.
 -- Assumes nothing.
-use Rattle.std.specs.Prelude.{◌≡◌, refl, true, ℕ, suc, ◌+◌, ◌-◌, ◌*◌, ◌<◌, ◌≤◌, List, [], ◌∷◌, ◌++◌, eqb, length, take, drop, replicate}
+use Rattle.std.specs.Prelude.{◌≡◌, refl, true, ℕ, suc, ◌+◌, ◌-◌, ◌*◌, ◌<◌, ◌≤◌, List, [], ◌∷◌, ◌++◌, Option, Some, None, eqb, length, take, drop, replicate}
 use Rattle.std.proofs.Common.{ap, ap₂, sym, subst, ◌∙◌, arith, eqb-true, append-nil, length-append, length-drop, take-append-drop, take_all, take_at, drop_at, take-add, drop-drop, length-take-le}
 use Rattle.std.proofs.lemmas.Bool.{eqb-false}
 use Rattle.format.specs.Places.{to_end}
@@ -8,20 +8,18 @@ use Rattle.format.specs.Bytes.{Bytes}
 use Rattle.format.specs.Bytes.Laws.{bytes_append, bytes_drop, bytes_take, bytes_replicate}
 use Rattle.format.specs.Choice.Laws.{by_test}
 use Rattle.der.specs.Length.{form}
-use Rattle.der.specs.Element.{element, element_in}
+use Rattle.der.specs.Element.{element, lies, element_in}
 use Rattle.der.proofs.Elements.Exact.{start, element_found, element_body, element_whole}
 use Rattle.der.specs.Content.{shortest}
-use Rattle.der.specs.declared.Element.{Element}
-use Rattle.der.specs.declared.Element.TheVariants as found
+use Rattle.der.specs.declared.Body.{Body}
 use Rattle.ecdsa.specs.Signature.{is_size, unsigned, pair_of, der_of}
-use Rattle.ecdsa.specs.Strict.{part, lead, digits_in, number_in, padded, Raw, raw_of}
+use Rattle.ecdsa.specs.Strict.{part, lead, stand, digits_in, number_in, padded, Raw, raw_of}
 use Rattle.ecdsa.specs.Signature.Laws.{size_bounds}
 use Rattle.ecdsa.specs.FormSize.{never_64}
 use Rattle.ecdsa.proofs.Strict.Laws.{length_part, length_padded, digits_is, number_at_lem, lead_small, lead_at_most, number_read}
 use Rattle.ecdsa.proofs.Strict.Laws.{number_inside, raw_none, raw_more, raw_no_r, raw_no_s, raw_left, raw_is}
 use Rattle.ecdsa.proofs.Strict.Shortest.{Carries, shortest_carries, padded_shortest}
-use Rattle.ecdsa.specs.declared.Number.{Number}
-use Rattle.ecdsa.specs.declared.Number.TheVariants.{Digits, Nothing}
+use Rattle.ecdsa.specs.declared.Digits.{Digits}
 
 -- the places of content that starts somewhere in t
 drop_part : (k m : ℕ) (l : List ℕ) → k ≤ m → m ≤ length l → take (m - k) (drop k l) ≡ drop k (take m l)
@@ -43,7 +41,7 @@ digits_part from to k t end h =
 pub record NumberFound (n : ℕ) (r rest : List ℕ) : Type 0 where
   pub a : ℕ
   pub b : ℕ
-  pub is : number_in n (unsigned r ++ rest) ≡ Digits a b
+  pub is : number_in n (unsigned r ++ rest) ≡ stand a b
   pub back : padded n (part a b (unsigned r ++ rest)) ≡ r
   pub end : b ≡ length (unsigned r)
 
@@ -68,7 +66,7 @@ content_found :
     Carries r c →
     (let t = element 0x02 c ++ rest in
     let a = start c + lead c in
-    let b = start c + length c in (number_in n t ≡ Digits a b) × (padded n (part a b t) ≡ r) × (b ≡ length (element 0x02 c)))
+    let b = start c + length c in (number_in n t ≡ stand a b) × (padded n (part a b t) ≡ r) × (b ≡ length (element 0x02 c)))
 content_found n r c rest many small h =
     let t = element 0x02 c ++ rest in
     let m = length c in
@@ -102,7 +100,7 @@ pub record NumberSound (n : ℕ) (t : List ℕ) (b : ℕ) (r : List ℕ) : Type 
   pub end : b ≤ length t
   pub bytes : Bytes r
 
-pub number_sound : (n : ℕ) (t : List ℕ) → Bytes t → (a b : ℕ) → number_in n t ≡ Digits a b → NumberSound n t b (padded n (part a b t))
+pub number_sound : (n : ℕ) (t : List ℕ) → Bytes t → (a b : ℕ) → number_in n t ≡ stand a b → NumberSound n t b (padded n (part a b t))
 number_sound n t bytes a b e =
     let r = number_read n t a b e in
     let i = number_inside n t bytes a b e in
@@ -169,11 +167,11 @@ none_raw e f = let z : ◌≡◌ {A = ℕ} 0 1 = cc in omega arith
 both_sound :
     (n : ℕ) (s t u : List ℕ) (a b x y from : ℕ) →
     Bytes s →
-    element_in 0x30 s ≡ found.Body from (length s) →
+    element_in 0x30 s ≡ lies from (length s) →
     drop from s ≡ t →
-    number_in n t ≡ Digits a b →
+    number_in n t ≡ stand a b →
     drop b t ≡ u →
-    number_in n u ≡ Digits x y →
+    number_in n u ≡ stand x y →
     y ≡ length u →
     RawSound n s (padded n (part a b t) ++ padded n (part x y u))
 both_sound n s t u a b x y from bytes is at_t f at_u g left =
@@ -202,14 +200,16 @@ raw_sound n s bytes raw e = opened (element_in 0x30 s) refl
   where
     last :
         (from to : ℕ) →
-        element_in 0x30 s ≡ found.Body from to →
+        element_in 0x30 s ≡ lies from to →
         to ≡ length s →
         (a b : ℕ) →
-        number_in n (drop from s) ≡ Digits a b →
-        (r : Number) →
+        number_in n (drop from s) ≡ stand a b →
+        (r : Option Digits) →
         number_in n (drop b (drop from s)) ≡ r →
         RawSound n s raw
-    last from to is whole a b f (Digits x y) g =
+    last from to is whole a b f (Some d) g =
+        let x = d.start in
+        let y = d.end in
         let t = drop from s in
         let u = drop b t in
         by_test (eqb y (length u))
@@ -218,24 +218,27 @@ raw_sound n s bytes raw e = opened (element_in 0x30 s) refl
         let same : Raw.raw (padded n (part a b t) ++ padded n (part x y u)) ≡ Raw.raw raw =
         sym (raw_is n s from to is whole t refl a b f u refl x y g left) ∙ e in
         let read : padded n (part a b t) ++ padded n (part x y u) ≡ raw = cc in
-        subst (λ v. RawSound n s v) read (both_sound n s t u a b x y from bytes (is ∙ ap (found.Body from) whole) refl f refl g left))
+        subst (λ v. RawSound n s v) read (both_sound n s t u a b x y from bytes (is ∙ ap (lies from) whole) refl f refl g left))
         (λ h. absurd (none_raw (raw_left n s from to is whole t refl a b f u refl x y g (eqb-false y (length u) h)) e))
-    last from to is whole a b f Nothing g =
+    last from to is whole a b f None g =
         absurd (none_raw (raw_no_s n s from to is whole (drop from s) refl a b f (drop b (drop from s)) refl g) e)
 
     pair :
         (from to : ℕ) →
-        element_in 0x30 s ≡ found.Body from to →
+        element_in 0x30 s ≡ lies from to →
         to ≡ length s →
-        (r : Number) →
+        (r : Option Digits) →
         number_in n (drop from s) ≡ r →
         RawSound n s raw
-    pair from to is whole (Digits a b) f = last from to is whole a b f (number_in n (drop b (drop from s))) refl
-    pair from to is whole Nothing f = absurd (none_raw (raw_no_r n s from to is whole (drop from s) refl f) e)
+    pair from to is whole (Some d) f =
+        last from to is whole d.start d.end f (number_in n (drop d.end (drop from s))) refl
+    pair from to is whole None f = absurd (none_raw (raw_no_r n s from to is whole (drop from s) refl f) e)
 
-    opened : (r : Element) → element_in 0x30 s ≡ r → RawSound n s raw
-    opened (found.Body from to) is =
+    opened : (r : Option Body) → element_in 0x30 s ≡ r → RawSound n s raw
+    opened (Some b) is =
+        let from = b.start in
+        let to = b.end in
         by_test (eqb to (length s))
         (λ h. pair from to is (eqb-true to (length s) h) (number_in n (drop from s)) refl)
         (λ h. absurd (none_raw (raw_more n s from to is (eqb-false to (length s) h)) e))
-    opened found.Nothing is = absurd (none_raw (raw_none n s is) e)
+    opened None is = absurd (none_raw (raw_none n s is) e)

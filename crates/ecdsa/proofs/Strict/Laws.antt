@@ -1,25 +1,23 @@
 -- Reading strict DER by the tests that lead there: the digits of content, the INTEGER at the head, both numbers; and
 -- leading zeros put down.
 -- Assumes nothing.
-use Rattle.std.specs.Prelude.{◌≡◌, refl, true, false, ℕ, ◌+◌, ◌-◌, ◌<◌, ◌≤◌, List, [], ◌∷◌, ◌++◌, ltb, eqb, length, get_or, drop, set, replicate}
+use Rattle.std.specs.Prelude.{◌≡◌, refl, true, false, ℕ, ◌+◌, ◌-◌, ◌<◌, ◌≤◌, List, [], ◌∷◌, ◌++◌, Option, Some, None, ltb, eqb, length, get_or, drop, replicate}
 use Rattle.std.proofs.Math.Path.{ap, sym}
 use Rattle.std.proofs.Common.{subst₂, ◌∙◌, arith, length-append, length-drop, length-take-le}
 use borrow.Author.Tests.{lt-ltb, le-ltb, ltb-true, ltb-false, eq-eqb, ne_eqb}
-use Rattle.std.proofs.lemmas.List.{length-replicate, replicate-append-replicate}
+use Rattle.std.proofs.lemmas.List.{length-replicate}
 use Rattle.format.specs.Bytes.{Bytes}
 use Rattle.format.specs.Buffer.{over}
-use Rattle.format.proofs.Buffer.Laws.{over_set, over_over}
+use Rattle.format.proofs.Buffer.Laws.{over_over}
 use Rattle.format.specs.Choice.{pick, both}
 use Rattle.format.specs.Choice.Laws.{by_test}
-use Rattle.der.specs.Element.{element_in}
+use Rattle.der.specs.Element.{lies, element_in}
 use Rattle.der.proofs.Elements.Exact.{element_whole}
 use Rattle.der.specs.Content.{strict}
 use Rattle.der.specs.Content.Laws.{strict_none}
-use Rattle.der.specs.declared.Element.{Element}
-use Rattle.der.specs.declared.Element.TheVariants as found
-use Rattle.ecdsa.specs.Strict.{part, lead, digits_in, number_at, number_in, padded, Raw, lastly, pair_in, sequence, raw_of}
-use Rattle.ecdsa.specs.declared.Number.{Number}
-use Rattle.ecdsa.specs.declared.Number.TheVariants.{Digits, Nothing}
+use Rattle.der.specs.declared.Body.{Body}
+use Rattle.ecdsa.specs.Strict.{part, lead, stand, digits_in, number_at, number_in, padded, Raw, lastly, pair_in, sequence, raw_of}
+use Rattle.ecdsa.specs.declared.Digits.{Digits}
 
 -- whether the first byte only says that the number is not negative
 module _ (c : List ℕ) where
@@ -47,45 +45,51 @@ pub strict_some : (c : List ℕ) → strict c ≡ true → 0 < length c
 strict_some [] e = absurd (never (strict_none [] refl ∙ e))
 strict_some (x ∷ c) e = omega arith
 
+-- digits are told by their two places
+stand_same : {a b c d : ℕ} → stand a b ≡ stand c d → (a ≡ c) × (b ≡ d)
+stand_same {a} {b} {c} {d} e =
+    let same : ◌≡◌ {A = Digits} (record { start = a; end = b }) (record { start = c; end = d }) = cc in
+    (ap (λ x. x.start) same, ap (λ x. x.end) same)
+
 -- the digits of content, by the tests
 module _ (n from to : ℕ) (c : List ℕ) where
-  pub digits_not_strict : strict c ≡ false → Nothing ≡ digits_in n from to c
+  pub digits_not_strict : strict c ≡ false → None ≡ digits_in n from to c
   unfolding digits_in
   digits_not_strict s = simp s
 
   module _ (s : strict c ≡ true) where
-    pub digits_negative : 0x80 ≤ get_or c 0 0 → Nothing ≡ digits_in n from to c
+    pub digits_negative : 0x80 ≤ get_or c 0 0 → None ≡ digits_in n from to c
     unfolding digits_in
     digits_negative h = simp (s, le-ltb (get_or c 0 0) 0x80 h)
 
     module _ (h : get_or c 0 0 < 0x80) (k : ℕ) (e : lead c ≡ k) where
-      sized : pick (ltb n (to - from - k)) Nothing (Digits (from + k) to) ≡ digits_in n from to c
+      sized : pick (ltb n (to - from - k)) None (stand (from + k) to) ≡ digits_in n from to c
       unfolding digits_in
-      sized = sym (simp (s, lt-ltb (get_or c 0 0) 0x80 h) (ap (λ j. pick (ltb n (to - from - j)) Nothing (Digits (from + j) to)) e))
+      sized = sym (simp (s, lt-ltb (get_or c 0 0) 0x80 h) (ap (λ j. pick (ltb n (to - from - j)) None (stand (from + j) to)) e))
 
-      pub digits_too_big : n < to - from - k → Nothing ≡ digits_in n from to c
+      pub digits_too_big : n < to - from - k → None ≡ digits_in n from to c
       digits_too_big l = sym (simp (lt-ltb n (to - from - k) l)) ∙ sized
 
-      pub digits_is : to - from - k ≤ n → Digits (from + k) to ≡ digits_in n from to c
+      pub digits_is : to - from - k ≤ n → stand (from + k) to ≡ digits_in n from to c
       digits_is l = sym (simp (le-ltb n (to - from - k) l)) ∙ sized
 
 -- the INTEGER at the head, by what element is there
 module _ (n : ℕ) (t : List ℕ) where
-  pub number_none : element_in 0x02 t ≡ found.Nothing → Nothing ≡ number_in n t
+  pub number_none : element_in 0x02 t ≡ None → None ≡ number_in n t
   unfolding number_in
   number_none e = sym (ap (number_at n t) e)
 
-  pub number_at_lem : (from to : ℕ) → element_in 0x02 t ≡ found.Body from to → digits_in n from to (part from to t) ≡ number_in n t
+  pub number_at_lem : (from to : ℕ) → element_in 0x02 t ≡ lies from to → digits_in n from to (part from to t) ≡ number_in n t
   unfolding number_in
   number_at_lem from to e = sym (ap (number_at n t) e)
 
 -- both numbers, by what is read; t is what stands in the sequence, u what stands after r
 module _ (n : ℕ) (s : List ℕ) where
-  pub raw_none : element_in 0x30 s ≡ found.Nothing → raw_of n s ≡ Raw.none
+  pub raw_none : element_in 0x30 s ≡ None → raw_of n s ≡ Raw.none
   unfolding raw_of
   raw_none e = ap (sequence n s) e
 
-  module _ (from to : ℕ) (e : element_in 0x30 s ≡ found.Body from to) where
+  module _ (from to : ℕ) (e : element_in 0x30 s ≡ lies from to) where
     pub raw_more : (to ≡ length s → ⊥) → raw_of n s ≡ Raw.none
     unfolding raw_of
     raw_more h = ap (sequence n s) e ∙ simp (ne_eqb to (length s) h)
@@ -95,17 +99,17 @@ module _ (n : ℕ) (s : List ℕ) where
       unfolding raw_of
       raw_pair = ap (sequence n s) e ∙ simp (eq-eqb to (length s) whole) (ap (λ v. pair_in n v (number_in n v)) at_t)
 
-      pub raw_no_r : number_in n t ≡ Nothing → raw_of n s ≡ Raw.none
+      pub raw_no_r : number_in n t ≡ None → raw_of n s ≡ Raw.none
       raw_no_r f = raw_pair ∙ ap (pair_in n t) f
 
-      module _ (a b : ℕ) (f : number_in n t ≡ Digits a b) (u : List ℕ) (at_u : drop b t ≡ u) where
+      module _ (a b : ℕ) (f : number_in n t ≡ stand a b) (u : List ℕ) (at_u : drop b t ≡ u) where
         pub raw_rest : raw_of n s ≡ lastly n (padded n (part a b t)) u (number_in n u)
         raw_rest = raw_pair ∙ ap (pair_in n t) f ∙ ap (λ v. lastly n (padded n (part a b t)) v (number_in n v)) at_u
 
-        pub raw_no_s : number_in n u ≡ Nothing → raw_of n s ≡ Raw.none
+        pub raw_no_s : number_in n u ≡ None → raw_of n s ≡ Raw.none
         raw_no_s g = raw_rest ∙ ap (lastly n (padded n (part a b t)) u) g
 
-        module _ (x y : ℕ) (g : number_in n u ≡ Digits x y) where
+        module _ (x y : ℕ) (g : number_in n u ≡ stand x y) where
           pub raw_left : (y ≡ length u → ⊥) → raw_of n s ≡ Raw.none
           raw_left h = raw_rest ∙ ap (lastly n (padded n (part a b t)) u) g ∙ simp (ne_eqb y (length u) h)
 
@@ -115,19 +119,19 @@ module _ (n : ℕ) (s : List ℕ) where
 -- a number that was read: its INTEGER, whose content is strict, and where its digits start
 pub record Read (n : ℕ) (t : List ℕ) (a b : ℕ) : Type 0 where
   pub from : ℕ
-  pub is : element_in 0x02 t ≡ found.Body from b
+  pub is : element_in 0x02 t ≡ lies from b
   pub is_strict : strict (part from b t) ≡ true
   pub low : get_or (part from b t) 0 0 < 0x80
   pub start : a ≡ from + lead (part from b t)
   pub small : b - from - lead (part from b t) ≤ n
 
-nothing : {a b : ℕ} {r : Number} → Nothing ≡ r → r ≡ Digits a b → ⊥
+nothing : {a b : ℕ} {r : Option Digits} → None ≡ r → r ≡ stand a b → ⊥
 nothing e f = let z : ◌≡◌ {A = ℕ} 0 1 = cc in omega arith
 
 digits_read :
     (n : ℕ) (t : List ℕ) (from to a b : ℕ) →
-    element_in 0x02 t ≡ found.Body from to →
-    digits_in n from to (part from to t) ≡ Digits a b →
+    element_in 0x02 t ≡ lies from to →
+    digits_in n from to (part from to t) ≡ stand a b →
     Read n t a b
 digits_read n t from to a b is e =
     by_test (strict c)
@@ -144,17 +148,15 @@ digits_read n t from to a b is e =
         (λ l. absurd (nothing (digits_too_big n from to c s h (lead c) refl (ltb-true n (to - from - lead c) l)) e))
         (λ l.
         let room = ltb-false n (to - from - lead c) l in
-        let same : Digits (from + lead c) to ≡ Digits a b = digits_is n from to c s h (lead c) refl room ∙ e in
-        let first : from + lead c ≡ a = cc in
-        let last : to ≡ b = cc in
-        subst₂ (λ y z. Read n t y z) first last (record { from = from; is = is; is_strict = s; low = h; start = refl; small = room }))
+        let same = stand_same (digits_is n from to c s h (lead c) refl room ∙ e) in
+        subst₂ (λ y z. Read n t y z) same.0 same.1 (record { from = from; is = is; is_strict = s; low = h; start = refl; small = room }))
 
-pub number_read : (n : ℕ) (t : List ℕ) (a b : ℕ) → number_in n t ≡ Digits a b → Read n t a b
+pub number_read : (n : ℕ) (t : List ℕ) (a b : ℕ) → number_in n t ≡ stand a b → Read n t a b
 number_read n t a b e = read (element_in 0x02 t) refl
   where
-    read : (r : Element) → element_in 0x02 t ≡ r → Read n t a b
-    read (found.Body from to) f = digits_read n t from to a b f (number_at_lem n t from to f ∙ e)
-    read found.Nothing f = absurd (nothing (number_none n t f) e)
+    read : (r : Option Body) → element_in 0x02 t ≡ r → Read n t a b
+    read (Some d) f = digits_read n t d.start d.end a b f (number_at_lem n t d.start d.end f ∙ e)
+    read None f = absurd (nothing (number_none n t f) e)
 
 -- its digits lie inside, and there are at most n
 pub record Inside (n : ℕ) (t : List ℕ) (a b : ℕ) : Type 0 where
@@ -169,7 +171,7 @@ lead_at_most c size s e =
 placed : (n from a b k : ℕ) (t : List ℕ) → from ≤ b → b ≤ length t → k ≤ b - from → a ≡ from + k → b - from - k ≤ n → Inside n t a b
 placed n from a b k t order end h start small = record { order = omega arith; end = end; small = omega arith }
 
-pub number_inside : (n : ℕ) (t : List ℕ) → Bytes t → (a b : ℕ) → number_in n t ≡ Digits a b → Inside n t a b
+pub number_inside : (n : ℕ) (t : List ℕ) → Bytes t → (a b : ℕ) → number_in n t ≡ stand a b → Inside n t a b
 number_inside n t bytes a b e =
     let r = number_read n t a b e in
     let whole = element_whole 0x02 t bytes r.from b r.is in
@@ -181,17 +183,6 @@ number_inside n t bytes a b e =
 pub length_padded : (n : ℕ) (digits : List ℕ) → length digits ≤ n → length (padded n digits) ≡ n
 length_padded n digits h =
     length-append (replicate (n - length digits) 0) digits ∙ omega (arith, length-replicate {A = ℕ} (n - length digits) 0)
-
--- one more leading zero
-pub zero_more :
-    (out : List ℕ) (at i : ℕ) →
-    at + i < length out →
-    set (over out at (replicate i 0)) (at + i) 0 ≡ over out at (replicate (i + 1) 0)
-zero_more out at i h =
-    let many : length (replicate {A = ℕ} i 0) ≡ i = length-replicate i 0 in
-    ap (λ k. set (over out at (replicate i 0)) (at + k) 0) (sym many)
-    ∙ over_set out at (replicate i 0) 0 (omega arith)
-    ∙ ap (over out at) (replicate-append-replicate i 1 0)
 
 -- the digits after the zeros
 pub padded_put :

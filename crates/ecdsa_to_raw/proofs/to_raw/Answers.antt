@@ -12,18 +12,18 @@ use Rattle.ecdsa.proofs.Strict.Laws.{raw_none, raw_more}
 use Rattle.ecdsa.specs.Strict.ToRaw.{to_raw_no_size, to_raw_not_strict}
 use Rattle.ecdsa_to_raw.specs.Rawed.{to_raw_pair}
 use Rattle.ecdsa_to_raw.proofs.to_raw.Goals as goal
-use Rattle.ecdsa_to_raw.proofs.to_raw.Goals.{Else-not-is_size, In-Body}
+use Rattle.ecdsa_to_raw.proofs.to_raw.Goals.{Else-not-is_size, In-Some}
 
 sized : (c : Else-not-is_size) → is_size c.args.n ≡ true
 sized c = sym c.is_size.ensures ∙ c.if-not-is_size.false
 
 -- the sequence is whole
 framed :
-    (c : In-Body) →
-    Found 0x30 c.args.der.now c.in-Body.start c.in-Body.end
+    (c : In-Some) →
+    Found 0x30 c.args.der.now c.in-Some.body.start c.in-Some.body.end
 framed c =
     element_whole 0x30 _ (λ i. (c.type_inv.der i).fits) _ _
-    (sym c.element_of-found.ensures ∙ c.in-Body.is)
+    (sym c.element_of.ensures ∙ c.in-Some.is)
 
 pub returns-then-not-is_size : goal.returns-then-not-is_size
 returns-then-not-is_size c =
@@ -32,28 +32,28 @@ returns-then-not-is_size c =
 
 pub returns-in_default : goal.returns-in_default
 returns-in_default c =
-    let w = refuses _ 62 0 _ (to_raw_not_strict _ _ _ (sized (goal.at.returns-in_default c).Else-not-is_size) (raw_none _ _ (sym c.element_of-found.ensures ∙ c.in_default.is))) in
+    let w = refuses _ 62 0 _ (to_raw_not_strict _ _ _ (sized (goal.at.returns-in_default c).Else-not-is_size) (raw_none _ _ (sym c.element_of.ensures ∙ c.in_default.is))) in
     record { answer = w.0; buffer = w.1 }
 
-pub returns-then-end-der : goal.returns-then-end-der
-returns-then-end-der c =
+pub returns-then-body-der : goal.returns-then-body-der
+returns-then-body-der c =
     let w = refuses _ 62 0 _
-    (to_raw_not_strict _ _ _ (sized (goal.at.returns-then-end-der c).Else-not-is_size)
-    (raw_more _ _ _ _ (sym c.element_of-found.ensures ∙ c.in-Body.is) c.if-end-der.true)) in
+    (to_raw_not_strict _ _ _ (sized (goal.at.returns-then-body-der c).Else-not-is_size)
+    (raw_more _ _ _ _ (sym c.element_of.ensures ∙ c.in-Some.is) c.if-body-der.true)) in
     record { answer = w.0; buffer = w.1 }
 
 pub put_pair-requires : goal.put_pair-requires
 put_pair-requires c = omega (arith, size_bounds _ (sized (goal.at.put_pair-requires c).Else-not-is_size))
 
 pub slice_bounds-put_pair-count : goal.slice_bounds-put_pair-count
-slice_bounds-put_pair-count c = let f = framed (goal.at.slice_bounds-put_pair-count c).In-Body in omega (arith, f.order, f.inside)
+slice_bounds-put_pair-count c = let f = framed (goal.at.slice_bounds-put_pair-count c).In-Some in omega (arith, f.order, f.inside)
 
 pub slice_bounds-put_pair-start : goal.slice_bounds-put_pair-start
-slice_bounds-put_pair-start c = let f = framed (goal.at.slice_bounds-put_pair-start c).In-Body in omega (arith, f.order, f.inside)
+slice_bounds-put_pair-start c = let f = framed (goal.at.slice_bounds-put_pair-start c).In-Some in omega (arith, f.order, f.inside)
 
 pub returns : goal.returns
 returns c =
     let a = c.args in
-    let found = sym c.element_of-found.ensures ∙ c.in-Body.is in
-    let e = to_raw_pair _ _ _ _ _ (sized (goal.at.returns c).Else-not-is_size) found c.if-end-der.false _ refl in
+    let found = sym c.element_of.ensures ∙ c.in-Some.is in
+    let e = to_raw_pair _ _ _ _ _ (sized (goal.at.returns c).Else-not-is_size) found c.if-body-der.false _ refl in
     record { answer = c.put_pair.ensures.answer ∙ ap told e; buffer = c.put_pair.ensures.buffer ∙ ap (λ o. filled o a.out.now) e }

@@ -1,6 +1,6 @@
 -- The tests of characters against the grammar, both ways.
 -- Assumes nothing.
-use Rattle.std.specs.Prelude.{◌≡◌, refl, ◌⊎◌, Bool, true, ℕ, List, [], ◌∷◌, length}
+use Rattle.std.specs.Prelude.{◌≡◌, refl, Bool, true, ℕ, List, [], ◌∷◌, length}
 use Rattle.std.proofs.Common.{ap, ◌∙◌, inl, inr, ⊎_elim, arith}
 use Rattle.format.specs.Choice.{both, either}
 use Rattle.format.specs.Choice.Laws.{both_true, either_true, within_true, within_below, within_both}

@@ -1,6 +1,5 @@
 -- `front_days::day_front` meets its contract: by how many bytes are left, and of three by whether they are a day.
 -- Assumes nothing.
-use borrow.Author.Rules.{rules}
 use native.Mathlib.Omega.{arith}
 use mathlib.Core.Path.{ap, sym, ◌∙◌}
 use Prim.Native.Nat.{◌+◌, ◌≤◌}
@@ -27,13 +26,13 @@ returns-then-left-eq2 c =
     let a = c.args in
     c.two_front.ensures ∙ front_two a.seal.now a.at (omega arith)
 
-pub returns-in_default : goal.returns-in_default
-returns-in_default c =
-    c.two_front-in_default.ensures
-    ∙ front_no_day _ _ (left (goal.at.returns-in_default c).Else-left-eq2)
-    (taken_none _ (sym (ap taken_of c.in_default.is) ∙ c.from_bytes.ensures))
+pub returns-in-Err : goal.returns-in-Err
+returns-in-Err c =
+    c.two_front-in-Err.ensures
+    ∙ front_no_day _ _ (left (goal.at.returns-in-Err c).Else-left-eq2)
+    (taken_none _ (sym (ap taken_of c.in-Err.is) ∙ c.from_bytes.ensures))
 
-pub returns : goal.returns
-returns c =
-    front_day _ _ (left (goal.at.returns c).Else-left-eq2)
-    (taken_day _ _ (sym (ap taken_of c.in-Day.is) ∙ c.from_bytes.ensures))
+pub returns-in-Ok : goal.returns-in-Ok
+returns-in-Ok c =
+    front_day _ _ (left (goal.at.returns-in-Ok c).Else-left-eq2)
+    (taken_day _ _ (sym (ap taken_of c.in-Ok.is) ∙ c.from_bytes.ensures))

@@ -1,9 +1,8 @@
 -- `after_one` meets its contract: no byte behind 81, one below 128, or another.
 -- Assumes nothing.
-use borrow.Author.Rules.{rules}
 use mathlib.Core.Path.{◌∙◌}
 use native.Mathlib.Omega.{arith}
-use Prim.Native.Nat.{◌+◌, ◌-◌}
+use Prim.Native.Nat.{◌-◌}
 use Rattle.front_features.specs.Lengths.{one_end, one_small, one_last}
 use Rattle.front_features.proofs.after_one.Goals as goal
 
@@ -14,10 +13,6 @@ pub returns-then-size-lt128 : goal.returns-then-size-lt128
 returns-then-size-lt128 c =
     let a = c.args in
     one_small (4096 - a.at) a.at a.seal.now c.wide-size.result (omega arith) c.wide-size.ensures (omega arith)
-
-pub last_front-requires : goal.last_front-requires
-last_front-requires c =
-    omega (arith, c.type_inv.seal (c.args.at + 1))
 
 pub returns : goal.returns
 returns c = c.last_front.ensures ∙ one_last _ _ _ _ (omega arith) c.wide-size.ensures (omega arith)

@@ -1,9 +1,8 @@
 -- `after_two` meets its contract: no byte behind 82, 0, a byte without room for what it tells, or another.
 -- Assumes nothing.
-use borrow.Author.Rules.{rules}
 use mathlib.Core.Path.{◌∙◌}
 use native.Mathlib.Omega.{arith}
-use Prim.Native.Nat.{◌+◌, ◌-◌}
+use Prim.Native.Nat.{◌-◌}
 use Rattle.front_features.specs.Lengths.{two_end, two_zero, two_cramped, two_high}
 use Rattle.front_features.proofs.after_two.Goals as goal
 
@@ -12,18 +11,6 @@ returns-then-seal-next c = two_end _ _ _ (omega arith)
 
 pub returns-then-high-eq0 : goal.returns-then-high-eq0
 returns-then-high-eq0 c = two_zero _ _ _ _ (omega arith) c.wide-high.ensures c.if-high-eq0.true
-
-pub overflow_mul-high : goal.overflow_mul-high
-overflow_mul-high c =
-    omega (arith, c.type_inv.seal (c.args.at + 1))
-
-pub overflow_add-high : goal.overflow_add-high
-overflow_add-high c =
-    omega (arith, c.type_inv.seal (c.args.at + 1))
-
-pub overflow_add-high-2 : goal.overflow_add-high-2
-overflow_add-high-2 c =
-    omega (arith, c.type_inv.seal (c.args.at + 1))
 
 pub returns-then-at-high : goal.returns-then-at-high
 returns-then-at-high c =

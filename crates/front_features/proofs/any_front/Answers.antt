@@ -1,6 +1,5 @@
 -- `any_front` meets its contract, by whether all of the bytes are there.
 -- Assumes nothing.
-use borrow.Author.Rules.{rules}
 use native.Mathlib.Omega.{arith}
 use Rattle.front_features.specs.Places.{any_short, any_whole}
 use Rattle.front_features.proofs.any_front.Goals as goal

@@ -1,6 +1,5 @@
 -- `last_front` meets its contract, by whether the value and a signature zone have room.
 -- Assumes nothing.
-use borrow.Author.Rules.{rules}
 use native.Mathlib.Omega.{arith}
 use Rattle.front_features.specs.Lengths.{last_cramped, last_is}
 use Rattle.front_features.proofs.last_front.Goals as goal

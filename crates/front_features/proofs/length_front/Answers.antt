@@ -9,12 +9,6 @@ use Rattle.front_features.proofs.length_front.Goals as goal
 pub returns-then-seal-at : goal.returns-then-seal-at
 returns-then-seal-at c = length_end _ _ _ _ (omega arith)
 
-pub last_front-requires : goal.last_front-requires
-last_front-requires c = omega (arith, c.type_inv.seal c.args.at)
-
-pub der_front-requires : goal.der_front-requires
-der_front-requires c = omega (arith, c.type_inv.seal c.args.at)
-
 pub returns-in-Three : goal.returns-in-Three
 returns-in-Three c = c.last_front.ensures ∙ length_three _ _ _ _ (omega arith) c.wide-first.ensures _ c.in-Three.is
 

@@ -34,8 +34,5 @@ returns-then-start-gt4038 c = behind _ _ _ c.if-start-gt4038.true
 pub returns-then-seal-start : goal.returns-then-seal-start
 returns-then-seal-start c = past _ _ _ c.if-start-gt4038.false c.if-seal-start.true
 
-pub message_front-requires : goal.message_front-requires
-message_front-requires c = (c.if-seal-start.false, omega (arith, c.if-start-gt4038.false))
-
 pub returns : goal.returns
 returns c = c.message_front.ensures ∙ sym (before _ _ _ c.if-start-gt4038.false)

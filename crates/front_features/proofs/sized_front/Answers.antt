@@ -1,6 +1,5 @@
 -- `sized_front` meets its contract, by whether the signature has room.
 -- Assumes nothing.
-use borrow.Author.Rules.{rules}
 use native.Mathlib.Omega.{arith}
 use Prim.Native.Nat.{◌-◌}
 use Rattle.front_features.specs.Signature.{sized_cramped, sized_is}

@@ -1,7 +1,7 @@
 -- The items of a header: each is cut off the front of bytes in one way only; those of one byte, as far as they can be
 -- completed; and what is asked of those of more.
 -- Assumes nothing.
-use Rattle.std.specs.Prelude.{◌≡◌, Bool, true, ℕ, ◌+◌, ◌-◌, ◌*◌, ◌/◌, ◌%◌, ◌<◌, ltb, eqb, length}
+use Rattle.std.specs.Prelude.{◌≡◌, Bool, true, ℕ, ◌+◌, ◌-◌, ◌*◌, ◌/◌, ◌%◌, ◌<◌, ltb, eqb, length, Ok}
 use Rattle.std.proofs.Math.Path.{refl, ap}
 use Rattle.std.proofs.Common.{sym, ap₂, ◌∙◌, subst, inl, arith, ltb-true, ltb-false, eqb-true, eq-eqb}
 use Rattle.std.proofs.Math.Bool.{false}
@@ -88,7 +88,7 @@ value_hex n h =
 
 -- the bytes of a pair of three characters
 pair_bytes : (a b c : ℕ) → let n = packed_of (value_of a) (value_of b) (value_of c) in c40 (a ∷ b ∷ c ∷ []) ≡ (n / 256 % 256) ∷ (n % 256) ∷ []
-pair_bytes a b c = publish_pair (Three a b c) ∙ triple_is (value_of a) (value_of b) (value_of c)
+pair_bytes a b c = publish_pair (Ok (Three a b c)) ∙ triple_is (value_of a) (value_of b) (value_of c)
 
 -- the number of a pair of three values, and its second and third
 number_back_lem : (a b c : ℕ) → a < 40 → b < 40 → c < 40 → let n = packed_of a b c in number (n / 256 % 256) (n % 256) ≡ n

@@ -1,6 +1,6 @@
 -- The characters of a header's pairs, by their values, and back; and a pair's bytes, by its three values.
 -- Assumes nothing.
-use Rattle.std.specs.Prelude.{◌≡◌, refl, ℕ, ◌+◌, ◌-◌, ◌/◌, ◌%◌, ◌<◌, ◌≤◌, [], ◌∷◌, ltb}
+use Rattle.std.specs.Prelude.{◌≡◌, refl, ℕ, ◌+◌, ◌-◌, ◌/◌, ◌%◌, ◌<◌, ◌≤◌, [], ◌∷◌, ltb, Ok}
 use Rattle.std.proofs.Common.{sym, subst, ◌∙◌, inl, inr, ⊎_elim, arith, ltb-true, ltb-false, eq-eqb, ne_eqb}
 use Rattle.format.specs.Choice.Laws.{by_test}
 use Rattle.pairs.specs.Chart.{value_of}
@@ -82,13 +82,13 @@ triple_pair kind a b c h ha hb hc k =
 
 -- the form of three characters and of two
 pub form_three : (a b c : ℕ) → c40 (a ∷ b ∷ c ∷ []) ≡ triple (value_of a) (value_of b) (value_of c)
-form_three a b c = publish_pair (pair.Three a b c)
+form_three a b c = publish_pair (Ok (pair.Three a b c))
 
 pub form_two : (a b : ℕ) → c40 (a ∷ b ∷ []) ≡ triple (value_of a) (value_of b) 0
-form_two a b = publish_pair (pair.Two a b)
+form_two a b = publish_pair (Ok (pair.Two a b))
 
 pub form_one : (a : ℕ) → c40 (a ∷ []) ≡ 0xFE ∷ (a + 1) ∷ []
-form_one a = publish_pair (pair.One a)
+form_one a = publish_pair (Ok (pair.One a))
 
 -- the form of text of three characters that have these values
 pub form_with :

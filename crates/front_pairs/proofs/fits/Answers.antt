@@ -1,6 +1,5 @@
 -- `fits` meets its contract: one character left over is told by FE, any other pair by its number.
 -- Assumes nothing.
-use borrow.Author.Rules.{rules}
 use mathlib.Core.Path.{◌∙◌}
 use Rattle.front_pairs.specs.Pairs.{fits}
 use Rattle.front_pairs.specs.Pairs.Laws.{fits_values}

@@ -1,6 +1,5 @@
 -- `opens` meets its contract: the first and the last of the 256 numbers tell, unless it is one character left over.
 -- Assumes nothing.
-use borrow.Author.Rules.{rules}
 use native.Mathlib.Omega.{arith}
 use mathlib.Core.Path.{◌≡◌, ◌∙◌, ap, sym}
 use Prim.Native.Nat.{◌+◌, ◌*◌, ◌-◌}

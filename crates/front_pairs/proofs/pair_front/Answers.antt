@@ -1,6 +1,5 @@
 -- `pair_front` meets its contract: a whole pair, or its first byte, or none.
 -- Assumes nothing.
-use borrow.Author.Rules.{rules}
 use native.Mathlib.Omega.{arith}
 use mathlib.Core.Path.{◌≡◌, ◌∙◌, ap, sym}
 use mathlib.Core.Bool.{false}

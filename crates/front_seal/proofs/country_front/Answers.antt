@@ -3,7 +3,6 @@
 use Rattle.grammar.specs.Content.{three, four}
 use Rattle.front_header.specs.Header.{names_front}
 use Rattle.front_seal.specs.Steps.Names.{country_ends, signer_ends, names_go}
-use borrow.Author.Rules.{rules}
 use Rattle.front_seal.proofs.country_front.Goals as goal
 
 pub returns-then-country-lt2 : goal.returns-then-country-lt2

@@ -1,7 +1,6 @@
 -- `front_seal::dates_front` meets its contract: item by item, and then features and signature.
 -- Assumes nothing.
 use Rattle.front_seal.specs.Steps.Dates.{issued_ends, signed_ends, definition_ends, category_ends, rest_goes}
-use borrow.Author.Rules.{rules}
 use Rattle.front_seal.proofs.dates_front.Goals as goal
 
 pub returns-then-issued-lt3 : goal.returns-then-issued-lt3

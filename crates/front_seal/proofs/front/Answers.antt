@@ -4,7 +4,6 @@ use mathlib.Core.Path.{ap, sym, ◌∙◌}
 use native.Mathlib.Omega.{arith}
 use Rattle.versions.specs.Versions.{stated_of, version_of_byte}
 use Rattle.front_seal.specs.Steps.Start.{two_there, no_bytes, no_mark, mark_alone, no_version, version_goes}
-use borrow.Author.Rules.{rules}
 use Rattle.front_seal.proofs.front.Goals as goal
 
 pub returns-then-n-eq0 : goal.returns-then-n-eq0
@@ -24,5 +23,5 @@ returns-in_default c =
 pub returns : goal.returns
 returns c =
     version_goes _ _ (two_there _ c.if-n-eq0.false c.if-n-eq1.false) c.if-seal.false
-    (sym (ap stated_of c.in-Is.is) ∙ c.from_byte.ensures ∙ ap version_of_byte c.wide.ensures)
+    (sym (ap stated_of c.in-Ok.is) ∙ c.from_byte.ensures ∙ ap version_of_byte c.wide.ensures)
     _ c.country_front.ensures

@@ -1,7 +1,6 @@
 -- `front_seal::six_front` meets its contract: six characters, and then the dates.
 -- Assumes nothing.
 use Rattle.front_seal.specs.Steps.Names.{six_ends, six_goes}
-use borrow.Author.Rules.{rules}
 use Rattle.front_seal.proofs.six_front.Goals as goal
 
 pub returns-then-six-lt4 : goal.returns-then-six-lt4

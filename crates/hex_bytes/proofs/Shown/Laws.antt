@@ -4,25 +4,19 @@ use Rattle.std.specs.Prelude.{◌≡◌, refl, ℕ, ◌+◌, ◌-◌, ◌/◌, �
 use Rattle.std.proofs.Common.{ap, ◌∙◌, arith, add-one, eq-eqb, ne_eqb, append-nil, take-suc, take_all}
 use Rattle.format.specs.Choice.{pick}
 use Rattle.format.specs.Hex.{hex_digit}
-use Rattle.lines.specs.Line.{Put, ascii, decimal_of}
-use Rattle.lines.specs.Line.Laws.{put_more}
+use Rattle.lines.specs.Line.{ascii, decimal_of}
+use Rattle.lines.specs.declared.written.Line.{Line}
+use Rattle.lines.specs.Written.{Puts}
+use Rattle.lines.specs.Written.Laws.{puts_more}
 use Rattle.hex_bytes.specs.Shown.{spaced, hex_bytes, most, and_more, shown}
 
 -- a byte: a space and its digits
 module _ (byte high low : ℕ) (e : high ≡ hex_digit (byte / 16)) (f : low ≡ hex_digit (byte % 16)) where
-  pub byte_put :
-      (old : List ℕ) (at : ℕ) (mid : List ℕ) (m : ℕ) (mid' : List ℕ) (m' : ℕ) (new : List ℕ) (r : ℕ) →
-      Put old at (32 ∷ []) mid m →
-      length mid ≡ length old →
-      Put mid m (high ∷ []) mid' m' →
-      length mid' ≡ length mid →
-      Put mid' m' (low ∷ []) new r →
-      Put old at (spaced byte) new r
-  byte_put old at mid m mid' m' new r p g q h t =
+  pub byte_put : (a b c d : Line) → Puts a (32 ∷ []) b → Puts b (high ∷ []) c → Puts c (low ∷ []) d → Puts a (spaced byte) d
+  byte_put a b c d p q t =
       let one = hex_digit (byte / 16) in
       let two = hex_digit (byte % 16) in
-      put_more old at (32 ∷ []) mid m (one ∷ two ∷ []) new r p g
-      (put_more mid m (one ∷ []) mid' m' (two ∷ []) new r (rw e at q) h (rw f at t))
+      puts_more a b d (32 ∷ []) (one ∷ two ∷ []) p (puts_more b c d (one ∷ []) (two ∷ []) (rw e at q) (rw f at t))
 
 -- one byte more
 hex_more : (s : List ℕ) (b : ℕ) → hex_bytes (s ++ (b ∷ [])) ≡ hex_bytes s ++ spaced b
@@ -31,13 +25,14 @@ hex_more [] b = refl
 hex_more (x ∷ s) b = ap (λ t. spaced x ++ t) (hex_more s b)
 
 -- a turn of the loop that puts down bytes in hexadecimal
-module _ (s old : List ℕ) (at i : ℕ) (here : i < length s) (mid : List ℕ) (m : ℕ) (long : length mid ≡ length old) where
-  pub hex_turn :
-      (new : List ℕ) (r : ℕ) →
-      Put old at (hex_bytes (take i s)) mid m →
-      Put mid m (spaced (get_or s i 0)) new r →
-      Put old at (hex_bytes (take (i + 1) s)) new r
-  hex_turn new r p q = rw (add-one, take-suc s i 0, hex_more) (put_more old at (hex_bytes (take i s)) mid m _ new r p long q)
+pub hex_turn :
+    (s : List ℕ) (i : ℕ) →
+    i < length s →
+    (a b c : Line) →
+    Puts a (hex_bytes (take i s)) b →
+    Puts b (spaced (get_or s i 0)) c →
+    Puts a (hex_bytes (take (i + 1) s)) c
+hex_turn s i here a b c p q = rw (add-one, take-suc s i 0, hex_more) (puts_more a b c (hex_bytes (take i s)) (spaced (get_or s i 0)) p q)
 
 -- how many more there are, by the test
 module _ (n : ℕ) where

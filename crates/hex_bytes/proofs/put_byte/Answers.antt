@@ -14,5 +14,4 @@ returns c =
     let one : c.hex_digit.result ≡ hex_digit (byte / 16) = c.hex_digit.ensures ∙ ap (λ k. hex_digit k) high in
     let two : c.hex_digit-2.result ≡ hex_digit (byte % 16) =
     c.hex_digit-2.ensures ∙ ap (λ k. hex_digit (k % 16)) c.wide-n.ensures in
-    byte_put byte _ _ one two _ _ _ _ _ _ _ _
-    c.put-o.ensures c.put-o.auto.out c.put-o-2.ensures c.put-o-2.auto.out c.put.ensures
+    byte_put byte _ _ one two _ _ _ _ c.put.ensures c.put-2.ensures c.put-3.ensures

@@ -1,10 +1,10 @@
 -- Laws of the calls: the answer by the tests that lead there.
 -- Assumes nothing.
-use Rattle.std.specs.Prelude.{◌≡◌, Bool, true, false, ℕ, ◌+◌, ◌-◌, ◌<◌, ◌≤◌, List, [], ◌∷◌, ◌++◌, ltb, ℤ, pos, length, take, drop, set}
+use Rattle.std.specs.Prelude.{◌≡◌, Bool, true, false, ℕ, ◌+◌, ◌-◌, ◌<◌, ◌≤◌, List, [], ◌∷◌, ◌++◌, None, ltb, ℤ, pos, length, take, drop, set}
 use Rattle.std.proofs.Math.Path.{ap}
 use Rattle.std.proofs.Common.{sym, ◌∙◌, arith, lt-ltb, le-ltb, eq-eqb, ne_eqb, length-drop, length-set, take_all}
 use Rattle.format.specs.Order.Laws.{in_no_room, in_room_lem}
-use Rattle.format.specs.Answers.{Result, done, refused, told, filled, result, refusal}
+use Rattle.format.specs.Answers.{Valued, done, refused, told, filled, result, refusal}
 use Rattle.format.proofs.Answers.Laws.{refuses, gives}
 use Rattle.format.specs.Buffer.{over}
 use Rattle.format.proofs.Buffer.Laws.{over_two, over_over, length_over}
@@ -14,8 +14,7 @@ use Rattle.format.specs.Choice.{pick}
 use Rattle.format.specs.BigEndian.{be}
 use Rattle.format.specs.BigEndian.Laws.{length_be}
 use Rattle.der.proofs.Lengths.Exact.{form_short}
-use Rattle.der.specs.Element.{element_in}
-use Rattle.der.specs.declared.Element.TheVariants.{Body, Nothing}
+use Rattle.der.specs.Element.{lies, element_in}
 use Rattle.der.specs.Content.{strict, shortest, integer}
 use Rattle.integers.specs.Integer.{word, value_of, integer_of}
 use Rattle.integers.specs.OneElement.{part}
@@ -23,7 +22,7 @@ use Rattle.integers.specs.Calls.{content, whole, reading, writing}
 
 -- content, by the tests
 module _ (c : List ℕ) where
-  chosen : Bool → Result ℤ
+  chosen : Bool → Valued ℤ
   chosen b = pick b (pick (ltb 8 (length c)) (refusal (pos 0) 65) (result (value_of c))) (refusal (pos 0) 65)
 
   pub content_loose : strict c ≡ false → content c ≡ refusal (pos 0) 65
@@ -41,11 +40,11 @@ module _ (c : List ℕ) where
 
 -- reading, by the element
 module _ (s : List ℕ) where
-  pub reading_none : element_in 0x02 s ≡ Nothing → reading s ≡ refusal (pos 0) 65
+  pub reading_none : element_in 0x02 s ≡ None → reading s ≡ refusal (pos 0) 65
   unfolding reading
   reading_none e = ap (whole s) e
 
-  module _ (start end : ℕ) (e : element_in 0x02 s ≡ Body start end) where
+  module _ (start end : ℕ) (e : element_in 0x02 s ≡ lies start end) where
     pub reading_more : (end ≡ length s → ⊥) → reading s ≡ refusal (pos 0) 65
     unfolding reading
     reading_more f = ap (whole s) e ∙ ap (λ b. pick b (content (part s start end)) (refusal (pos 0) 65)) (ne_eqb end (length s) f)

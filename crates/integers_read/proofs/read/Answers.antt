@@ -2,14 +2,11 @@
 -- Assumes nothing.
 use native.Mathlib.Omega.{arith}
 use mathlib.Core.Path.{◌∙◌, ap, sym}
-use mathlib.Core.List.{List}
-use Prim.Native.Nat.{ℕ, ◌-◌}
+use Prim.Native.Nat.{◌-◌}
 use lib.ListN.{length, get_or, drop, length-drop}
 use lib.Seq.{take_all}
-use Rattle.format.specs.Bytes.{Bytes}
 use Rattle.integers.specs.Calls.{content}
 use Rattle.integers.proofs.Exact.{small_reads, not_small}
-use borrow.Author.Rules.{rules}
 use Rattle.integers_read.proofs.read.Goals as goal
 
 pub returns-then-n-lt3 : goal.returns-then-n-lt3

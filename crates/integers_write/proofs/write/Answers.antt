@@ -9,7 +9,6 @@ use Rattle.format.specs.BigEndian.{be}
 use Rattle.der.specs.Content.{shortest}
 use Rattle.integers.specs.Integer.{word}
 use Rattle.integers.specs.Calls.Laws.{no_room, written_size, written}
-use borrow.Author.Rules.{rules}
 use Rattle.integers_write.proofs.write.Goals as goal
 use Rattle.integers_write.proofs.write.Goals.{After-start_of-start}
 

@@ -1,6 +1,5 @@
 -- `listing::put_listing` meets its contract: the seal is accepted, or it is refused.
 -- Assumes nothing.
-use borrow.Author.Rules.{rules}
 use borrow.Author.Tests.{eq-eqb, ne_eqb}
 use mathlib.Core.Path.{◌≡◌}
 use mathlib.Core.Bool.{true, false}

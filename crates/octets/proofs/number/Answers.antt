@@ -1,55 +1,47 @@
--- `octets::number` meets its contract. The loop's invariant: the value is that of the bytes passed, eight at most.
+-- `octets::number` meets its contract.
 -- Assumes nothing.
-use borrow.Author.Rules.{rules}
-use native.Mathlib.Omega.{arith}
-use native.Mathlib.Nat.{pow-le-pow_right}
-use mathlib.Core.Path.{◌≡◌, ◌∙◌, refl, ap}
+use Rattle.std.proofs.Common.{◌≡◌, arith, refl, ◌<◌, ◌≤◌, ◌^◌, length, take, get_or, min, length-take, List, ℕ, ◌+◌, ◌*◌}
+use Rattle.std.proofs.lemmas.List.{get_or-take}
+use Rattle.std.proofs.Math.Nat.{pow-le-pow_right}
 use lib.Dec.{lit≤}
-use Prim.Native.Nat.{◌-◌, ◌^◌, ◌<◌, ◌≤◌}
-use lib.ListN.{length}
 use Rattle.format.specs.BigEndian.{val}
+use Rattle.format.specs.Bytes.{Bytes}
 use Rattle.format.specs.BigEndian.Laws.{val_below, val_more}
 use Rattle.octets.proofs.number.Goals as goal
-use Rattle.octets.proofs.number.Goals.{Else-i-eq8}
+use Rattle.octets.proofs.number.Goals.{In-loop-x, After-wide}
 
--- seven bytes at most are passed where another is taken in
-small : (c : Else-i-eq8) → c.loop-i.value < 256 ^ 7
-small c =
-    let s = c.args.s.now in
-    let seven : c.loop-i.i ≤ 7 = omega (arith, c.if-i-eq8.false) in
-    let most : 256 ^ c.loop-i.i ≤ 256 ^ 7 = pow-le-pow_right (lit≤ tt) seven in
-    let below = val_below c.loop-i.i s (λ k. (c.shared_slice_known-1.given k).fits) in
-    omega arith
+-- eight bytes at most, and so below the width
+small : (i : ℕ) (s : List ℕ) → Bytes s → i < 8 → val s (i + 1) < 2 ^ 64
+small i s b h =
+    let many : i + 1 ≤ 8 = omega arith in
+    let most : 256 ^ (i + 1) ≤ 256 ^ 8 = pow-le-pow_right (lit≤ tt) many in
+    omega (arith, val_below (i + 1) s b)
 
-pub loop-i-init : goal.loop-i-init
+room : (n i : ℕ) (s : List ℕ) → n ≡ min (length s) 8 → i < length (take n s) → i < 8
+room n i s e h = omega (arith, length-take n s)
+
+-- a byte more
+more : (n i value byte : ℕ) (s : List ℕ) → value ≡ val s i → i < length (take n s) → byte ≡ get_or (take n s) i 0 → value * 256 + byte ≡ val s (i + 1)
+more n i value byte s e h b =
+    let at : get_or (take n s) i 0 ≡ get_or s i 0 = get_or-take n s i 0 (omega (arith, length-take n s)) in
+    omega (arith, val_more s i)
+
+pub loop-x-init : goal.loop-x-init
 unfolding val
-loop-i-init c = (omega arith, omega arith, refl)
+loop-x-init c = refl
 
-pub returns-then-i-eq8 : goal.returns-then-i-eq8
-returns-then-i-eq8 c =
-    c.loop-i.invariant.2 ∙ ap (val c.args.s.now) (omega arith)
+-- what the turn makes of the value
+turn : (c : After-wide) → c.loop-x.value * 256 + c.wide.result ≡ val c.args.s.now (c.loop-x.x-index + 1)
+turn c = more c.min.result c.loop-x.x-index _ _ c.args.s.now c.loop-x.invariant c.loop-x-test.true c.wide.ensures
+
+fits : (c : In-loop-x) → val c.args.s.now (c.loop-x.x-index + 1) < 2 ^ 64
+fits c = small c.loop-x.x-index c.args.s.now (λ k. (c.type_inv.s k).fits) (room _ c.loop-x.x-index c.args.s.now c.min.ensures c.loop-x-test.true)
 
 pub overflow_mul-value : goal.overflow_mul-value
-overflow_mul-value c = omega (arith, small c)
-
-pub bounds-s-i : goal.bounds-s-i
-bounds-s-i c = omega arith
+overflow_mul-value c = omega (arith, fits c, val_more c.args.s.now c.loop-x.x-index)
 
 pub overflow_add-value : goal.overflow_add-value
-overflow_add-value c = omega (arith, small (goal.at.overflow_add-value c).Else-i-eq8, c.shared_slice_known-in-loop-i-1.given c.loop-i.i)
+overflow_add-value c = omega (arith, fits (goal.at.overflow_add-value c).In-loop-x, turn c)
 
-pub overflow_add-i : goal.overflow_add-i
-overflow_add-i c = omega arith
-
-pub loop-i-smaller : goal.loop-i-smaller
-loop-i-smaller c = omega arith
-
-pub loop-i-preserved : goal.loop-i-preserved
-loop-i-preserved c =
-    let s = c.args.s.now in
-    let more = val_more s c.loop-i.i in
-    (omega arith, omega (arith, c.if-i-eq8.false), omega (arith, c.wide.ensures))
-
-pub returns : goal.returns
-returns c =
-    c.loop-i.invariant.2 ∙ ap (val c.args.s.now) (omega arith)
+pub loop-x-preserved : goal.loop-x-preserved
+loop-x-preserved c = turn c

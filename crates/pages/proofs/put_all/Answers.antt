@@ -8,4 +8,4 @@ pub returns-then-out-size : goal.returns-then-out-size
 returns-then-out-size c = not_said _ _ c.if-out-size.true
 
 pub returns : goal.returns
-returns c = said_all _ _ (omega (arith, c.if-out-size.false)) _ c.copy.ensures.buffer
+returns c = said_all _ _ (omega (arith, c.if-out-size.false)) _ c.copy_lent.ensures

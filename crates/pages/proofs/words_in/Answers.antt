@@ -1,54 +1,33 @@
--- `pages::words_in` meets its contract. The loop's invariant: the words are those that are found from `at` on.
+-- `pages::words_in` meets its contract.
 -- Assumes nothing.
-use native.Mathlib.Omega.{arith}
-use mathlib.Core.Path.{◌≡◌, refl, sym, ap₂, ◌∙◌}
-use Prim.Native.Nat.{◌+◌, ◌*◌, ◌-◌}
-use lib.ListN.{length, drop, take}
-use Rattle.format.specs.Places.{past_end, to_end}
-use Rattle.pages.specs.Page.{code_of}
-use Rattle.pages.specs.Page.Laws.{Turn, turn, at_end}
+use borrow.Author.Tests.{tests}
+use Rattle.std.proofs.Common.{◌≡◌, ◌+◌, ◌*◌, ℕ, eqb, rules, sym, ap₂, ◌∙◌}
+use Rattle.std.proofs.lemmas.List.Sorted.{answers_always}
+use Rattle.pages.specs.Page.{code_of, line_for}
+use Rattle.pages.specs.Page.Laws.{Turn, turn}
 use Rattle.pages.proofs.words_in.Goals as goal
-use Rattle.pages.proofs.words_in.Goals.{After-line_end-end, After-digit-in-loop-at}
+use Rattle.pages.proofs.words_in.Goals.{After-digit-in-loop-line}
 
-pub loop-at-init : goal.loop-at-init
-loop-at-init c = refl
+-- the number that the digits of the line say
+said : (c : After-digit-in-loop-line) → c.digit.result * 10 + c.digit-in-loop-line.result ≡ code_of c.in-Some.line.now
+said c = ap₂ (λ a b. a * 10 + b) c.digit.ensures.value c.digit-in-loop-line.ensures.value
 
--- the line at which a turn of the loop stands
-here : (c : After-line_end-end) → Turn c.args.page.now c.args.code c.loop-at.at c.line_end-end.result
-here c = turn _ _ _ _ (omega arith) c.line_end-end.ensures
+here : (c : After-digit-in-loop-line) → Turn c.loop-line.line-iterator.rest.now c.in-Some.line.now c.next.new.self.rest.now c.next.new.self.done c.args.code
+here c =
+    let steps = c.in-Some.ensures.steps in
+    let first = (steps.2 (λ (y : ℕ). eqb y 10) (answers_always _ _ _ (λ f a r f' q. search (rules, tests)))).1 in
+    turn _ _ _ c.next.new.self.done c.args.code steps.1 first
 
--- the number that its digits say
-said :
-    (c : After-digit-in-loop-at) →
-    c.digit.result * 10 + c.digit-in-loop-at.result
-    ≡ code_of (take (c.line_end-end.result - c.loop-at.at) (drop c.loop-at.at c.args.page.now))
-said c = ap₂ (λ a b. a * 10 + b) c.digit.ensures.value c.digit-in-loop-at.ensures.value
-
-pub slice_bounds-line-end : goal.slice_bounds-line-end
-slice_bounds-line-end c = (here (goal.at.slice_bounds-line-end c).After-line_end-end).within
+-- the words are those that are found from this line on
+so_far : (c : After-digit-in-loop-line) → line_for c.args.code c.args.page.now ≡ line_for c.args.code c.loop-line.line-iterator.rest.now
+so_far c = rw c.in-Some.ensures.steps.0 at c.loop-line.invariant
 
 pub returns-then-digit-code : goal.returns-then-digit-code
 returns-then-digit-code c =
-    let found = (here (goal.at.returns-then-digit-code c).After-line_end-end).found
-    (sym c.if-digit-code.true ∙ said (goal.at.returns-then-digit-code c).After-digit-in-loop-at) in
-    c.words_after.ensures ∙ sym (c.loop-at.invariant ∙ found)
+    let turn = (goal.at.returns-then-digit-code c).After-digit-in-loop-line in
+    c.words_after.ensures ∙ sym (so_far turn ∙ (here turn).found (sym c.if-digit-code.true ∙ said turn))
 
-pub overflow_add-at : goal.overflow_add-at
-overflow_add-at c = omega (arith, (here (goal.at.overflow_add-at c).After-line_end-end).within)
-
-pub loop-at-smaller : goal.loop-at-smaller
-loop-at-smaller c =
-    let h = here (goal.at.loop-at-smaller c).After-line_end-end in
-    omega (arith, h.on, h.within)
-
-pub loop-at-preserved : goal.loop-at-preserved
-loop-at-preserved c =
-    c.loop-at.invariant
-    ∙ (here (goal.at.loop-at-preserved c).After-line_end-end).passed
-    (λ y. c.if-digit-code.false (said (goal.at.loop-at-preserved c).After-digit-in-loop-at ∙ sym y))
-
-pub returns : goal.returns
-returns c =
-    let page = c.args.page.now in
-    let none = at_end page c.args.code c.loop-at.at (omega arith) in
-    to_end page (length page) ∙ past_end page (length page) (omega arith) ∙ sym (c.loop-at.invariant ∙ none)
+pub loop-line-preserved : goal.loop-line-preserved
+loop-line-preserved c =
+    let turn = (goal.at.loop-line-preserved c).After-digit-in-loop-line in
+    rw (so_far turn) ((here turn).passed (λ y. c.if-digit-code.false (said turn ∙ sym y)))

@@ -1,12 +1,9 @@
--- `pages::words_in` meets its contract. The loop's invariant: the words are those that are found from `at` on.
-use mathlib.Core.Path.{◌≡◌}
-use Prim.Native.Nat.{◌-◌}
-use lib.ListN.{length, drop}
+-- `pages::words_in` meets its contract. The loop's invariant: the words are those that are found in the lines that are left.
+use Rattle.std.proofs.Common.{◌≡◌, []}
+use Rattle.std.specs.Bool.{MatchBool}
 use Rattle.pages.specs.Page.{line_for}
 use Rattle.pages.proofs.words_in.Given as goal
 
-abbrev pub invariant-loop-at : goal.invariant-loop-at
-invariant-loop-at l = line_for l.code l.page ≡ line_for l.code (drop l.at l.page)
-
-abbrev pub decreases-loop-at : goal.decreases-loop-at
-decreases-loop-at l = length l.page - l.at
+abbrev pub invariant-loop-line : goal.invariant-loop-line
+invariant-loop-line l =
+    MatchBool l.line-iterator.done (line_for l.code l.page ≡ []) (line_for l.code l.page ≡ line_for l.code l.line-iterator.rest.now)

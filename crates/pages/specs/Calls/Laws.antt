@@ -1,6 +1,6 @@
 -- What the call leaves, by the room, and on the page of a table.
 -- Assumes nothing.
-use Rattle.std.specs.Prelude.{◌≡◌, refl, true, ℕ, ◌<◌, ◌≤◌, List, length}
+use Rattle.std.specs.Prelude.{◌≡◌, refl, true, ℕ, Result, Ok, Err, ◌<◌, ◌≤◌, List, length}
 use Rattle.std.proofs.Common.{sym, ap, subst, ◌∙◌, arith}
 use Rattle.format.specs.Answers.{done, refused}
 use Rattle.format.proofs.Answers.Laws.{refuses, gives}
@@ -12,11 +12,10 @@ use Rattle.pages.specs.Rows.{Row, sought}
 use Rattle.pages.specs.Page.{page_of, line_for}
 use Rattle.pages.specs.Page.Laws.{plain_rows, found_in}
 use Rattle.pages.specs.Calls.{AllOrNone}
-use Rattle.pages.specs.declared.Placed.{Placed}
-use Rattle.pages.specs.declared.Placed.TheVariants.{All, NoRoom}
+use Rattle.octets.specs.declared.NoRoom.{NoRoom}
 
 module _ (bytes out : List ℕ) where
-  pub not_said : length out < length bytes → AllOrNone bytes out NoRoom out
+  pub not_said : length out < length bytes → AllOrNone bytes out (Err (record {})) out
   not_said h =
       let at : (none : ℕ) → in_room none bytes (length out) ≡ refused none 0 = λ none. in_no_room none bytes (length out) h in
       record {
@@ -28,7 +27,7 @@ module _ (bytes out : List ℕ) where
       length bytes ≤ length out →
       (after : List ℕ) →
       after ≡ copied bytes out 0 →
-      AllOrNone bytes out (All (length bytes)) after
+      AllOrNone bytes out (Ok (length bytes)) after
   said_all h after e =
       let at : (none : ℕ) → in_room none bytes (length out) ≡ done bytes = λ none. in_room_lem none bytes (length out) h in
       let whole = e ∙ sym (copied_all bytes out 0 (omega arith)) in
@@ -39,7 +38,7 @@ module _ (bytes out : List ℕ) where
 
 -- of a table's page: what is put down is what is sought in the table
 pub of_table :
-    (rows : List Row) (page : List ℕ) (code : ℕ) {out after : List ℕ} {r : Placed} →
+    (rows : List Row) (page : List ℕ) (code : ℕ) {out after : List ℕ} {r : Result ℕ NoRoom} →
     AllOrNone (line_for code page) out r after →
     page ≡ page_of rows →
     plain_rows rows ≡ true →

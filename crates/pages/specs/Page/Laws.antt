@@ -1,40 +1,17 @@
--- Laws of the page: where a line ends, the lines of a text one by one, and that a table's page has the table's words.
+-- Laws of the page: the lines of a text one by one, and that a table's page has the table's words.
 -- Assumes nothing.
-use Rattle.std.specs.Prelude.{◌≡◌, refl, Bool, true, false, ℕ, suc, ◌+◌, ◌-◌, ◌/◌, ◌%◌, ◌<◌, ◌≤◌, List, [], ◌∷◌, ◌++◌, eqb, length, get_or, drop, take}
-use Rattle.std.proofs.Common.{sym, ◌∙◌, arith, add-one, eq-eqb, ne_eqb, eqb-true, length-drop, drop-cons, drop-drop}
+use Rattle.std.specs.Prelude.{◌≡◌, refl, Bool, true, false, ℕ, suc, ◌+◌, ◌/◌, ◌%◌, ◌<◌, List, [], ◌∷◌, ◌++◌, eqb, length, get_or, drop}
+use Rattle.std.proofs.Common.{sym, ◌∙◌, arith, eq-eqb, ne_eqb, eqb-true, length-append}
 use Rattle.std.proofs.Math.Path.{ap}
-use Rattle.std.proofs.lemmas.Bool.{eqb-false}
+use Rattle.std.proofs.Math.ListN.{get_or-append}
+use Rattle.std.proofs.Math.Seq.{get_or-append_seam}
+use Rattle.std.specs.Bool.{MatchBool}
+use Rattle.std.specs.List.{IsFirstMatchOrLen}
 use Rattle.format.specs.Choice.{pick, both}
-use Rattle.format.specs.Choice.Laws.{both_true, not_true, by_test}
+use Rattle.format.specs.Choice.Laws.{both_true, not_true}
 use Rattle.lines.specs.Line.{ascii}
 use Rattle.pages.specs.Rows.{Row, sought}
-use Rattle.pages.specs.Page.{line_of, page_of, line_size, before, lines_of, code_of, among, line_for}
-
--- the size of a line: a newline, another byte, and the end
-size_newline : (x : ℕ) (s : List ℕ) → x ≡ 10 → line_size (x ∷ s) ≡ 0
-unfolding line_size
-size_newline x s e = ap (λ b. pick b 0 (suc (line_size s))) (eq-eqb x 10 e)
-
-size_other : (x : ℕ) (s : List ℕ) → (x ≡ 10 → ⊥) → line_size (x ∷ s) ≡ suc (line_size s)
-unfolding line_size
-size_other x s h = ap (λ b. pick b 0 (suc (line_size s))) (ne_eqb x 10 h)
-
-size_past : (s : List ℕ) → length s ≡ 0 → line_size s ≡ 0
-unfolding line_size
-size_past [] e = refl
-size_past (x ∷ s) e = absurd (omega arith)
-
-module _ (s : List ℕ) (i : ℕ) where
-  pub size_here : i < length s → get_or s i 0 ≡ 10 → line_size (drop i s) ≡ 0
-  size_here h e = ap line_size (drop-cons s i 0 h) ∙ size_newline (get_or s i 0) (drop (suc i) s) e
-
-  pub size_on : i < length s → (get_or s i 0 ≡ 10 → ⊥) → line_size (drop i s) ≡ suc (line_size (drop (i + 1) s))
-  size_on h n =
-      ap line_size (drop-cons s i 0 h)
-      ∙ (size_other (get_or s i 0) (drop (suc i) s) n ∙ ap (λ k. suc (line_size (drop k s))) (sym (add-one i)))
-
-  pub size_end : length s ≤ i → line_size (drop i s) ≡ 0
-  size_end h = size_past (drop i s) (length-drop i s ∙ omega arith)
+use Rattle.pages.specs.Page.{line_of, page_of, before, lines_of, code_of, among, line_for}
 
 -- the lines of a text: after a newline, and after another byte
 lines_newline : (x : ℕ) (s : List ℕ) → x ≡ 10 → lines_of (x ∷ s) ≡ [] ∷ lines_of s
@@ -44,48 +21,6 @@ lines_newline x s e = ap (λ b. pick b ([] ∷ lines_of s) (before x (lines_of s
 lines_other : (x : ℕ) (s : List ℕ) → (x ≡ 10 → ⊥) → lines_of (x ∷ s) ≡ before x (lines_of s)
 unfolding lines_of
 lines_other x s h = ap (λ b. pick b ([] ∷ lines_of s) (before x (lines_of s))) (ne_eqb x 10 h)
-
--- the first line, which is no longer than the text, and the lines after it
-pub record First (s : List ℕ) : Type 0 where
-  pub size : line_size s ≤ length s
-  pub lines : lines_of s ≡ take (line_size s) s ∷ lines_of (drop (suc (line_size s)) s)
-
-first_newline : (x : ℕ) (s : List ℕ) → x ≡ 10 → First (x ∷ s)
-first_newline x s e =
-    let n = size_newline x s e in
-    record {
-      size = omega (arith, n);
-      lines = lines_newline x s e ∙ ap (λ k. take k (x ∷ s) ∷ lines_of (drop (suc k) (x ∷ s))) (sym n);
-    }
-
-first_last : (x : ℕ) → (x ≡ 10 → ⊥) → First (x ∷ [])
-unfolding lines_of line_size
-first_last x h =
-    let n : line_size (x ∷ []) ≡ 1 = size_other x [] h in
-    record {
-      size = omega (arith, n);
-      lines = lines_other x [] h ∙ ap (λ k. take k (x ∷ []) ∷ lines_of (drop (suc k) (x ∷ []))) (sym n);
-    }
-
-first_other : (x : ℕ) (s : List ℕ) → (x ≡ 10 → ⊥) → First s → First (x ∷ s)
-first_other x s h f =
-    let n = size_other x s h in
-    record {
-      size = omega (arith, n, f.size);
-      lines =
-          lines_other x s h
-          ∙ ap (before x) f.lines
-          ∙ ap (λ k. take k (x ∷ s) ∷ lines_of (drop (suc k) (x ∷ s))) (sym n);
-    }
-
-pub first : (s : List ℕ) → 0 < length s → First s
-first [] h = absurd (omega arith)
-first (x ∷ []) h = by_test (eqb x 10) (λ e. first_newline x [] (eqb-true x 10 e)) (λ e. first_last x (eqb-false x 10 e))
-first (x ∷ y ∷ s) h =
-    let ih = first (y ∷ s) (omega arith) in
-    by_test (eqb x 10)
-    (λ e. first_newline x (y ∷ s) (eqb-true x 10 e))
-    (λ e. first_other x (y ∷ s) (eqb-false x 10 e) ih)
 
 -- among lines: the first is the code's, another is, and there is none
 module _ (code : ℕ) (l : List ℕ) (ls : List (List ℕ)) where
@@ -97,38 +32,9 @@ module _ (code : ℕ) (l : List ℕ) (ls : List (List ℕ)) where
   unfolding among
   among_on h = ap (λ b. pick b (drop 3 l) (among code ls)) (ne_eqb code (code_of l) h)
 
-none_left : (code : ℕ) (s : List ℕ) → length s ≡ 0 → line_for code s ≡ []
-unfolding lines_of among
-none_left code [] e = refl
-none_left code (x ∷ s) e = absurd (omega arith)
-
--- the line of a page from a place where one begins to its end: it is the code's, or the search goes on after it
-pub record Turn (s : List ℕ) (code at end : ℕ) : Type 0 where
-  pub on : at ≤ end
-  pub within : end ≤ length s
-  pub found : code ≡ code_of (take (end - at) (drop at s)) → line_for code (drop at s) ≡ drop 3 (take (end - at) (drop at s))
-  pub passed : (code ≡ code_of (take (end - at) (drop at s)) → ⊥) → line_for code (drop at s) ≡ line_for code (drop (end + 1) s)
-
-pub turn : (s : List ℕ) (code at end : ℕ) → at < length s → end ≡ at + line_size (drop at s) → Turn s code at end
-turn s code at end h e =
-    let t = drop at s in
-    let long = length-drop at s in
-    let f = first t (omega (arith, long)) in
-    let size : line_size t ≡ end - at = omega arith in
-    let ls = lines_of (drop (suc (line_size t)) t) in
-    let lines : lines_of t ≡ take (end - at) t ∷ ls = f.lines ∙ ap (λ k. take k t ∷ ls) size in
-    let far : at + suc (line_size t) ≡ end + 1 = omega arith in
-    let rest = drop-drop (suc (line_size t)) at s ∙ ap (λ k. drop k s) far in
-    record {
-      on = omega arith;
-      within = omega (arith, long, f.size);
-      found = λ y. ap (among code) lines ∙ among_here code (take (end - at) t) ls y;
-      passed = λ n. ap (among code) lines ∙ among_on code (take (end - at) t) ls n ∙ ap (line_for code) rest;
-    }
-
--- where the page ends, no line was the code's
-pub at_end : (s : List ℕ) (code at : ℕ) → length s ≤ at → line_for code (drop at s) ≡ []
-at_end s code at h = none_left code (drop at s) (length-drop at s ∙ omega arith)
+among_none : (code : ℕ) → among code [] ≡ []
+unfolding among
+among_none code = refl
 
 -- tests that the checker computes: no newline among these bytes, or among the words of these rows
 abbrev pub plain : List ℕ → Bool
@@ -152,6 +58,56 @@ unfolding lines_of
 lines_words [] t e = refl
 lines_words (x ∷ w) t e =
     one_more (eqb x 10) (plain w) x (lines_of (w ++ 10 ∷ t)) (lines_of t) w e (λ p. lines_words w t p)
+
+-- the last line, which no newline ends
+one_last : (b : Bool) (x : ℕ) → pick b false true ≡ true → pick b ([] ∷ []) ((x ∷ []) ∷ []) ≡ (x ∷ []) ∷ []
+one_last true x e = absurd (not_true e)
+one_last false x e = refl
+
+lines_last : (x : ℕ) (w : List ℕ) → plain (x ∷ w) ≡ true → lines_of (x ∷ w) ≡ (x ∷ w) ∷ []
+unfolding lines_of
+lines_last x [] e = one_last (eqb x 10) x e
+lines_last x (y ∷ w) e = one_more (eqb x 10) (plain (y ∷ w)) x (lines_of (y ∷ w)) [] (y ∷ w) e (λ p. lines_last y w p)
+
+either_none : (b : Bool) → [] ≡ pick {A = List ℕ} b [] []
+either_none true = refl
+either_none false = refl
+
+among_last : (code : ℕ) (w : List ℕ) → plain w ≡ true → line_for code w ≡ among code (w ∷ [])
+unfolding lines_of among
+among_last code [] e = either_none (eqb code 0)
+among_last code (x ∷ w) e = ap (among code) (lines_last x w e)
+
+among_then : (code : ℕ) (w t : List ℕ) → plain w ≡ true → line_for code (w ++ 10 ∷ t) ≡ among code (w ∷ lines_of t)
+among_then code w t e = ap (among code) (lines_words w t e)
+
+-- no byte of the text is a newline
+plain_all : (w : List ℕ) → ((k : ℕ) → k < length w → eqb (get_or w k 0) 10 ≡ false) → plain w ≡ true
+plain_all [] f = refl
+plain_all (x ∷ w) f = ap (λ b. pick b false (plain w)) (f 0 (omega arith)) ∙ plain_all w (λ k h. f (suc k) (omega arith))
+
+-- the text is cut at its first newline, or is the last line: the line is the code's, or the search goes on after it
+pub record Turn (s line rest : List ℕ) (last : Bool) (code : ℕ) : Type 0 where
+  pub found : code ≡ code_of line → line_for code s ≡ drop 3 line
+  pub passed : (code ≡ code_of line → ⊥) → MatchBool last (line_for code s ≡ []) (line_for code s ≡ line_for code rest)
+
+pub turn :
+    (s line rest : List ℕ) (last : Bool) (code : ℕ) →
+    MatchBool last (s ≡ line) ((y : ℕ) × (s ≡ line ++ (y ∷ rest))) →
+    IsFirstMatchOrLen (λ y. eqb y 10) s (length line) →
+    Turn s line rest last code
+turn s line rest true code e f =
+    let p : plain line ≡ true = plain_all line (λ k h. ap (λ t. eqb (get_or t k 0) 10) (sym e) ∙ f.0 k 0 (omega arith) h) in
+    let l : line_for code s ≡ among code (line ∷ []) = ap (line_for code) e ∙ among_last code line p in
+    record { found = λ y. l ∙ among_here code line [] y; passed = λ n. l ∙ among_on code line [] n ∙ among_none code }
+turn s line rest false code (y, e) f =
+    let p : plain line ≡ true =
+    plain_all line (λ k h. ap (λ b. eqb b 10) (sym (get_or-append line (y ∷ rest) 0 k h) ∙ ap (λ t. get_or t k 0) (sym e)) ∙ f.0 k 0 (omega arith) h) in
+    let long : length s ≡ length line + suc (length rest) = ap length e ∙ length-append line (y ∷ rest) in
+    let there : get_or s (length line) 0 ≡ y = ap (λ t. get_or t (length line) 0) e ∙ get_or-append_seam line y rest 0 in
+    let ten : y ≡ 10 = sym there ∙ eqb-true _ 10 (f.1 (omega arith) 0) in
+    let l : line_for code s ≡ among code (line ∷ lines_of rest) = ap (line_for code) (e ∙ ap (λ b. line ++ (b ∷ rest)) ten) ∙ among_then code line rest p in
+    record { found = λ z. l ∙ among_here code line (lines_of rest) z; passed = λ n. l ∙ among_on code line (lines_of rest) n }
 
 -- a row's line and the lines after it
 lines_row :

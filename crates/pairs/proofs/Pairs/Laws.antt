@@ -1,6 +1,6 @@
 -- What a pair carries, by the tests that lead there.
 -- Assumes nothing.
-use Rattle.std.specs.Prelude.{◌≡◌, Bool, ℕ, ◌-◌, ◌/◌, ◌%◌, ◌<◌, ◌≤◌, List, [], ◌∷◌, ltb, eqb, length}
+use Rattle.std.specs.Prelude.{◌≡◌, Bool, ℕ, ◌-◌, ◌/◌, ◌%◌, ◌<◌, ◌≤◌, List, [], ◌∷◌, ltb, eqb, length, Result, Ok, Err}
 use Rattle.std.proofs.Math.Path.{refl}
 use Rattle.std.proofs.Common.{ap, sym, ◌∙◌, inl, inr}
 use Rattle.std.proofs.Math.Bool.{true, false}
@@ -14,7 +14,7 @@ use Rattle.pairs.specs.Faults.{Misplaced, Has}
 use Rattle.pairs.specs.declared.decode.Fault.{Fault}
 use Rattle.pairs.specs.declared.decode.Fault.TheVariants.{OutOfRange, Shift, Single}
 use Rattle.pairs.specs.declared.decode.Pair.{Pair}
-use Rattle.pairs.specs.declared.decode.Pair.TheVariants.{Three, Two, One, Wrong}
+use Rattle.pairs.specs.declared.decode.Pair.TheVariants.{Three, Two, One}
 
 -- the two bytes of a triple
 pub triple_is : (a b c : ℕ) → triple a b c ≡ (packed_of a b c / 256 % 256) ∷ (packed_of a b c % 256) ∷ []
@@ -26,59 +26,59 @@ apart e f = let z : ◌≡◌ {A = ℕ} 0 1 = cc in omega arith
 
 -- FE and a code
 module _ (chart : List ℕ) (y : ℕ) where
-  pub single_inner : (last : Bool) → last ≡ false → Wrong Single ≡ single chart last y
+  pub single_inner : (last : Bool) → last ≡ false → Err Single ≡ single chart last y
   unfolding single
   single_inner last e = simp e
 
-  pub single_none : (last : Bool) → y ≡ 0 → Wrong Single ≡ single chart last y
+  pub single_none : (last : Bool) → y ≡ 0 → Err Single ≡ single chart last y
   unfolding single
   single_none true h = simp (le-ltb 0 y (omega arith))
   single_none false h = refl
 
-  pub single_stranger : (last : Bool) → (char_in chart (value_of (y - 1)) ≡ y - 1 → ⊥) → Wrong Single ≡ single chart last y
+  pub single_stranger : (last : Bool) → (char_in chart (value_of (y - 1)) ≡ y - 1 → ⊥) → Err Single ≡ single chart last y
   unfolding single
   single_stranger true h =
       by_test (ltb 0 y) (λ e. simp (e, ne_eqb (char_in chart (value_of (y - 1))) (y - 1) h)) (λ e. simp e)
   single_stranger false h = refl
 
-  pub single_one : (last : Bool) → last ≡ true → 0 < y → char_in chart (value_of (y - 1)) ≡ y - 1 → One (y - 1) ≡ single chart last y
+  pub single_one : (last : Bool) → last ≡ true → 0 < y → char_in chart (value_of (y - 1)) ≡ y - 1 → Ok (One (y - 1)) ≡ single chart last y
   unfolding single
   single_one last e h i = simp (e, lt-ltb 0 y h, eq-eqb (char_in chart (value_of (y - 1))) (y - 1) i)
 
 -- three values
 module _ (chart : List ℕ) (last : Bool) (a b c : ℕ) where
-  pub values_first : a < 3 → Wrong Shift ≡ values chart last a b c
+  pub values_first : a < 3 → Err Shift ≡ values chart last a b c
   unfolding values
   values_first h = simp (lt-ltb a 3 h)
 
-  pub values_second : 3 ≤ a → b < 3 → Wrong Shift ≡ values chart last a b c
+  pub values_second : 3 ≤ a → b < 3 → Err Shift ≡ values chart last a b c
   unfolding values
   values_second h k = simp (le-ltb a 3 h, lt-ltb b 3 k)
 
-  pub values_three : 3 ≤ a → 3 ≤ b → 3 ≤ c → Three (char_in chart a) (char_in chart b) (char_in chart c) ≡ values chart last a b c
+  pub values_three : 3 ≤ a → 3 ≤ b → 3 ≤ c → Ok (Three (char_in chart a) (char_in chart b) (char_in chart c)) ≡ values chart last a b c
   unfolding values
   values_three h k l = simp (le-ltb a 3 h, le-ltb b 3 k, le-ltb c 3 l)
 
-  pub values_third : 3 ≤ a → 3 ≤ b → c < 3 → (c ≡ 0 → ⊥) → Wrong Shift ≡ values chart last a b c
+  pub values_third : 3 ≤ a → 3 ≤ b → c < 3 → (c ≡ 0 → ⊥) → Err Shift ≡ values chart last a b c
   unfolding values
   values_third h k l m = simp (le-ltb a 3 h, le-ltb b 3 k, lt-ltb c 3 l, ne_eqb c 0 m)
 
-  pub values_two : last ≡ true → 3 ≤ a → 3 ≤ b → c ≡ 0 → Two (char_in chart a) (char_in chart b) ≡ values chart last a b c
+  pub values_two : last ≡ true → 3 ≤ a → 3 ≤ b → c ≡ 0 → Ok (Two (char_in chart a) (char_in chart b)) ≡ values chart last a b c
   unfolding values
   values_two e h k l = simp (e, le-ltb a 3 h, le-ltb b 3 k, lt-ltb c 3 (omega arith), eq-eqb c 0 l)
 
-  pub values_inner : last ≡ false → 3 ≤ a → 3 ≤ b → c ≡ 0 → Wrong Shift ≡ values chart last a b c
+  pub values_inner : last ≡ false → 3 ≤ a → 3 ≤ b → c ≡ 0 → Err Shift ≡ values chart last a b c
   unfolding values
   values_inner e h k l = simp (e, le-ltb a 3 h, le-ltb b 3 k, lt-ltb c 3 (omega arith), eq-eqb c 0 l)
 
   -- wherever it stands
-  pub values_misplaced : Misplaced last a b c → Wrong Shift ≡ values chart last a b c
+  pub values_misplaced : Misplaced last a b c → Err Shift ≡ values chart last a b c
   values_misplaced m =
       by_test (ltb a 3)
       (λ e. values_first (ltb-true a 3 e))
       (λ e. by_test (ltb b 3) (λ f. values_second (ltb-false a 3 e) (ltb-true b 3 f)) (λ f. as_third (ltb-false a 3 e) (ltb-false b 3 f) m))
     where
-      as_third : 3 ≤ a → 3 ≤ b → Misplaced last a b c → Wrong Shift ≡ values chart last a b c
+      as_third : 3 ≤ a → 3 ≤ b → Misplaced last a b c → Err Shift ≡ values chart last a b c
       as_third h k (inl low) = absurd (omega arith)
       as_third h k (inr (inl low)) = absurd (omega arith)
       as_third h k (inr (inr (inl one))) = values_third h k (omega arith) (λ z. omega arith)
@@ -87,13 +87,13 @@ module _ (chart : List ℕ) (last : Bool) (a b c : ℕ) where
 
 -- a pair
 module _ (chart : List ℕ) (last : Bool) (x y : ℕ) where
-  pub pair_zero : number x y ≡ 0 → Wrong OutOfRange ≡ pair_of chart last x y
+  pub pair_zero : number x y ≡ 0 → Err OutOfRange ≡ pair_of chart last x y
   unfolding pair_of
   pair_zero h =
       let off : x ≡ 0xFE → ⊥ = λ e. omega arith in
       simp (ne_eqb x 0xFE off, le-ltb 0 (number x y) (omega arith))
 
-  pub pair_large : (x ≡ 0xFE → ⊥) → 64000 < number x y → Wrong OutOfRange ≡ pair_of chart last x y
+  pub pair_large : (x ≡ 0xFE → ⊥) → 64000 < number x y → Err OutOfRange ≡ pair_of chart last x y
   unfolding pair_of
   pair_large h k = simp (ne_eqb x 0xFE h, lt-ltb 0 (number x y) (omega arith), lt-ltb 64000 (number x y) k)
 
@@ -109,14 +109,14 @@ module _ (chart : List ℕ) (last : Bool) (x y : ℕ) where
       simp (ne_eqb x 0xFE off, lt-ltb 0 (number x y) h, le-ltb 64000 (number x y) k)
 
 -- by a chart that is lent, and is the chart
-pub by_chart : {chart : List ℕ} {p : Pair} (last : Bool) (x y : ℕ)
+pub by_chart : {chart : List ℕ} {p : Result Pair Fault} (last : Bool) (x y : ℕ)
     → chart ≡ the_chart → p ≡ pair_of chart last x y → p ≡ pair_of the_chart last x y
 by_chart last x y e f = f ∙ ap (λ t. pair_of t last x y) e
 
 -- a pair by the chart
 module _ (last : Bool) (x y : ℕ) where
   -- a fault that the pair has is told
-  pub fault_told : (fault : Fault) → Has fault last x y → pair_of the_chart last x y ≡ Wrong fault
+  pub fault_told : (fault : Fault) → Has fault last x y → pair_of the_chart last x y ≡ Err fault
   fault_told OutOfRange (not_fe, inl none) = sym (pair_zero the_chart last x y none)
   fault_told OutOfRange (not_fe, inr large) = sym (pair_large the_chart last x y not_fe large)
   fault_told Shift (some, most, shifted) =
@@ -135,10 +135,10 @@ module _ (last : Bool) (x y : ℕ) where
   pub pair_cases : {C : Type 0}
       → ((fault : Fault) → Has fault last x y → C)
       → (0 < number x y → number x y ≤ 64000 → 3 ≤ first (number x y) → 3 ≤ second (number x y) → 3 ≤ third (number x y)
-      → pair_of the_chart last x y ≡ Three (char (first (number x y))) (char (second (number x y))) (char (third (number x y))) → C)
+      → pair_of the_chart last x y ≡ Ok (Three (char (first (number x y))) (char (second (number x y))) (char (third (number x y)))) → C)
       → (0 < number x y → number x y ≤ 64000 → 3 ≤ first (number x y) → 3 ≤ second (number x y) → third (number x y) ≡ 0 → last ≡ true
-      → pair_of the_chart last x y ≡ Two (char (first (number x y))) (char (second (number x y))) → C)
-      → (x ≡ 0xFE → 0 < y → InChart (y - 1) → last ≡ true → pair_of the_chart last x y ≡ One (y - 1) → C)
+      → pair_of the_chart last x y ≡ Ok (Two (char (first (number x y))) (char (second (number x y)))) → C)
+      → (x ≡ 0xFE → 0 < y → InChart (y - 1) → last ≡ true → pair_of the_chart last x y ≡ Ok (One (y - 1)) → C)
       → C
   pair_cases {C} wrong three two one =
       by_test (eqb x 0xFE) fe
@@ -193,37 +193,37 @@ module _ (last : Bool) (x y : ℕ) where
 
   -- a pair that is not the last and carries something carries three characters
   pub pair_full : last ≡ false
-      → ((fault : Fault) → pair_of the_chart last x y ≡ Wrong fault → ⊥)
+      → ((fault : Fault) → pair_of the_chart last x y ≡ Err fault → ⊥)
       → let n = number x y in
-      (0 < n) × (n ≤ 64000) × (pair_of the_chart last x y ≡ Three (char (first n)) (char (second n)) (char (third n)))
+      (0 < n) × (n ≤ 64000) × (pair_of the_chart last x y ≡ Ok (Three (char (first n)) (char (second n)) (char (third n))))
   pair_full l not_wrong =
       pair_cases (λ fault has. absurd (not_wrong fault (fault_told fault has))) (λ h k a b c e. (h, k, e))
       (λ h k a b c l' e. absurd (apart l l'))
       (λ f h i l' e. absurd (apart l l'))
 
 -- a pair carries at most three characters; one that carries none is wrongly coded
-pub chars_most : (p : Pair) → length (chars_of p) ≤ 3
-chars_most (Three a b c) = omega arith
-chars_most (Two a b) = omega arith
-chars_most (One a) = omega arith
-chars_most (Wrong fault) = omega arith
+pub chars_most : (p : Result Pair Fault) → length (chars_of p) ≤ 3
+chars_most (Ok (Three a b c)) = omega arith
+chars_most (Ok (Two a b)) = omega arith
+chars_most (Ok (One a)) = omega arith
+chars_most (Err fault) = omega arith
 
-pub chars_some : (p : Pair) → 0 < length (chars_of p) → (fault : Fault) → p ≡ Wrong fault → ⊥
+pub chars_some : (p : Result Pair Fault) → 0 < length (chars_of p) → (fault : Fault) → p ≡ Err fault → ⊥
 chars_some p h fault e = let z : length (chars_of p) ≡ 0 = ap (λ q. length (chars_of q)) e in omega arith
 
 -- a pair carries characters, or says what is wrong
-pub by_pair : {C : Type 0} (p : Pair) → (0 < length (chars_of p) → C) → ((fault : Fault) → p ≡ Wrong fault → C) → C
-by_pair (Three a b c) some none = some (omega arith)
-by_pair (Two a b) some none = some (omega arith)
-by_pair (One a) some none = some (omega arith)
-by_pair (Wrong fault) some none = none fault refl
+pub by_pair : {C : Type 0} (p : Result Pair Fault) → (0 < length (chars_of p) → C) → ((fault : Fault) → p ≡ Err fault → C) → C
+by_pair (Ok (Three a b c)) some none = some (omega arith)
+by_pair (Ok (Two a b)) some none = some (omega arith)
+by_pair (Ok (One a)) some none = some (omega arith)
+by_pair (Err fault) some none = none fault refl
 
 -- the last pair, where it carries something: its number and its third value tell what
 module _ (x y : ℕ) (some : 0 < length (chars_of (pair_of the_chart true x y))) where
   not_wrong : {C : Type 0} (fault : Fault) → Has fault true x y → C
   not_wrong fault has = absurd (chars_some (pair_of the_chart true x y) some fault (fault_told true x y fault has))
 
-  pub last_one : 64000 < number x y → (0 < y) × (pair_of the_chart true x y ≡ One (y - 1))
+  pub last_one : 64000 < number x y → (0 < y) × (pair_of the_chart true x y ≡ Ok (One (y - 1)))
   last_one big =
       pair_cases true x y not_wrong (λ h k a b c e. absurd (omega arith)) (λ h k a b c l e. absurd (omega arith)) (λ f h i l e. (h, e))
 
@@ -232,10 +232,10 @@ module _ (x y : ℕ) (some : 0 < length (chars_of (pair_of the_chart true x y)))
     last_some = pair_cases true x y not_wrong (λ h k a b c e. h) (λ h k a b c l e. h) (λ f h i l e. omega arith)
 
     pub last_two : third (number x y) ≡ 0
-        → pair_of the_chart true x y ≡ Two (char (first (number x y))) (char (second (number x y)))
+        → pair_of the_chart true x y ≡ Ok (Two (char (first (number x y))) (char (second (number x y))))
     last_two z =
         pair_cases true x y not_wrong (λ h k a b c e. absurd (omega arith)) (λ h k a b c l e. e) (λ f h i l e. absurd (omega arith))
 
     pub last_three : (third (number x y) ≡ 0 → ⊥)
-        → pair_of the_chart true x y ≡ Three (char (first (number x y))) (char (second (number x y))) (char (third (number x y)))
+        → pair_of the_chart true x y ≡ Ok (Three (char (first (number x y))) (char (second (number x y))) (char (third (number x y))))
     last_three z = pair_cases true x y not_wrong (λ h k a b c e. e) (λ h k a b c l e. absurd (z c)) (λ f h i l e. absurd (omega arith))

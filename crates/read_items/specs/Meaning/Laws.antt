@@ -1,6 +1,7 @@
 -- The items of numbers and dates by their tests, one law for each answer.
 -- Assumes nothing.
-use Rattle.std.specs.Prelude.{◌≡◌, refl, Bool, true, false, ℕ, ◌+◌, ◌≤◌, ◌<◌, List, [], ◌∷◌, ltb, length, take, drop, get_or}
+use Rattle.std.specs.Prelude.{◌≡◌, refl, Bool, true, false, ℕ, ◌+◌, ◌≤◌, ◌<◌, List, [], ◌∷◌, ltb, length, take, drop, get_or, Result, Ok, Err, IsErrAnd}
+use Rattle.std.proofs.lemmas.Result.{err_from_is_err_and}
 use Rattle.std.proofs.Common.{ap, sym, subst, ◌∙◌, arith, add-zero, le-ltb, lt-ltb, le-leb, eq-eqb, ne_eqb, drop_of_length-le, get_or-take, get_or-drop}
 use Rattle.std.proofs.lemmas.Bool.{lt-leb}
 use Rattle.std.proofs.Math.Option.{none, some}
@@ -9,7 +10,7 @@ use Rattle.format.specs.Choice.Laws.{by_test}
 use Rattle.format.specs.BigEndian.{val}
 use Rattle.dates.specs.declared.Date.{Date}
 use Rattle.dates.specs.Days.{is_day, date_of}
-use Rattle.format.specs.Answers.{Result, result, refusal}
+use Rattle.format.specs.Answers.{Valued, result, refusal}
 use Rattle.dates.specs.Calls.{no_date, from_number}
 use Rattle.der.specs.Length.{read_length}
 use Rattle.versions.specs.declared.Version.{Version}
@@ -18,11 +19,13 @@ use Rattle.causes.specs.declared.Item.{Item as Name}
 use Rattle.causes.specs.declared.Rule.{Rule}
 use Rattle.causes.specs.declared.Rule.TheVariants as rule
 use Rattle.causes.specs.declared.Why.{Why}
+use Rattle.read_items.specs.declared.cursor.Broken.{Broken}
+use Rattle.read_items.specs.declared.cursor.Cursor.{Cursor}
 use Rattle.read_items.specs.declared.cursor.Refusal.{Refusal}
 use Rattle.verdict.specs.Items.{Item, Way, why, next, is, not, whole, byte, mark, version, last, last_in, date, date_in, plain_in, der_of}
 use Rattle.verdict.specs.Items.{der_length, mark_in, version_at, version_in}
 use Rattle.verdict.proofs.Items.Laws.{whole_read, unread}
-use Rattle.read_items.specs.Meaning.{because, past}
+use Rattle.read_items.specs.Meaning.{because, past, refused, refusal_of, step_of, item_of}
 
 -- an item that is not read ends the reading, under its name
 pub unread_on : {A B : Type 0} (name : Name) (i : Item A) (rest : A → ℕ → Way B) (rule : Rule) (place : ℕ) (w : Refusal)
@@ -174,7 +177,7 @@ unfolding read_length
 der_past at s h = ap (λ t. der_of at (read_length t)) (sym (drop_of_length-le s {i = at} (omega arith)))
 
 -- what a date's number answers tells whether there is such a day
-chosen : Bool → ℕ → Result Date
+chosen : Bool → ℕ → Valued Date
 chosen b n = pick b (result (date_of n)) (refusal no_date 6)
 
 pub taken_day : (n : ℕ) (d : Date) → result d ≡ from_number n → (date_of n ≡ d) × (is_day d ≡ true)
@@ -195,3 +198,16 @@ taken_none n e =
 pub says : {B : Type 0} (w : Refusal) (y : Why) (place : ℕ) (i : Way B) → w ≡ because y place → not y place ≡ i
     → not w.why w.place ≡ i
 says w y place i e f = ap (λ (z : Refusal). not z.why z.place) e ∙ f
+
+-- the refusal of an item is that of its meaning
+pub refusal_of_step : {A : Type 0} (item : Name) (x : A) (r : Result Cursor Broken) → refused item (step_of x r) ≡ refusal_of item r
+refusal_of_step item x (Ok next) = refl
+refusal_of_step item x (Err broken) = refl
+
+pub refusal_of_item : {A : Type 0} (item : Name) (r : Result (A × Cursor) Broken) → refused item (item_of r) ≡ refusal_of item r
+refusal_of_item item (Ok read) = refl
+refusal_of_item item (Err broken) = refl
+
+-- what is returned where a `?` ends a function
+pub left : {T E : Type 0} (r : Result T E) (w : E) → IsErrAnd r (λ y. y ≡ w) → r ≡ Err w
+left r w h = let p = err_from_is_err_and r h in p.1 ∙ ap Err p.2

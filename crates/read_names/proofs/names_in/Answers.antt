@@ -1,6 +1,5 @@
 -- `read_names::names_in` meets its contract: version 3 is one field, version 4 is two, the second as long as the first says.
 -- Assumes nothing.
-use borrow.Author.Rules.{rules}
 use native.Mathlib.Omega.{arith}
 use mathlib.Core.Path.{◌≡◌, ap, sym, subst, ◌∙◌}
 use mathlib.Core.List.{List, ◌++◌}
@@ -10,7 +9,7 @@ use lib.Seq.{length-take-le}
 use Rattle.format.proofs.Hex.Laws.{value_most}
 use Rattle.causes.specs.declared.Item.TheVariants as item
 use Rattle.verdict.specs.Items.{names, field, in_nine, in_six}
-use Rattle.read_items.specs.Meaning.{step_of, refused, through}
+use Rattle.read_items.specs.Meaning.{step_of, refusal_of, through}
 use Rattle.read_names.specs.Meaning.{measured}
 use Rattle.read_names.specs.Meaning.Named.{names_three, names_three_not, names_six_not, Six, six_there, length_part, names_four}
 use Rattle.read_names.specs.Meaning.Named.{names_four_not}
@@ -24,7 +23,7 @@ abbrev six : After-field-six → List ℕ
 six c = c.field-six.new.text
 
 abbrev after : After-hex_value-2 → ℕ
-after c = c.in-Past-six.after.place
+after c = c.in-Ok-six.after.place
 
 abbrev size : After-hex_value-2 → ℕ
 size c = c.hex_value.result * 16 + c.hex_value-2.result
@@ -65,7 +64,7 @@ six-read c =
     let long : length (six (goal.at.After-hex_value-2 c).After-field-six) ≡ 6 = omega (arith, length_six (goal.at.After-hex_value-2 c).In_default) in
     six_there args.at.place args.seal.now (six (goal.at.After-hex_value-2 c).After-field-six) (drop 6 args.text.now) (after c)
     c.hex_value.result c.hex_value-2.result long
-    (sym (ap (step_of (six (goal.at.After-hex_value-2 c).After-field-six)) c.in-Past-six.is) ∙ six-read-as (goal.at.After-hex_value-2 c).After-field-six) c.hex_value.ensures
+    (sym (ap (step_of (six (goal.at.After-hex_value-2 c).After-field-six)) c.in-Ok-six.is) ∙ six-read-as (goal.at.After-hex_value-2 c).After-field-six) c.hex_value.ensures
     c.hex_value-2.ensures
 
 -- the text after the first field has room for the longest reference, and the part that it is put into has its length
@@ -107,9 +106,9 @@ slice_bounds-field-end-in-Three c = sym (length_nine (goal.at.slice_bounds-field
 pub returns-in_default-nine : goal.returns-in_default-nine
 returns-in_default-nine c =
     let args = c.args in
-    names_three_not args.at.place args.seal.now _ _ c.of_step.result
+    names_three_not args.at.place args.seal.now _ _ c.unread.result
     (sym (ap (step_of (nine (goal.at.returns-in_default-nine c).After-field-nine)) c.in_default-nine.is) ∙ nine-read (goal.at.returns-in_default-nine c).After-field-nine)
-    (c.of_step.ensures ∙ ap (λ r. refused {A = Unit} item.Names (step_of tt r)) c.in_default-nine.is)
+    (c.unread.ensures ∙ ap (λ r. refusal_of item.Names r) c.in_default-nine.is)
     ∙ ap (λ v. through measured (names v args.at.place args.seal.now)) (sym c.in-Three.is)
 
 pub slice_bounds-field-end-3 : goal.slice_bounds-field-end-3
@@ -118,9 +117,9 @@ slice_bounds-field-end-3 c = sym (length_six (goal.at.slice_bounds-field-end-3 c
 pub returns-in_default-six : goal.returns-in_default-six
 returns-in_default-six c =
     let args = c.args in
-    names_six_not args.at.place args.seal.now _ _ c.of_step-in_default-six.result
+    names_six_not args.at.place args.seal.now _ _ c.unread-in_default-six.result
     (sym (ap (step_of (six (goal.at.returns-in_default-six c).After-field-six)) c.in_default-six.is) ∙ six-read-as (goal.at.returns-in_default-six c).After-field-six)
-    (c.of_step-in_default-six.ensures ∙ ap (λ r. refused {A = Unit} item.SignerAndLength (step_of tt r)) c.in_default-six.is)
+    (c.unread-in_default-six.ensures ∙ ap (λ r. refusal_of item.SignerAndLength r) c.in_default-six.is)
     ∙ ap (λ v. through measured (names v args.at.place args.seal.now)) (sym c.in_default.is)
 
 pub overflow_add-size : goal.overflow_add-size
@@ -134,10 +133,10 @@ returns-in_default-reference c =
     let args = c.args in
     let out = reference.new.text in
     names_four_not args.at.place args.seal.now (six (goal.at.returns-in_default-reference c).After-field-six) (after (goal.at.returns-in_default-reference c).After-hex_value-2) (size (goal.at.returns-in_default-reference c).After-hex_value-2) (six-read (goal.at.returns-in_default-reference c).After-hex_value-2)
-    (length (take (4 + size (goal.at.returns-in_default-reference c).After-hex_value-2 - 4) (drop 4 (held (goal.at.returns-in_default-reference c).After-hex_value-2)))) (part_size (goal.at.returns-in_default-reference c).After-hex_value-2) _ _ (wide * 2) c.of_step-in_default-reference.result
+    (length (take (4 + size (goal.at.returns-in_default-reference c).After-hex_value-2 - 4) (drop 4 (held (goal.at.returns-in_default-reference c).After-hex_value-2)))) (part_size (goal.at.returns-in_default-reference c).After-hex_value-2) _ _ (wide * 2) c.unread-in_default-reference.result
     (sym (ap (step_of out) c.in_default-reference.is) ∙ reference.ensures)
     (omega (arith, c.threes-width.ensures))
-    (c.of_step-in_default-reference.ensures ∙ ap (λ r. refused {A = Unit} (item.Reference (wide * 2)) (step_of tt r)) c.in_default-reference.is)
+    (c.unread-in_default-reference.ensures ∙ ap (λ r. refusal_of (item.Reference (wide * 2)) r) c.in_default-reference.is)
     ∙ ap (λ v. through measured (names v args.at.place args.seal.now)) (sym c.in_default.is)
 
 pub returns : goal.returns
@@ -150,8 +149,8 @@ returns c =
     let long : length out ≡ size (goal.at.returns c).After-hex_value-2 = omega arith in
     names_four args.at.place args.seal.now (six (goal.at.returns c).After-field-six) (after (goal.at.returns c).After-hex_value-2) (size (goal.at.returns c).After-hex_value-2) (six-read (goal.at.returns c).After-hex_value-2)
     (length (take (4 + size (goal.at.returns c).After-hex_value-2 - 4) (drop 4 (held (goal.at.returns c).After-hex_value-2)))) (part_size (goal.at.returns c).After-hex_value-2)
-    out (drop 6 args.text.now) (drop (4 + size (goal.at.returns c).After-hex_value-2 - 4) (drop 4 (held (goal.at.returns c).After-hex_value-2))) c.in-Past-reference.next.place long
-    (sym (ap (step_of out) c.in-Past-reference.is) ∙ reference.ensures)
+    out (drop 6 args.text.now) (drop (4 + size (goal.at.returns c).After-hex_value-2 - 4) (drop 4 (held (goal.at.returns c).After-hex_value-2))) c.in-Ok-reference.next.place long
+    (sym (ap (step_of out) c.in-Ok-reference.is) ∙ reference.ensures)
     ∙ ap (λ v. through measured (names v args.at.place args.seal.now)) (sym c.in_default.is)
 
 pub field-nine-requires : goal.field-nine-requires
@@ -166,10 +165,10 @@ overflow_add-end c = let read = six-read (goal.at.overflow_add-end c).After-hex_
 pub returns-in-Three : goal.returns-in-Three
 returns-in-Three c =
     let args = c.args in
-    let n = c.in-Past.next in
+    let n = c.in-Ok.next in
     let long : length (nine (goal.at.returns-in-Three c).After-field-nine) ≡ 9 = omega (arith, length_nine (goal.at.returns-in-Three c).In-Three) in
     names_three args.at.place n.place args.seal.now (nine (goal.at.returns-in-Three c).After-field-nine) (drop 9 args.text.now) long
-    (sym (ap (step_of (nine (goal.at.returns-in-Three c).After-field-nine)) c.in-Past.is) ∙ nine-read (goal.at.returns-in-Three c).After-field-nine)
+    (sym (ap (step_of (nine (goal.at.returns-in-Three c).After-field-nine)) c.in-Ok.is) ∙ nine-read (goal.at.returns-in-Three c).After-field-nine)
     ∙ ap (λ v. through measured (names v args.at.place args.seal.now)) (sym c.in-Three.is)
 
 pub slice_bounds-field-end-4 : goal.slice_bounds-field-end-4

@@ -1,6 +1,7 @@
 -- Laws of a field of C40 text: by the bytes that are there, by the text that they carry, and by the rules that the text keeps.
 -- Assumes nothing.
 use Rattle.std.specs.Prelude.{◌≡◌, ℕ, ◌+◌, ◌-◌, ◌<◌, ◌≤◌, List, ltb, length, take, drop}
+use Rattle.std.specs.Prelude.{Option as CodeOption, Some, None}
 use Rattle.std.proofs.Math.Path.{refl, ap}
 use Rattle.std.proofs.Common.{sym, subst, ◌∙◌, arith}
 use Rattle.std.proofs.Math.Option.{Option}
@@ -17,17 +18,15 @@ use Rattle.read_items.specs.Meaning.Laws.{whole_is, whole_none, past_whole}
 use Rattle.read_items.specs.Meaning.{whole_of, past}
 use Rattle.read_names.specs.Meaning.{any_text}
 use Rattle.read_items.specs.declared.cursor.Cursor.{Cursor}
-use Rattle.read_items.specs.declared.cursor.Whole.{Whole}
-use Rattle.read_items.specs.declared.cursor.Whole.TheVariants as whole
 
 -- what a skip says of a field of k characters
-module _ (k size at : ℕ) (s : List ℕ) (wide : size ≡ width k) (r : Whole) (skipped : whole_of at r ≡ whole size at s (past size at)) where
-  pub field_cut : r ≡ whole.Cut → not rule.There at ≡ field k any_text at s
+module _ (k size at : ℕ) (s : List ℕ) (wide : size ≡ width k) (r : CodeOption Cursor) (skipped : whole_of at r ≡ whole size at s (past size at)) where
+  pub field_cut : r ≡ None → not rule.There at ≡ field k any_text at s
   field_cut e =
       whole_none (width k) at s (λ bytes. field_in k any_text at (exactly k (decode 0 bytes)))
       (subst (λ n. not rule.There at ≡ whole n at s (past n at)) wide (sym (ap (whole_of at) e) ∙ skipped))
 
-  pub field_place : (n : Cursor) → r ≡ whole.Past n → (n.place ≡ at + width k) × (at + width k ≤ length s)
+  pub field_place : (n : Cursor) → r ≡ Some n → (n.place ≡ at + width k) × (at + width k ≤ length s)
   field_place n e =
       let p = past_whole size at s n.place (sym (ap (whole_of at) e) ∙ skipped) in
       (omega (arith, p.reached), omega (arith, p.there))

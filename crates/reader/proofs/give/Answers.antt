@@ -1,29 +1,12 @@
 -- `give` meets its contract: the room, and then the rows and the text.
 -- Assumes nothing.
-use borrow.Author.Rules.{rules}
 use native.Mathlib.Omega.{arith}
 use mathlib.Core.Path.{◌≡◌, ◌∙◌, ap}
 use Rattle.rows.specs.Rows.{table}
 use Rattle.reading.specs.Calls.{text, then}
-use Rattle.reading.specs.Calls.Reads.{reads_refused, reads_accepted, no_rows, no_text, both_fit, put_there, put_are, copied_names}
+use Rattle.reading.specs.Calls.Reads.{reads_accepted, both_fit, put_there, put_are, copied_names}
 use Rattle.reader.specs.Given.{given_count, given_size}
 use Rattle.reader.proofs.give.Goals as goal
-
-pub overflow_mul-reading : goal.overflow_mul-reading
-overflow_mul-reading c = let g = c.requires.given in omega (arith, given_count _ _ _ _ g, g.good.few)
-
-pub returns-then-table-reading : goal.returns-then-table-reading
-returns-then-table-reading c =
-    let g = c.requires.given in
-    reads_refused c.args.seal.now c.args.table.now c.args.text.now c.refused.result 12 0
-    (no_rows _ _ _ g.good.report g.good.judged (omega (arith, given_count _ _ _ _ g))) c.refused.ensures
-
-pub returns-then-text-names : goal.returns-then-text-names
-returns-then-text-names c =
-    let g = c.requires.given in
-    reads_refused c.args.seal.now c.args.table.now c.args.text.now c.refused-then-text-names.result 12 0
-    (no_text _ _ _ g.good.report g.good.judged (omega (arith, given_count _ _ _ _ g)) (omega (arith, given_size _ _ _ _ g)))
-    c.refused-then-text-names.ensures
 
 pub put_rows-requires : goal.put_rows-requires
 put_rows-requires c = record { there = put_there _ _ _ c.requires.given.good; room = omega arith }

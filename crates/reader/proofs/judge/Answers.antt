@@ -1,6 +1,5 @@
 -- `judge` meets its contract: it is the answer of the judging.
 -- Assumes nothing.
-use borrow.Author.Rules.{rules}
 use Rattle.reading.specs.Calls.Reads.{judged_answer}
 use Rattle.reader.proofs.judge.Goals as goal
 

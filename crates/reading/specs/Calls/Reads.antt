@@ -1,6 +1,6 @@
 -- What a reading leaves in its answer, in the table and in the text, one law for each way out.
 -- Assumes nothing.
-use Rattle.std.specs.Prelude.{◌≡◌, refl, ℕ, suc, ◌+◌, ◌*◌, ◌<◌, ◌≤◌, List, [], ◌∷◌, ◌++◌, ltb, length, take, drop}
+use Rattle.std.specs.Prelude.{◌≡◌, refl, ℕ, suc, ◌+◌, ◌*◌, ◌<◌, ◌≤◌, List, [], ◌∷◌, ◌++◌, ltb, length, take, drop, Ok}
 use Rattle.std.proofs.Common.{ap, sym, subst, ◌∙◌, arith, lt-ltb, le-ltb, length-append, length-take}
 use Rattle.format.specs.Choice.{pick}
 use Rattle.format.specs.Choice.Laws.{by_test}
@@ -27,8 +27,6 @@ use Rattle.reading.specs.Calls.{answer_of, outcome_of, judgement_of, text, given
 use Rattle.verdict.proofs.Judge.Seals.{accepted_only}
 use Rattle.reading.specs.declared.Reading.{Reading}
 use Rattle.reading.specs.declared.Judgement.{Judgement}
-use Rattle.reading.specs.declared.Outcome.TheVariants as outcome
-use Rattle.read_items.specs.declared.cursor.Refusal.{Refusal}
 
 -- what is promised of the answer, the table and the text
 abbrev pub Reads : List ℕ → List ℕ → List ℕ → Reading → List ℕ → List ℕ → Type 0
@@ -139,7 +137,7 @@ by_way :
     (q : Reading) (v : Version) (i : Way Report) →
     q ≡ answer_of (judge s) →
     judging s ≡ i →
-    outcome_of i ≡ outcome.Good v →
+    outcome_of i ≡ Ok v →
     Accepted s q v
 unfolding judge
 by_way s bytes q v (is r at) a e said = accepted_report s bytes q v r a (cc) (ap verdict e)
@@ -152,7 +150,7 @@ pub accepted_version :
     (q : Judgement) →
     q ≡ judgement_of (judging s) →
     (v : Version) →
-    q.outcome ≡ outcome.Good v →
+    q.outcome ≡ Ok v →
     Accepted s q.reading v
 accepted_version s bytes q a v said =
     by_way s bytes q.reading v (judging s) (judged_answer s q a) refl (sym (ap (λ j. j.outcome) a) ∙ said)

@@ -1,10 +1,9 @@
 -- Signer and reference: nine characters in version 3; in version 4 six, which give the reference's length, and the reference.
 -- Assumes nothing.
-use Rattle.std.specs.Prelude.{◌≡◌, refl, Bool, true, false, ℕ, ◌+◌, ◌*◌, ◌/◌, ◌%◌, ◌≤◌, ◌<◌, List, [], ◌∷◌, ◌++◌, ltb, length, take, drop, get_or}
+use Rattle.std.specs.Prelude.{◌≡◌, refl, true, false, ℕ, ◌+◌, ◌*◌, ◌/◌, ◌%◌, ◌≤◌, ◌<◌, List, [], ◌∷◌, ◌++◌, ltb, length, take, drop}
 use Rattle.std.proofs.Common.{ap, sym, subst, ◌∙◌, arith, ltb-true, ltb-false, take-append-drop, length-take-le}
 use Rattle.std.proofs.Math.Option.{none}
 use Rattle.format.specs.Bytes.{All, Bytes}
-use Rattle.format.specs.Choice.{both}
 use Rattle.format.specs.Choice.Laws.{not_true, both_true}
 use Rattle.format.specs.Hex.{hex_digit, hex_value}
 use Rattle.format.proofs.Hex.Laws.{value_digit}

@@ -1,7 +1,7 @@
 -- Laws of rows and their table: there and back, the rows from a place on, what is found and put at a place, and their sizes.
 -- Assumes nothing.
 use Rattle.std.proofs.Math.Path.{◌≡◌, ap, sym}
-use Rattle.std.specs.Prelude.{refl, true, ℕ, zero, suc, ◌+◌, ◌*◌, ◌/◌, ◌%◌, ◌<◌, ◌≤◌, List, [], ◌∷◌, ◌++◌, ltb, length, get_or, take, drop}
+use Rattle.std.specs.Prelude.{refl, true, ℕ, zero, suc, ◌+◌, ◌*◌, ◌/◌, ◌%◌, ◌<◌, ◌≤◌, List, [], ◌∷◌, ◌++◌, Some, None, ltb, length, get_or, take, drop}
 use Rattle.std.proofs.Common.{ap₂, ◌∙◌, arith, append_assoc, append-nil, length-append, length-drop, take_at}
 use borrow.Author.Tests.{eq-eqb, eqb-true, lt-ltb, le-ltb, ltb-true, ltb-false}
 use Rattle.format.specs.Places.{at_place, past_end}
@@ -9,7 +9,6 @@ use Rattle.format.specs.Choice.{pick}
 use Rattle.format.specs.Choice.Laws.{by_test}
 use Rattle.format.specs.Buffer.{over}
 use Rattle.rows.specs.declared.Row.{Row}
-use Rattle.rows.specs.declared.Found.TheVariants as found
 use Rattle.rows.specs.Rows.{width, numbers, row_at, found_at, row_put, table, first_rows, rows_of, Whole, is_whole}
 
 -- What knows the numbers of a row and their order: these four laws, and none below. (What a writer is told by them: Told.antt.)
@@ -62,34 +61,34 @@ module _ (t : List ℕ) (at : ℕ) where
 -- What is found at a place, and what is put there, each way.
 
 module _ (t : List ℕ) (at : ℕ) where
-  pub no_row : length t < at + width → found.NoRow ≡ found_at t at
+  pub no_row : length t < at + width → None ≡ found_at t at
   unfolding found_at
-  no_row h = sym (ap (λ b. pick b found.NoRow (found.Is (row_at t at))) (lt-ltb (length t) (at + width) h))
+  no_row h = sym (ap (λ b. pick b None (Some (row_at t at))) (lt-ltb (length t) (at + width) h))
 
-  pub one_row : at + width ≤ length t → found.Is (row_at t at) ≡ found_at t at
+  pub one_row : at + width ≤ length t → Some (row_at t at) ≡ found_at t at
   unfolding found_at
-  one_row h = sym (ap (λ b. pick b found.NoRow (found.Is (row_at t at))) (le-ltb (length t) (at + width) h))
+  one_row h = sym (ap (λ b. pick b None (Some (row_at t at))) (le-ltb (length t) (at + width) h))
 
-  pub found_none : found.NoRow ≡ found_at t at → length t < at + width
+  pub found_none : None ≡ found_at t at → length t < at + width
   unfolding found_at
   found_none e =
       by_test (ltb (length t) (at + width))
       (λ s. ltb-true (length t) (at + width) s)
       (λ s.
-      let f : found.NoRow ≡ found.Is (row_at t at) = e ∙ ap (λ b. pick b found.NoRow (found.Is (row_at t at))) s in
+      let f : None ≡ Some (row_at t at) = e ∙ ap (λ b. pick b None (Some (row_at t at))) s in
       let z : ◌≡◌ {A = ℕ} 0 1 = cc in
       absurd (omega arith))
 
-  pub found_row_lem : (r : Row) → found.Is r ≡ found_at t at → (at + width ≤ length t) × (r ≡ row_at t at)
+  pub found_row_lem : (r : Row) → Some r ≡ found_at t at → (at + width ≤ length t) × (r ≡ row_at t at)
   unfolding found_at
   found_row_lem r e =
       by_test (ltb (length t) (at + width))
       (λ s.
-      let f : found.Is r ≡ found.NoRow = e ∙ ap (λ b. pick b found.NoRow (found.Is (row_at t at))) s in
+      let f : Some r ≡ None = e ∙ ap (λ b. pick b None (Some (row_at t at))) s in
       let z : ◌≡◌ {A = ℕ} 0 1 = cc in
       absurd (omega arith))
       (λ s.
-      let f : found.Is r ≡ found.Is (row_at t at) = e ∙ ap (λ b. pick b found.NoRow (found.Is (row_at t at))) s in
+      let f : Some r ≡ Some (row_at t at) = e ∙ ap (λ b. pick b None (Some (row_at t at))) s in
       (ltb-false (length t) (at + width) s, cc))
 
   pub put_none : (r : Row) → length t < at + width → t ≡ row_put r t at

@@ -1,6 +1,5 @@
 -- `put_row` meets its contract: nothing is put down where the row does not fit, and else a store for each of its numbers.
 -- Assumes nothing.
-use borrow.Author.Rules.{rules}
 use native.Mathlib.Omega.{arith}
 use mathlib.Core.Path.{refl, ◌∙◌}
 use lib.ListN.{length-set}
@@ -15,19 +14,11 @@ returns-then-n-at c = let a = c.args in record { written = put_none a.table.now 
 pub returns-then-n-at-lt-WIDTH : goal.returns-then-n-at-lt-WIDTH
 returns-then-n-at-lt-WIDTH c = let a = c.args in record { written = put_none a.table.now a.at a.row (omega arith); wide = (refl, refl) }
 
--- GONE overflow-mul-table
-
--- GONE overflow-mul-table-2
-
 pub bounds-table-at-2 : goal.bounds-table-at-2
 bounds-table-at-2 c = simp length-set (omega arith)
 
--- GONE overflow-mul-table-3
-
 pub bounds-table-at-3 : goal.bounds-table-at-3
 bounds-table-at-3 c = simp length-set (omega arith)
-
--- GONE overflow-mul-table-4
 
 pub bounds-table-at-4 : goal.bounds-table-at-4
 bounds-table-at-4 c = simp length-set (omega arith)

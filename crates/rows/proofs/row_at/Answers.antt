@@ -1,6 +1,5 @@
 -- `row_at` meets its contract: each number of the row stands at its place.
 -- Assumes nothing.
-use borrow.Author.Rules.{rules}
 use native.Mathlib.Omega.{arith}
 use Rattle.rows.specs.Rows.{row_at}
 use Rattle.rows.proofs.Rows.Laws.{no_row, one_row}
@@ -11,14 +10,6 @@ returns-then-n-lt-WIDTH c = let a = c.args in no_row a.table.now a.at (omega ari
 
 pub returns-then-n-at : goal.returns-then-n-at
 returns-then-n-at c = let a = c.args in no_row a.table.now a.at (omega arith)
-
--- GONE overflow-mul-t5
-
--- GONE overflow-mul-t9
-
--- GONE overflow-mul-t13
-
--- GONE overflow-mul-t17
 
 pub returns : goal.returns
 unfolding row_at

@@ -1,6 +1,7 @@
 -- A turn of the search: the rows passed do not have the tag, so its value is among those that are left.
 -- Assumes nothing.
-use Rattle.std.specs.Prelude.{◌≡◌, refl, ℕ, List, eqb}
+use Rattle.std.specs.Prelude as std
+use Rattle.std.specs.Prelude.{◌≡◌, refl, ℕ, List, Some, None, Ok, Err, eqb}
 use Rattle.std.proofs.Common.{ap, sym, ◌∙◌, eq-eqb, ne_eqb}
 use Rattle.std.proofs.Math.Option.{some}
 use Rattle.format.specs.Choice.{pick}
@@ -10,9 +11,8 @@ use Rattle.walk_steps.specs.declared.Step.{Step}
 use Rattle.walk_steps.specs.Steps.{step_at}
 use Rattle.walk_steps.specs.Rows.{Finds}
 use Rattle.walk_steps.proofs.Rows.Laws.{none_ahead, one_ahead}
-use Rattle.shown.specs.declared.Value.{Value}
-use Rattle.shown.specs.declared.Value.TheVariants.{Is, NoValue}
-use Rattle.shown.specs.declared.Where.TheVariants.{Extension, Main, Neither}
+use Rattle.shown.specs.declared.Where.TheVariants.{Extension, Main}
+use Rattle.shown.specs.declared.NotShown.TheVariants.{Neither}
 use Rattle.shown.specs.Where.{value_in, first_of}
 use Rattle.shown.specs.Found.{meaning_of, HasValue, IsFirst}
 
@@ -33,7 +33,7 @@ abbrev value_of_row : Row → Part
 value_of_row r = record { place = r.place; length = r.size }
 
 module _ (s : List ℕ) (start tag at : ℕ) (left : Left s start tag at) (step : Step) (e : step ≡ step_at s at) where
-  pub left_none : (step.number ≡ 0 → ⊥) → HasValue s start tag NoValue
+  pub left_none : (step.number ≡ 0 → ⊥) → HasValue s start tag None
   left_none h rows f = let l = left rows f in sym (l.same ∙ ap (value_in tag) (none_ahead s at step e h l.rest l.finds))
 
   module _ (z : step.number ≡ 0) where
@@ -43,7 +43,7 @@ module _ (s : List ℕ) (start tag at : ℕ) (left : Left s start tag at) (step 
         value_in tag rows ≡ pick (eqb step.row.tag tag) (some (value_of_row step.row)) (value_in tag a.others)
     here rows f = let l = left rows f in l.same ∙ ap (value_in tag) (one_ahead s at step e z l.rest l.finds).is_rest
 
-    pub left_is : step.row.tag ≡ tag → HasValue s start tag (Is (value_of_row step.row))
+    pub left_is : step.row.tag ≡ tag → HasValue s start tag (Some (value_of_row step.row))
     left_is t rows f =
         let l = left rows f in
         let a = one_ahead s at step e z l.rest l.finds in
@@ -60,18 +60,18 @@ module _ (s : List ℕ) (start tag at : ℕ) (left : Left s start tag at) (step 
         }
 
 -- the extension's value, or else the main seal's
-module _ (main : List ℕ) (from : ℕ) (extension : List ℕ) (behind tag : ℕ) (v : Value) (has : HasValue extension behind tag v) where
-  pub first_extension : (p : Part) → v ≡ Is p → IsFirst main from extension behind tag (Extension p)
+module _ (main : List ℕ) (from : ℕ) (extension : List ℕ) (behind tag : ℕ) (v : std.Option Part) (has : HasValue extension behind tag v) where
+  pub first_extension : (p : Part) → v ≡ Some p → IsFirst main from extension behind tag (Ok (Extension p))
   first_extension p e rows others f g = ap (λ o. first_of o (value_in tag rows)) (sym (ap meaning_of e) ∙ has others g)
 
-  module _ (none : v ≡ NoValue) (w : Value) (has' : HasValue main from tag w) where
+  module _ (none : v ≡ None) (w : std.Option Part) (has' : HasValue main from tag w) where
     others_value : (rows others : List Row) → Finds main from rows → Finds extension behind others
-        → first_of (meaning_of NoValue) (meaning_of w) ≡ first_of (value_in tag others) (value_in tag rows)
+        → first_of (meaning_of None) (meaning_of w) ≡ first_of (value_in tag others) (value_in tag rows)
     others_value rows others f g =
-        ap (first_of (meaning_of NoValue)) (has' rows f) ∙ ap (λ o. first_of o (value_in tag rows)) (sym (ap meaning_of none) ∙ has others g)
+        ap (first_of (meaning_of None)) (has' rows f) ∙ ap (λ o. first_of o (value_in tag rows)) (sym (ap meaning_of none) ∙ has others g)
 
-    pub first_main : (p : Part) → w ≡ Is p → IsFirst main from extension behind tag (Main p)
-    first_main p e rows others f g = sym (ap (λ u. first_of (meaning_of NoValue) (meaning_of u)) e) ∙ others_value rows others f g
+    pub first_main : (p : Part) → w ≡ Some p → IsFirst main from extension behind tag (Ok (Main p))
+    first_main p e rows others f g = sym (ap (λ u. first_of (meaning_of None) (meaning_of u)) e) ∙ others_value rows others f g
 
-    pub first_none : w ≡ NoValue → IsFirst main from extension behind tag Neither
-    first_none e rows others f g = sym (ap (λ u. first_of (meaning_of NoValue) (meaning_of u)) e) ∙ others_value rows others f g
+    pub first_none : w ≡ None → IsFirst main from extension behind tag (Err Neither)
+    first_none e rows others f g = sym (ap (λ u. first_of (meaning_of None) (meaning_of u)) e) ∙ others_value rows others f g

@@ -1,7 +1,6 @@
 -- `unpack::is_full` meets its contract: a pair carries three characters exactly where its number is in range and none of its values is
 -- a shift, and the low 32 bits of a product tell whether one is.
 -- Assumes nothing.
-use borrow.Author.Rules.{rules}
 use borrow.Author.Tests.{eq-eqb, ne_eqb, lt-leb, le-leb, leb-true, leb-false}
 use native.Mathlib.Omega.{arith}
 use native.Mathlib.Nat.{div-div-eq-div-mul}

@@ -1,6 +1,5 @@
 -- `unpack::pair_of` meets its contract: each `return` is one case of the definition. FE is looked for only where the number is over 64,000.
 -- Assumes nothing.
-use borrow.Author.Rules.{rules}
 use native.Mathlib.Omega.{arith}
 use mathlib.Core.Path.{◌≡◌, ◌∙◌}
 use Prim.Native.Nat.{◌+◌, ◌*◌, ◌-◌}

@@ -1,6 +1,5 @@
 -- `unpack::single` meets its contract: each `return` is one case of the definition.
 -- Assumes nothing.
-use borrow.Author.Rules.{rules}
 use native.Mathlib.Omega.{arith}
 use mathlib.Core.Path.{◌≡◌, ◌∙◌, ap, sym}
 use Prim.Native.Nat.{◌-◌}
@@ -18,9 +17,6 @@ returns-then-not-last c = single_inner _ _ _ c.if-not-last.true ∙ pair_single 
 
 pub returns-then-y-eq0 : goal.returns-then-y-eq0
 returns-then-y-eq0 c = single_none _ _ _ (omega arith) ∙ pair_single _ _ _ _ (omega arith)
-
-pub bounds-chart-value_of : goal.bounds-chart-value_of
-bounds-chart-value_of c = omega arith
 
 -- what the chart has at the value of the code
 found : (c : After-t13-1)

@@ -1,6 +1,5 @@
 -- `unpack::split` meets its contract: a quarter of the tens is the forties, and one more and one less is the number itself.
 -- Assumes nothing.
-use borrow.Author.Rules.{rules}
 use native.Mathlib.Omega.{arith}
 use Rattle.unpack.proofs.split.Goals as goal
 

@@ -1,12 +1,12 @@
--- `vectors::run_all` meets its contract. The loop's invariant: `to` is within the buffer.
+-- `vectors::run_all` meets its contract. The loop's invariant: the line was written on.
 -- Assumes nothing.
-use mathlib.Core.Path.{◌≡◌}
-use Prim.Native.Nat.{◌-◌, ◌≤◌}
+use Prim.Native.Nat.{◌-◌}
 use lib.ListN.{length}
+use Rattle.case_file.specs.Line.{Onward}
 use Rattle.vectors.proofs.run_all.Given as goal
 
 abbrev pub invariant-loop-from : goal.invariant-loop-from
-invariant-loop-from l = l.to ≤ length l.out
+invariant-loop-from g l = Onward l.initial.lines l.lines
 
 abbrev pub decreases-loop-from : goal.decreases-loop-from
-decreases-loop-from l = length l.cases - l.from
+decreases-loop-from g l = length l.cases - l.from

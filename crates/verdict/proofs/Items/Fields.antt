@@ -1,6 +1,6 @@
 -- Country, signer and reference against the grammar: what is legal passes the tests, and its published form is read as it.
 -- Assumes nothing.
-use Rattle.std.specs.Prelude.{◌≡◌, refl, ◌⊎◌, Bool, true, ℕ, ◌+◌, ◌-◌, ◌*◌, ◌/◌, ◌%◌, ◌≤◌, List, [], ◌∷◌, ◌++◌, map, ltb, eqb, length, take, drop}
+use Rattle.std.specs.Prelude.{◌≡◌, refl, ◌⊎◌, Bool, true, ℕ, ◌+◌, ◌*◌, ◌/◌, ◌%◌, ◌≤◌, List, [], ◌∷◌, ◌++◌, map, ltb, eqb, length, take, drop}
 use Rattle.std.proofs.Common.{ap, sym, subst, ◌∙◌, ⊎_elim, arith, lt-ltb, ne_eqb, append_assoc, length-append, take_at, drop_at}
 use Rattle.std.proofs.Math.Option.{none}
 use Rattle.format.specs.Choice.{pick, both, either}

@@ -1,6 +1,6 @@
 -- Each item against the grammar, the other way: what is read as a value is the published form of that legal value, followed by the rest.
 -- Assumes nothing.
-use Rattle.std.specs.Prelude.{◌≡◌, refl, Bool, true, false, ℕ, ◌+◌, ◌≤◌, ◌<◌, List, [], ◌∷◌, ◌++◌, eqb, length, take, drop, get_or}
+use Rattle.std.specs.Prelude.{◌≡◌, refl, Bool, true, false, ℕ, ◌+◌, ◌≤◌, ◌<◌, List, [], ◌∷◌, ◌++◌, Result, Ok, Err, eqb, length, take, drop, get_or}
 use Rattle.std.proofs.Common.{ap, sym, subst, ◌∙◌, arith, eqb-true, append_assoc, take-append-drop, length-drop, length-append, length-take-le, drop-drop, take_all}
 use Rattle.std.proofs.Math.Option.{Option, none, some}
 use Rattle.format.specs.Choice.{pick, within}
@@ -13,10 +13,10 @@ use Rattle.dates.specs.Days.{is_day, Day, date_of, publish}
 use Rattle.dates.proofs.Days.Laws.{length_publish}
 use Rattle.format.specs.Choice.Laws.{within_both}
 use Rattle.dates.proofs.Exact.{from_day, taken_published}
-use Rattle.der.specs.Length.{Sized, form, read_length}
+use Rattle.der.specs.Length.{Sized, form, is as told, read_length}
 use Rattle.der.proofs.Lengths.Exact.{read_is_form}
+use Rattle.der.specs.declared.Fault.{Fault}
 use Rattle.der.specs.declared.Length.{Length}
-use Rattle.der.specs.declared.Length.TheVariants.{Is, Not}
 use Rattle.grammar.specs.Legal.{LastByte, ValueSize}
 use Rattle.grammar.specs.Content.{Version, three, four}
 use Rattle.versions.specs.Versions.{version_byte, version_of_byte}
@@ -161,12 +161,14 @@ date_read at s d after bytes e =
 pub der_read : (at : ℕ) (s : List ℕ) (n after : ℕ) → Bytes s → der_length at s ≡ is n after → Sized n × Stands (form n) at after s
 der_read at s n after bytes e = found (read_length (drop at s)) refl
   where
-    found : (r : Length) → read_length (drop at s) ≡ r → Sized n × Stands (form n) at after s
-    found (Is m width) f =
+    found : (r : Result Length Fault) → read_length (drop at s) ≡ r → Sized n × Stands (form n) at after s
+    found (Ok l) f =
+        let m = l.size in
+        let width = l.width in
         let g : ◌≡◌ {A = Item ℕ} (is m (at + width)) (is n after) = sym (ap (der_of at) f) ∙ e in
         let same = same_value m n (at + width) after g in
         let place = same_place m n (at + width) after g in
-        let t = read_is_form (drop at s) (bytes_drop at s bytes) n width (f ∙ ap (λ k. Is k width) same) in (
+        let t = read_is_form (drop at s) (bytes_drop at s bytes) n width (f ∙ ap (λ k. told k width) same) in (
           t.sized,
           record {
             form_there =
@@ -177,7 +179,7 @@ der_read at s n after bytes e = found (read_length (drop at s)) refl
             size = sym place ∙ ap (λ k. at + k) (sym t.size);
           },
         )
-    found (Not fault) f = absurd (unread (length_rule fault) at n after (sym (ap (der_of at) f) ∙ e))
+    found (Err fault) f = absurd (unread (length_rule fault) at n after (sym (ap (der_of at) f) ∙ e))
 
 pub feature_length_read :
     (v : Version) (at : ℕ) (s : List ℕ) (n after : ℕ) →

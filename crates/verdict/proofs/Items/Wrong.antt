@@ -1,7 +1,7 @@
 -- The place of 5 where an item is wrongly coded (document 02, Ticket 1), exactly: "the first byte of the item's first wrongly coded pair, a
 -- last pair that does not fit the number of characters included". It lies in the item, an even number of bytes from its first.
 -- Assumes nothing.
-use Rattle.std.specs.Prelude.{◌≡◌, refl, ◌⊎◌, Bool, true, false, ℕ, ◌+◌, ◌-◌, ◌*◌, ◌/◌, ◌%◌, ◌<◌, ◌≤◌, List, ltb, eqb, length, take, drop}
+use Rattle.std.specs.Prelude.{◌≡◌, refl, Bool, true, false, ℕ, ◌+◌, ◌-◌, ◌%◌, ◌<◌, ◌≤◌, List, ltb, eqb, length, take, drop}
 use Rattle.std.proofs.Common.{ap, sym, subst, ◌∙◌, inl, inr, ⊎_elim, arith, ne_eqb, le-ltb, ltb-true, ltb-false}
 use Rattle.std.proofs.Math.Option.{Option, none, some, none-ne-some, some-injective}
 use Rattle.std.proofs.lemmas.Bool.{eqb-false}

@@ -1,23 +1,23 @@
 -- `walk_lines::put_features` meets its contract. The loop's invariant: the lines of the rows before are put down, and those of the rows
--- that are still to be found are left. What is left of the seal falls.
+-- that are still to be found are left; the line keeps its buffer. What is left of the seal falls.
 -- Assumes nothing.
-use borrow.Author.Rules.{rules}
 use native.Mathlib.Omega.{arith}
-use Prim.Native.Nat.{◌-◌}
-use lib.ListN.{length}
+use mathlib.Core.Path.{refl, ◌∙◌}
 use Rattle.walk_steps.proofs.Rows.Laws.{step_goes}
-use Rattle.walk_lines.specs.Lines.Laws.{Telling, telling_start, telling_end, telling_more}
+use Rattle.walk_lines.specs.Lines.Laws.{telling_start, telling_end, telling_more}
 use Rattle.walk_lines.proofs.put_features.Goals as goal
 
 pub loop-step-init : goal.loop-step-init
-loop-step-init c = telling_start _ _ _ _
-
-pub shape_of-out-then-step-ne0 : goal.shape_of-out-then-step-ne0
-shape_of-out-then-step-ne0 c = c.loop-step.invariant.long
+loop-step-init c = (telling_start _ _ _ _, refl)
 
 pub returns-then-step-ne0 : goal.returns-then-step-ne0
 returns-then-step-ne0 c =
-    telling_end _ _ _ _ _ _ _ c.loop-step.invariant _ c.next_at-step.ensures c.if-step-ne0.true
+    let told = c.loop-step.invariant.0 in
+    record {
+      tells = telling_end _ _ _ _ _ _ _ told _ c.next_at-step.ensures c.if-step-ne0.true;
+      size = told.long;
+      same = c.loop-step.invariant.1;
+    }
 
 pub loop-step-smaller : goal.loop-step-smaller
 loop-step-smaller c =
@@ -26,5 +26,7 @@ loop-step-smaller c =
 
 pub loop-step-preserved : goal.loop-step-preserved
 loop-step-preserved c =
-    telling_more _ _ _ _ _ _ _ c.loop-step.invariant _ c.next_at-step.ensures c.if-step-ne0.false _ _ c.put_feature-o.auto.out
-    c.put_feature-o.ensures
+    let put = c.put_feature.ensures in (
+      telling_more _ _ _ _ _ _ _ c.loop-step.invariant.0 _ c.next_at-step.ensures c.if-step-ne0.false _ _ put.size put.put,
+      put.same ∙ c.loop-step.invariant.1,
+    )

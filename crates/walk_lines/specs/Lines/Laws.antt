@@ -4,11 +4,14 @@ use Rattle.std.specs.Prelude.{◌≡◌, refl, ℕ, ◌≤◌, ◌<◌, length}
 use Rattle.std.proofs.Math.Path.{ap, sym, subst}
 use Rattle.std.proofs.Common.{◌∙◌, arith}
 use mathlib.Core.List.{List, [], ◌++◌, append_assoc, append-nil}
+use Rattle.std.specs.Borrow.{MutBor}
 use Rattle.format.specs.Bytes.{Bytes}
 use Rattle.format.specs.Answers.{done, filled}
 use Rattle.rows.specs.declared.Row.{Row}
 use Rattle.lines.specs.Line.{Put, Counts, decimal_of, ascii}
 use Rattle.lines.specs.Line.Laws.{put_none, put_more, put_start, counts_filled, filled_length}
+use Rattle.lines.specs.declared.written.Line.{Line}
+use Rattle.lines.specs.Written.{Opens, Puts}
 use Rattle.list_lines.specs.ListLine.{line_of, refusal}
 use Rattle.verdict.specs.Judge.{Verdict, accepted, refused, judge}
 use Rattle.verdict.specs.Judge.Listed.{FromList, from_list}
@@ -18,7 +21,7 @@ use Rattle.walk_steps.specs.declared.Step.{Step}
 use Rattle.walk_steps.specs.Steps.{start_of, step_at}
 use Rattle.walk_steps.specs.Rows.{Finds}
 use Rattle.walk_steps.proofs.Rows.Laws.{rows_found, none_ahead, one_ahead}
-use Rattle.walk_lines.specs.Lines.{feature, feature_lines, text_of, Tells, Enough}
+use Rattle.walk_lines.specs.Lines.{feature, feature_lines, text_of, Tells, TellsOn, Enough}
 
 -- the line of a feature, as it is put together
 feature_parts :
@@ -31,14 +34,14 @@ unfolding feature
 feature_parts r = simp append_assoc
 
 pub put_feature :
-    (old : List ℕ) (at : ℕ) (r : Row) (new : List ℕ) (to : ℕ) →
-    Put old at
+    (old : Line) (r : Row) (new : Line) →
+    Puts old
     ((ascii "feature " ++ decimal_of r.tag)
     ++ ((ascii " at " ++ decimal_of r.start)
     ++ ((ascii " value at " ++ decimal_of r.place) ++ line_of (ascii " length ") (decimal_of r.size))))
-    new to →
-    Put old at (feature r) new to
-put_feature old at r new to p = subst (λ l. Put old at l new to) (feature_parts r) p
+    new →
+    Puts old (feature r) new
+put_feature old r new p = subst (λ l. Puts old l new) (feature_parts r) p
 
 -- how far the lines are put down: those of the rows before stand in `out`, and those of the rows that are still to be found are left
 pub record Left (s old : List ℕ) (from : ℕ) (out : List ℕ) (o place : ℕ) (rows : List Row) : Type 0 where
@@ -85,6 +88,11 @@ module _ (s : List ℕ) (start : ℕ) (old : List ℕ) (from : ℕ) (out : List 
               ∙ sym (append_assoc l.before (feature step.row) (feature_lines a.others));
         };
   }
+
+-- what is told in a buffer through a line that starts at a place of it
+pub tells_through : (s : List ℕ) (start : ℕ) (out : MutBor (List ℕ)) (at : ℕ) (a b : Line) (new : List ℕ) (r : ℕ) → Opens out at a
+    → TellsOn s start a b → b.out.now ≡ new → b.at ≡ r → Tells s start out.now at new r
+tells_through s start out at a b new r o t e f = rw (sym o.text, sym o.place, sym e, sym f) t.tells
 
 pub enough : {n : ℕ} → 4096 < n → Enough n
 enough {n} h = record { same = λ s. ap text_of (judge_taken n h s) }

@@ -1,7 +1,7 @@
 -- The walk over an accepted seal finds the rows that the judging reports.
 -- Assumes nothing.
 use Rattle.std.proofs.Math.Path.{◌≡◌, sym}
-use Rattle.std.specs.Prelude.{refl, Bool, true, false, List, [], ◌∷◌, ◌++◌, eqb, length}
+use Rattle.std.specs.Prelude.{refl, Bool, true, false, List, [], ◌∷◌, ◌++◌, Result, Ok, Err, eqb, length}
 use Rattle.std.proofs.Common.{ap, subst, ◌∙◌, eqb-true, append_assoc, append-nil}
 use Prim.Native.Nat.{ℕ, zero, suc, ◌+◌, ◌≤◌, ◌<◌}
 use native.Mathlib.Omega.{arith}
@@ -10,8 +10,8 @@ use Rattle.format.specs.Bytes.{Bytes, All}
 use Rattle.format.specs.Choice.{pick}
 use Rattle.format.specs.Choice.Laws.{by_test}
 use Rattle.der.specs.Length.{read_length}
+use Rattle.der.specs.declared.Fault.{Fault}
 use Rattle.der.specs.declared.Length.{Length}
-use Rattle.der.specs.declared.Length.TheVariants as der
 use Rattle.versions.specs.Versions.{version_byte}
 use Rattle.grammar.specs.Content.{Version, three, four, Content}
 use Rattle.grammar.specs.Publish.{header_zone, message_zone, signature_zone, signed_bytes, publish}
@@ -36,9 +36,9 @@ use Rattle.walk_steps.proofs.Steps.Laws.{at_mark, at_row, step_versioned}
 use Rattle.walk_steps.specs.Rows.{Finds}
 
 -- a feature's value begins behind its length's place
-der_on : (at : ℕ) (l : Length) (n value : ℕ) → der_of at l ≡ is n value → at ≤ value
-der_on at (der.Is m width) n value e = omega (arith, same_place m n (at + width) value e)
-der_on at (der.Not fault) n value e = absurd (unread (length_rule fault) at n value e)
+der_on : (at : ℕ) (l : Result Length Fault) (n value : ℕ) → der_of at l ≡ is n value → at ≤ value
+der_on at (Ok l) n value e = omega (arith, same_place l.size n (at + l.width) value e)
+der_on at (Err fault) n value e = absurd (unread (length_rule fault) at n value e)
 
 length_on : (v : Version) (at : ℕ) (s : List ℕ) (n value : ℕ) → feature_length v at s ≡ is n value → at ≤ value
 length_on three at s n value e = omega (arith, (read_byte at s n value (sym e)).reached)

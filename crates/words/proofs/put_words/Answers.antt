@@ -1,6 +1,6 @@
 -- `words::put_words` meets its contract: its page is the table's, and 92 is the length of the longest words.
 -- Assumes nothing.
-use mathlib.Core.Path.{refl, ◌∙◌}
+use mathlib.Core.Path.{refl}
 use Rattle.pages.specs.Page.{page_of}
 use Rattle.pages.specs.Calls.Laws.{of_table}
 use Rattle.words.specs.Words.{table}
@@ -11,4 +11,4 @@ pub returns : goal.returns
 unfolding page_of
 returns c =
     let put = of_table table _ _ c.put_words_of.ensures refl refl in
-    record { answer = c.as_told.ensures ∙ put.answer 63; buffer = put.buffer 63; room = longest }
+    record { answer = put.answer 63; buffer = put.buffer 63; room = longest }

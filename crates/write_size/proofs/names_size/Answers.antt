@@ -1,6 +1,5 @@
 -- `names_size` meets its contract.
 -- Assumes nothing.
-use borrow.Author.Rules.{rules}
 use native.Mathlib.Omega.{arith}
 use Rattle.write_size.specs.SealSize.Laws.{names_plain, names_past, names_long}
 use Rattle.write_size.proofs.names_size.Goals as goal

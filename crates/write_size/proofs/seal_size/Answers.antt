@@ -1,6 +1,5 @@
 -- `seal_size` meets its contract.
 -- Assumes nothing.
-use borrow.Author.Rules.{rules}
 use native.Mathlib.Omega.{arith}
 use Prim.Native.Nat.{◌≤◌}
 use Rattle.grammar.specs.Content.{four}

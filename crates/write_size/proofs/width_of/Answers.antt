@@ -1,6 +1,5 @@
 -- `width_of` meets its contract.
 -- Assumes nothing.
-use borrow.Author.Rules.{rules}
 use mathlib.Core.Path.{◌∙◌}
 use Rattle.write_size.specs.SealSize.Laws.{width_three, width_four}
 use Rattle.write_size.proofs.width_of.Goals as goal

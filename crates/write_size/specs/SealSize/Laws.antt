@@ -1,13 +1,11 @@
 -- Laws of the sizes: the form and the width of a length, and the sum part by part, up to one past 4,096.
 -- Assumes nothing.
-use Rattle.std.specs.Prelude.{◌≡◌, refl, ℕ, ◌+◌, ◌*◌, ◌/◌, ◌<◌, ◌≤◌, min, List, [], ◌∷◌, length, drop}
+use Rattle.std.specs.Prelude.{◌≡◌, refl, ℕ, ◌+◌, ◌*◌, ◌/◌, ◌<◌, ◌≤◌, min, List, [], ◌∷◌, length}
 use Rattle.std.proofs.Common.{ap, sym, ◌∙◌, arith}
 use Rattle.der.specs.Length.{written}
 use Rattle.der.proofs.Lengths.Written.{written_form, written_some}
 use Rattle.grammar.specs.Publish.{length_of}
 use Rattle.rows.specs.declared.Row.{Row}
-use Rattle.rows.specs.Rows.{width, row_at, rows_of}
-use Rattle.rows.proofs.Rows.Laws.{rows_here, rows_end}
 use Rattle.grammar.specs.Content.{Version, three, four}
 use Rattle.write_size.specs.SealSize.{rows_size, names_size}
 
@@ -35,33 +33,31 @@ size_cons :
 unfolding rows_size
 size_cons v r rows = refl
 
--- how far the sum has come
-pub record Summed (v : Version) (t : List ℕ) (start total at : ℕ) : Type 0 where
+-- how far the sum has come, with these rows left
+pub record Summed (v : Version) (rows : List Row) (start total : ℕ) (left : List Row) : Type 0 where
   pub small : total ≤ 4096
-  pub same : start + rows_size v (rows_of t) ≡ total + rows_size v (rows_of (drop at t))
+  pub same : start + rows_size v rows ≡ total + rows_size v left
 
-pub summed_start : (v : Version) (t : List ℕ) (start : ℕ) → start ≤ 4096 → Summed v t start start 0
-summed_start v t start h = record { small = h; same = refl }
+pub summed_start : (v : Version) (rows : List Row) (start : ℕ) → start ≤ 4096 → Summed v rows start start rows
+summed_start v rows start h = record { small = h; same = refl }
 
-module _ (v : Version) (t : List ℕ) (start total at : ℕ) (s : Summed v t start total at) where
-  pub summed_end : length t < at + width → total ≡ min (start + rows_size v (rows_of t)) 4097
-  summed_end h = let e = ap (rows_size v) (rows_end t at h) ∙ size_none v in omega (arith, s.same, s.small)
+module _ (v : Version) (rows : List Row) (start total : ℕ) (left : List Row) (s : Summed v rows start total left) where
+  pub summed_end : left ≡ [] → total ≡ min (start + rows_size v rows) 4097
+  summed_end none = let e = ap (rows_size v) none ∙ size_none v in omega (arith, s.same, s.small)
 
-  -- the row that stands here
-  module _ (here : at + width ≤ length t) (r : Row) (e : r ≡ row_at t at) where
-    on : rows_size v (rows_of (drop at t)) ≡ 1 + length (length_of v r.size) + r.size + rows_size v (rows_of (drop (at + width) t))
-    on =
-        ap (rows_size v) (rows_here t at here ∙ ap (λ q. q ∷ rows_of (drop (at + width) t)) (sym e))
-        ∙ size_cons v r (rows_of (drop (at + width) t))
+  -- the first of the rows left
+  module _ (r : Row) (more : List Row) (first : left ≡ r ∷ more) where
+    on : rows_size v left ≡ 1 + length (length_of v r.size) + r.size + rows_size v more
+    on = ap (rows_size v) first ∙ size_cons v r more
 
-    pub summed_great : 4096 < r.size → 4097 ≡ min (start + rows_size v (rows_of t)) 4097
+    pub summed_great : 4096 < r.size → 4097 ≡ min (start + rows_size v rows) 4097
     summed_great h = omega (arith, s.same, on)
 
     module _ (k : ℕ) (w : k ≡ length (length_of v r.size)) where
-      pub summed_past : 4096 < total + (1 + k + r.size) → 4097 ≡ min (start + rows_size v (rows_of t)) 4097
+      pub summed_past : 4096 < total + (1 + k + r.size) → 4097 ≡ min (start + rows_size v rows) 4097
       summed_past h = omega (arith, s.same, on, w)
 
-      pub summed_more : total + (1 + k + r.size) ≤ 4096 → Summed v t start (total + (1 + k + r.size)) (at + width)
+      pub summed_more : total + (1 + k + r.size) ≤ 4096 → Summed v rows start (total + (1 + k + r.size)) more
       summed_more h = record { small = h; same = omega (arith, s.same, on, w) }
 
 -- the width of a length is small

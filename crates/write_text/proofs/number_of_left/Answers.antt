@@ -1,6 +1,5 @@
 -- `number_of_left` meets its contract.
 -- Assumes nothing.
-use borrow.Author.Rules.{rules}
 use native.Mathlib.Omega.{arith}
 use mathlib.Core.Path.{◌∙◌, ap, sym}
 use Rattle.format.specs.BigEndian.{be}

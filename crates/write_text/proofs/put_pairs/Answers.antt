@@ -1,13 +1,12 @@
 -- `put_pairs` meets its contract. The loop's invariant: the full pairs before stand in `out`.
 -- Assumes nothing.
-use borrow.Author.Rules.{rules}
 use native.Mathlib.Omega.{arith}
-use mathlib.Core.Path.{◌≡◌, ◌∙◌, ap}
+use mathlib.Core.Path.{◌≡◌, ◌∙◌, ap, refl}
 use Prim.Native.Nat.{ℕ, ◌-◌}
 use mathlib.Core.List.{List}
 use lib.ListN.{length, take, drop, length-drop}
 use Rattle.format.specs.Places.{to_end}
-use Rattle.write_text.specs.Coded.Laws.{Texting, texting_start, texting_length, texting_room, texting_last, texting_end, texting_more}
+use Rattle.write_text.specs.Coded.Laws.{texting_start, texting_length, texting_room, texting_last, texting_end, texting_more}
 use Rattle.write_text.proofs.put_pairs.Goals as goal
 use Rattle.write_text.proofs.put_pairs.Goals.{At-loop-i}
 
@@ -27,55 +26,31 @@ loop-i-init c = texting_start c.args.text.now c.args.out.now c.args.start c.requ
 pub overflow_add-i : goal.overflow_add-i
 overflow_add-i c = omega (arith, c.loop-i.invariant.inside)
 
-pub bounds-text-i : goal.bounds-text-i
-bounds-text-i c = omega arith
-
-pub overflow_add-i-in-loop-i : goal.overflow_add-i-in-loop-i
-overflow_add-i-in-loop-i c = omega arith
-
-pub bounds-text-i-in-loop-i : goal.bounds-text-i-in-loop-i
-bounds-text-i-in-loop-i c = omega arith
-
-pub overflow_add-i-in-loop-i-2 : goal.overflow_add-i-in-loop-i-2
-overflow_add-i-in-loop-i-2 c = omega arith
-
-pub bounds-text-i-in-loop-i-2 : goal.bounds-text-i-in-loop-i-2
-bounds-text-i-in-loop-i-2 c = omega arith
-
-pub put_number-at-requires : goal.put_number-at-requires
-put_number-at-requires c =
-    (omega (arith, c.number_of.ensures.1), texting_room _ _ _ _ _ _ c.loop-i.invariant (omega arith))
-
-pub overflow_add-i-in-loop-i-3 : goal.overflow_add-i-in-loop-i-3
-overflow_add-i-in-loop-i-3 c = omega arith
-
-pub loop-i-smaller : goal.loop-i-smaller
-loop-i-smaller c = omega arith
+pub put_two-requires : goal.put_two-requires
+put_two-requires c = texting_room _ _ _ _ _ _ c.loop-i.invariant (omega arith)
 
 pub loop-i-preserved : goal.loop-i-preserved
 loop-i-preserved c =
     let on = (goal.at.loop-i-preserved c).At-loop-i in
     let packed = c.number_of in
-    texting_more _ _ _ _ _ _ on.loop-i.invariant (omega arith) packed.result packed.ensures.0 _ _ c.put_number-at.ensures.place c.put_number-at.ensures.buffer
+    texting_more _ _ _ _ _ _ on.loop-i.invariant (omega arith) packed.result packed.ensures.0 _ _ refl c.put_two.ensures
 
 pub number_of_left-requires : goal.number_of_left-requires
 number_of_left-requires c =
     let many = ap length (left (goal.at.number_of_left-requires c).At-loop-i) ∙ length-drop c.loop-i.i (text (goal.at.number_of_left-requires c).At-loop-i) in
     (omega (arith, many), omega (arith, many))
 
-pub put_number-requires : goal.put_number-requires
-put_number-requires c =
-    (c.number_of_left.ensures.1, texting_room _ _ _ _ _ _ c.loop-i.invariant (omega arith))
+pub put_two-requires-then-i-n : goal.put_two-requires-then-i-n
+put_two-requires-then-i-n c = texting_room _ _ _ _ _ _ c.loop-i.invariant (omega arith)
 
 pub shape_of-out-then-i-n : goal.shape_of-out-then-i-n
-shape_of-out-then-i-n c = c.put_number.auto.out ∙ texting_length _ _ _ _ _ _ c.loop-i.invariant
+shape_of-out-then-i-n c = c.put_two-then-i-n.auto.out ∙ texting_length _ _ _ _ _ _ c.loop-i.invariant
 
 pub returns-then-i-n : goal.returns-then-i-n
 returns-then-i-n c =
     let on = (goal.at.returns-then-i-n c).At-loop-i in
     let form = c.number_of_left in
-    let put = c.put_number.ensures in
-    let e = texting_last _ _ _ _ _ _ on.loop-i.invariant form.result _ (left on) form.ensures.0 _ _ put.place put.buffer in
+    let e = texting_last _ _ _ _ _ _ on.loop-i.invariant form.result _ (left on) form.ensures.0 _ _ refl c.put_two-then-i-n.ensures in
     record { place = e.0; buffer = e.1 }
 
 pub shape_of-out : goal.shape_of-out

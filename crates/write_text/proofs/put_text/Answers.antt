@@ -1,6 +1,5 @@
 -- `put_text` meets its contract.
 -- Assumes nothing.
-use borrow.Author.Rules.{rules}
 use native.Mathlib.Omega.{arith}
 use mathlib.Core.Path.{◌∙◌}
 use Rattle.octets.specs.Copy.Laws.{copied_not, copied_all, reached_not, reached_all}

@@ -1,11 +1,6 @@
 -- `decode::full` meets its contract. The loop's invariant: all pairs before the place are full.
-use borrow.Author.Rules.{rules}
-use borrow.Author.Tests.{not-true, not-false, eqb-true, eqb-false}
-use native.Mathlib.Omega.{arith}
-use mathlib.Core.Path.{◌∙◌, sym}
 use Prim.Native.Nat.{◌-◌, ◌≤◌}
 use Rattle.c40_read.specs.Full.{FullTo}
-use Rattle.c40_read.specs.Full.Laws.{full_start, full_more}
 use Rattle.c40_read.proofs.decode.full.Given as goal
 
 abbrev pub invariant-loop-i : goal.invariant-loop-i

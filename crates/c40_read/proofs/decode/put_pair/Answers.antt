@@ -1,25 +1,25 @@
 -- `decode::put_pair` meets its contract: one, two or three stores in a row are one write.
 -- Assumes nothing.
-use borrow.Author.Rules.{rules}
 use native.Mathlib.Omega.{arith}
 use mathlib.Core.Path.{◌∙◌, ap, sym}
 use Prim.Native.Nat.{◌+◌, ◌≤◌}
 use lib.ListN.{length, length-set}
 use Rattle.format.specs.Buffer.{over}
-use Rattle.format.proofs.Buffer.Laws.{over_none, set_over, over_two, over_three}
+use Rattle.format.proofs.Buffer.Laws.{set_over, over_two, over_three}
+use Rattle.std.specs.Prelude.{Ok}
 use Rattle.pairs.specs.Pairs.{chars_of}
 use Rattle.c40_read.proofs.decode.put_pair.Goals as goal
 use Rattle.c40_read.proofs.decode.put_pair.Goals.{In-One, In-Three, In-Two}
 
 -- the room that each case has
 three : (c : In-Three) → c.args.at + 3 ≤ length c.args.out.now
-three c = omega (arith, ap (λ p. length (chars_of p)) c.in-Three.is)
+three c = omega (arith, ap (λ p. length (chars_of (Ok p))) c.in-Three.is)
 
 two : (c : In-Two) → c.args.at + 2 ≤ length c.args.out.now
-two c = omega (arith, ap (λ p. length (chars_of p)) c.in-Two.is)
+two c = omega (arith, ap (λ p. length (chars_of (Ok p))) c.in-Two.is)
 
 one : (c : In-One) → c.args.at + 1 ≤ length c.args.out.now
-one c = omega (arith, ap (λ p. length (chars_of p)) c.in-One.is)
+one c = omega (arith, ap (λ p. length (chars_of (Ok p))) c.in-One.is)
 
 pub bounds-out-at : goal.bounds-out-at
 bounds-out-at c = omega (arith, three c)
@@ -39,27 +39,22 @@ bounds-out-at-in-Two-2 c = simp length-set (omega (arith, two c))
 pub bounds-out-at-in-One : goal.bounds-out-at-in-One
 bounds-out-at-in-One c = omega (arith, one c)
 
-pub returns-in-Wrong : goal.returns-in-Wrong
-returns-in-Wrong c =
-    let a = c.args in
-    sym (over_none a.out.now a.at) ∙ ap (λ p. over a.out.now a.at (chars_of p)) (sym c.in-Wrong.is)
-
 pub returns-in-Three : goal.returns-in-Three
 returns-in-Three c =
     let a = c.args in
     let g = c.in-Three in
     over_three a.out.now a.at g.a g.b g.c (three c)
-    ∙ ap (λ p. over a.out.now a.at (chars_of p)) (sym c.in-Three.is)
+    ∙ ap (λ p. over a.out.now a.at (chars_of (Ok p))) (sym c.in-Three.is)
 
 pub returns-in-Two : goal.returns-in-Two
 returns-in-Two c =
     let a = c.args in
     let g = c.in-Two in
     over_two a.out.now a.at g.a g.b (two c)
-    ∙ ap (λ p. over a.out.now a.at (chars_of p)) (sym c.in-Two.is)
+    ∙ ap (λ p. over a.out.now a.at (chars_of (Ok p))) (sym c.in-Two.is)
 
 pub returns-in-One : goal.returns-in-One
 returns-in-One c =
     let a = c.args in
     set_over a.out.now a.at c.in-One.a (omega (arith, one c))
-    ∙ ap (λ p. over a.out.now a.at (chars_of p)) (sym c.in-One.is)
+    ∙ ap (λ p. over a.out.now a.at (chars_of (Ok p))) (sym c.in-One.is)

@@ -4,9 +4,7 @@ use mathlib.Core.Path.{◌∙◌, sym}
 use Rattle.case_file.proofs.fill.put_kept.Goals as goal
 
 pub returns-then-unchanged : goal.returns-then-unchanged
-returns-then-unchanged c =
-    rw (sym c.unchanged.ensures ∙ c.if-unchanged.true) c.put_text.ensures
+returns-then-unchanged c = rw (sym c.unchanged.ensures ∙ c.if-unchanged.true) c.text.ensures
 
-pub returns : goal.returns
-returns c =
-    rw (sym c.unchanged.ensures ∙ c.if-unchanged.false) c.put_text-2.ensures
+pub returns-else-unchanged : goal.returns-else-unchanged
+returns-else-unchanged c = rw (sym c.unchanged.ensures ∙ c.if-unchanged.false) c.text-else-unchanged.ensures

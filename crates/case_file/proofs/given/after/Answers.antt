@@ -1,37 +1,23 @@
--- `case_file::given::after` meets its contract. The loop's invariant: `i` is no further than the end, and the letter was not passed.
+-- `case_file::given::after` meets its contract: the first such letter is found, or there is none.
 -- Assumes nothing.
-use native.Mathlib.Omega.{arith}
-use native.Mathlib.Numerals.{add-one}
-use Rattle.case_file.specs.Given.Laws.{after_found, after_turn, after_end}
+use borrow.Author.Tests.{tests}
+use Rattle.std.proofs.Common.{◌≡◌, rules, sym, arith}
+use Rattle.std.proofs.lemmas.Iterator.{IsFirst-from_position, YieldsList-from_slice}
+use Rattle.case_file.specs.Given.Laws.{after_found, after_none}
 use Rattle.case_file.proofs.given.after.Goals as goal
 
-pub loop-i-init : goal.loop-i-init
-loop-i-init c = omega arith
+pub returns-in-Some-clause-value : goal.returns-in-Some-clause-value
+returns-in-Some-clause-value c =
+    let letter = c.args.letter in
+    let line = c.args.line.now in
+    let found = IsFirst-from_position _ _ _ (λ x. x ≡ letter) (λ x. x ≡ letter → ⊥) c.in-Some.ensures.ran
+    (YieldsList-from_slice line cc) (λ x q k. search (rules, tests)) (λ x q k. search (rules, tests)) in
+    sym (after_found letter line c.in-Some.i found.0 (found.1 0) (λ k h. found.2 k 0 (omega arith) h))
 
-pub bounds-line-i : goal.bounds-line-i
-bounds-line-i c = omega arith
-
-pub overflow_add-result : goal.overflow_add-result
-overflow_add-result c = omega arith
-
-pub returns-then-line-i : goal.returns-then-line-i
-returns-then-line-i c =
-    let args = c.args in
-    omega (arith, c.loop-i.invariant.1, after_found args.line.now c.loop-i.i args.letter (omega arith) c.if-line-i.true)
-
-pub overflow_add-i : goal.overflow_add-i
-overflow_add-i c = omega arith
-
-pub loop-i-smaller : goal.loop-i-smaller
-loop-i-smaller c = omega arith
-
-pub loop-i-preserved : goal.loop-i-preserved
-loop-i-preserved c =
-    let args = c.args in
-    rw add-one
-    (omega (arith, c.loop-i.invariant.1, after_turn args.line.now c.loop-i.i args.letter (omega arith) c.if-line-i.false))
-
-pub returns : goal.returns
-returns c =
-    let args = c.args in
-    omega (arith, c.loop-i.invariant.1, after_end args.line.now c.loop-i.i args.letter (omega arith))
+pub returns-in-None-clause-value : goal.returns-in-None-clause-value
+returns-in-None-clause-value c =
+    let letter = c.args.letter in
+    let line = c.args.line.now in
+    let none = IsFirst-from_position _ _ _ (λ x. x ≡ letter) (λ x. x ≡ letter → ⊥) c.in-None.ensures.ran
+    (YieldsList-from_slice line cc) (λ x q k. search (rules, tests)) (λ x q k. search (rules, tests)) in
+    sym (after_none letter line (λ k h. none k 0 (omega arith) h))

@@ -1,44 +1,44 @@
--- `case_file::line::checksum` meets its contract. The loop's invariant: `tail` and `sum` are the two sums of what stands from `i` on.
+-- `case_file::line::checksum` meets its contract.
 -- Assumes nothing.
-use native.Mathlib.Omega.{arith}
-use mathlib.Core.Path.{◌≡◌, ap}
-use Prim.Native.Nat.{◌-◌, suc}
-use native.Mathlib.Nat.{le_refl}
-use lib.ListN.{length, drop, drop_of_length-le}
+use Rattle.std.proofs.Common.{◌≡◌, ◌∙◌, ℕ, ◌%◌, ◌<◌, List, [], ◌∷◌, ◌++◌, length, get_or, refl, sym, ap, append-nil, append_assoc, arith}
+use Rattle.std.proofs.Math.Seq.{get_or-append_seam}
+use Rattle.std.proofs.lemmas.List.{nil_from_length}
 use Rattle.case_file.specs.Line.{weighted}
-use Rattle.case_file.specs.Line.Laws.{total, total_turn, weighted_turn}
+use Rattle.case_file.specs.Line.Laws.{total, weighted_more}
 use Rattle.case_file.proofs.line.checksum.Goals as goal
+use Rattle.case_file.proofs.line.checksum.Goals.{After-wide}
 
-pub loop-i-init : goal.loop-i-init
+-- the bytes in three parts: what is left, the byte of this turn, and what was taken off the end before
+parts : (s was left after : List ℕ) (b : ℕ) → s ≡ was ++ after → was ≡ left ++ (b ∷ []) → s ≡ left ++ (b ∷ after)
+parts s was left after b e f = e ∙ ap (λ t. t ++ after) f ∙ append_assoc left (b ∷ []) after
+
+here : (c : After-wide) → c.args.bytes.now ≡ c.next.new.self.iter.rest.now ++ (c.in-Some.byte.now ∷ c.loop-byte.invariant.0)
+here c = parts _ _ _ _ _ c.loop-byte.invariant.1 c.in-Some.ensures.steps
+
+small : (c : After-wide) → c.wide.result < 256
+small c =
+    let left = c.next.new.self.iter.rest.now in
+    let byte : get_or c.args.bytes.now (length left) 0 ≡ c.in-Some.byte.now =
+    ap (λ s. get_or s (length left) 0) (here c) ∙ get_or-append_seam left c.in-Some.byte.now c.loop-byte.invariant.0 0 in
+    omega (arith, c.type_inv.bytes (length left), c.wide.ensures)
+
+pub loop-byte-init : goal.loop-byte-init
 unfolding total weighted
-loop-i-init c =
-    let none = drop_of_length-le c.args.bytes.now (le_refl (length c.args.bytes.now)) in
-    (omega arith, simp none, simp none)
-
-pub overflow_sub-i : goal.overflow_sub-i
-overflow_sub-i c = omega arith
-
-pub bounds-bytes-i : goal.bounds-bytes-i
-bounds-bytes-i c = omega arith
+loop-byte-init c = ([], rw append-nil (cc), refl, refl)
 
 pub overflow_add-tail : goal.overflow_add-tail
-overflow_add-tail c = omega (arith, c.type_inv.bytes (c.loop-i.i - 1))
+overflow_add-tail c = omega (arith, small c, c.loop-byte.invariant.2)
 
-pub overflow_add-sum : goal.overflow_add-sum
-overflow_add-sum c = omega arith
-
-pub loop-i-smaller : goal.loop-i-smaller
-loop-i-smaller c = omega arith
-
-pub loop-i-preserved : goal.loop-i-preserved
-loop-i-preserved c =
-    let s = c.args.bytes.now in
-    let i = c.loop-i.i - 1 in
-    let e = c.wide.ensures in
-    let m : c.loop-i.i ≡ suc i = omega arith in
-    let f : total (drop c.loop-i.i s) ≡ total (drop (suc i) s) = ap (λ k. total (drop k s)) m in
-    let g : weighted 1 (drop c.loop-i.i s) ≡ weighted 1 (drop (suc i) s) = ap (λ k. weighted 1 (drop k s)) m in
-    (omega arith, omega (arith, total_turn s i (omega arith)), omega (arith, total_turn s i (omega arith), weighted_turn s i (omega arith)))
+pub loop-byte-preserved : goal.loop-byte-preserved
+unfolding total
+loop-byte-preserved c =
+    let after = c.loop-byte.invariant.0 in
+    let more = weighted_more c.in-Some.byte.now after in
+    (c.in-Some.byte.now ∷ after, here c, omega (arith, c.wide.ensures), omega (arith, c.wide.ensures, more))
 
 pub returns : goal.returns
-returns c = let z : c.loop-i.i ≡ 0 = omega arith in rw z at c.loop-i.invariant.2
+returns c =
+    let after = c.loop-byte.invariant.0 in
+    let all : c.args.bytes.now ≡ after =
+    c.loop-byte.invariant.1 ∙ ap (λ t. t ++ after) (nil_from_length _ c.in-None.ensures.steps.0) in
+    c.loop-byte.invariant.3 ∙ ap (λ s. weighted 1 s % 65521) (sym all)

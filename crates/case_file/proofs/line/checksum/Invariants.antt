@@ -1,13 +1,9 @@
--- `case_file::line::checksum` meets its contract. The loop's invariant: `tail` and `sum` are the two sums of what stands from `i` on.
-use mathlib.Core.Path.{◌≡◌}
-use Prim.Native.Nat.{◌%◌, ◌≤◌}
-use lib.ListN.{length, drop}
+-- `case_file::line::checksum` meets its contract. The loop's invariant: `tail` and `sum` are the two sums of what is taken off the end.
+use Rattle.std.proofs.Common.{◌≡◌, ℕ, ◌%◌, List, ◌++◌}
 use Rattle.case_file.specs.Line.{weighted}
 use Rattle.case_file.specs.Line.Laws.{total}
 use Rattle.case_file.proofs.line.checksum.Given as goal
 
-abbrev pub invariant-loop-i : goal.invariant-loop-i
-invariant-loop-i l = (l.i ≤ length l.bytes) × (l.tail ≡ total (drop l.i l.bytes) % 65521) × (l.sum ≡ weighted 1 (drop l.i l.bytes) % 65521)
-
-abbrev pub decreases-loop-i : goal.decreases-loop-i
-decreases-loop-i l = l.i
+abbrev pub invariant-loop-byte : goal.invariant-loop-byte
+invariant-loop-byte l =
+    (after : List ℕ) × (l.bytes ≡ l.byte-iterator.iter.rest.now ++ after) × (l.tail ≡ total after % 65521) × (l.sum ≡ weighted 1 after % 65521)

@@ -6,7 +6,7 @@ use mathlib.Core.Path.{sym}
 use lib.Seq.{length-take-le}
 use Rattle.case_file.specs.Line.{shown}
 use Rattle.format.specs.Places.{to_end}
-use Rattle.case_file.specs.Line.Laws.{put_more}
+use Rattle.case_file.specs.Line.Laws.{puts_more}
 use Rattle.case_file.proofs.line.put_bytes.Goals as goal
 
 pub returns-then-n-le24 : goal.returns-then-n-le24
@@ -20,7 +20,6 @@ pub returns : goal.returns
 unfolding shown
 returns c =
     rw (lt-leb _ _ c.if-n-le24.false, ← c.checksum.ensures)
-    (put_more _ _ _ _ _ _ _ _ c.put_hex-o.ensures c.put_hex-o.auto.out
-    (put_more _ _ _ _ _ _ _ _ c.put_text-o.ensures c.put_text-o.auto.out
-    (put_more _ _ _ _ _ _ _ _ (rw to_end at c.put_hex-o-2.ensures) c.put_hex-o-2.auto.out
-    (put_more _ _ _ _ _ _ _ _ c.put_text-o-2.ensures c.put_text-o-2.auto.out c.put_number.ensures))))
+    (puts_more _ _ _ _ _ c.put_hex-2.ensures
+    (puts_more _ _ _ _ _ c.text.ensures
+    (puts_more _ _ _ _ _ (rw to_end at c.put_hex-3.ensures) (puts_more _ _ _ _ _ c.text-2.ensures c.number.ensures))))

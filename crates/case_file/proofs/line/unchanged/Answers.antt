@@ -1,35 +1,17 @@
--- `case_file::line::unchanged` meets its contract. The loop's invariant: the answer is that for the bytes from `i` on.
+-- `case_file::line::unchanged` meets its contract: it stops at the first byte that is another.
 -- Assumes nothing.
-use native.Mathlib.Omega.{arith}
-use native.Mathlib.Numerals.{add-one}
-use mathlib.Core.Path.{refl, sym, ◌∙◌}
-use Rattle.case_file.specs.Fill.Laws.{all_turn, all_not, all_end}
+use borrow.Author.Tests.{tests}
+use Rattle.std.proofs.Common.{◌≡◌, drop, rules}
+use Rattle.std.proofs.lemmas.Iterator.{cases_from_all, YieldsList-from_slice}
+use Rattle.std.proofs.lemmas.Iterator.Adapters.{YieldsList-from_skip}
+use Rattle.case_file.specs.Fill.Laws.{all_by_cases}
 use Rattle.case_file.proofs.line.unchanged.Goals as goal
-
-pub loop-i-init : goal.loop-i-init
-loop-i-init c = refl
-
-pub bounds-buffer-i : goal.bounds-buffer-i
-bounds-buffer-i c = omega arith
-
-pub returns-then-buffer-i : goal.returns-then-buffer-i
-returns-then-buffer-i c =
-    sym
-    (c.loop-i.invariant ∙ all_not c.args.buffer.now c.loop-i.i c.args.filling
-    (omega arith) c.if-buffer-i.true)
-
-pub overflow_add-i : goal.overflow_add-i
-overflow_add-i c = omega arith
-
-pub loop-i-smaller : goal.loop-i-smaller
-loop-i-smaller c = omega arith
-
-pub loop-i-preserved : goal.loop-i-preserved
-loop-i-preserved c =
-    rw add-one
-    (c.loop-i.invariant ∙ all_turn c.args.buffer.now c.loop-i.i c.args.filling
-    (omega arith) c.if-buffer-i.false)
 
 pub returns : goal.returns
 returns c =
-    sym (c.loop-i.invariant ∙ all_end c.args.buffer.now c.loop-i.i c.args.filling (omega arith))
+    let filling = c.args.filling in
+    let buffer = c.args.buffer.now in
+    all_by_cases filling (drop c.args.from buffer) _
+    (cases_from_all _ _ _ (λ x. x ≡ filling) (λ x. x ≡ filling → ⊥) c.all.ensures.ran
+    (YieldsList-from_skip c.args.from (YieldsList-from_slice buffer cc) c.skip.ensures.count)
+    (λ x q k. search (rules, tests)) (λ x q k. search (rules, tests)))

@@ -1,6 +1,5 @@
 -- `dates::Date::from_bytes` meets its contract: the sum is the number that the three bytes carry.
 -- Assumes nothing.
-use borrow.Author.Rules.{rules}
 use mathlib.Core.Path.{◌∙◌, ap}
 use Rattle.dates.specs.Calls.{from_number}
 use Rattle.dates.proofs.Days.Laws.{val_three}

@@ -1,7 +1,6 @@
 -- `dates::Date::from_number` meets its contract: a number of more than eight digits has no such month; of any other, each quotient is a
 -- product and a shift, and `is_day` tells whether there is such a date.
 -- Assumes nothing.
-use borrow.Author.Rules.{rules}
 use native.Mathlib.Omega.{arith}
 use mathlib.Core.Path.{◌≡◌, refl, ap, ap₂, sym, ◌∙◌}
 use mathlib.Core.Bool.{false}

@@ -1,6 +1,5 @@
 -- `dates::calendar::days_in` meets its contract: February by `is_leap`, the other months by turns.
 -- Assumes nothing.
-use borrow.Author.Rules.{rules}
 use native.Mathlib.Omega.{arith}
 use mathlib.Core.Path.{◌≡◌, ap, sym, ◌∙◌}
 use Prim.Native.Nat.{ℕ, ◌+◌, ◌/◌}

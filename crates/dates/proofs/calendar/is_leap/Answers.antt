@@ -1,6 +1,5 @@
 -- `dates::calendar::is_leap` meets its contract: product and shift tell whether 25 divides the year, low bits whether 16 or 4 does.
 -- Assumes nothing.
-use borrow.Author.Rules.{rules}
 use native.Mathlib.Omega.{arith}
 use mathlib.Core.Path.{ap, ◌∙◌}
 use lib.Bits.{and_mask}

@@ -21,9 +21,9 @@ returns-then-number-start-lt128 c =
     let a = c.args in
     let part = to_end a.number.now a.start in
     record {
-      place = c.copy.ensures.place
+      place = c.put_digits.ensures.place
           ∙ place_low _ _ a.out.now a.at c.requires c.size_from-size.result c.size_from-size.ensures c.if-number-start-lt128.true _ part;
-      buffer = c.copy.ensures.buffer
+      buffer = c.put_digits.ensures.buffer
           ∙ put_low _ _ a.out.now a.at c.requires c.size_from-size.result c.size_from-size.ensures c.if-number-start-lt128.true _ part;
     }
 
@@ -44,8 +44,8 @@ returns c =
     let a = c.args in
     let part = to_end a.number.now a.start in
     record {
-      place = c.copy-2.ensures.place
+      place = c.put_digits-2.ensures.place
           ∙ place_high _ _ a.out.now a.at c.requires c.size_from-size.result c.size_from-size.ensures c.if-number-start-lt128.false _ part;
-      buffer = c.copy-2.ensures.buffer
+      buffer = c.put_digits-2.ensures.buffer
           ∙ put_high _ _ a.out.now a.at c.requires c.size_from-size.result c.size_from-size.ensures c.if-number-start-lt128.false _ part;
     }

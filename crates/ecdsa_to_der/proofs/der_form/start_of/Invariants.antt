@@ -1,13 +1,9 @@
 -- `der_form::start_of` meets its contract. The loop's invariant: the bytes passed are zeros that the shortest form does without.
 use mathlib.Core.Path.{◌≡◌}
-use Prim.Native.Nat.{◌-◌, ◌<◌}
 use mathlib.Core.List.{◌∷◌}
-use lib.ListN.{length, drop}
+use lib.ListN.{drop}
 use Rattle.der.specs.Content.{shortest}
 use Rattle.ecdsa_to_der.proofs.der_form.start_of.Given as goal
 
 abbrev pub invariant-loop-k : goal.invariant-loop-k
-invariant-loop-k l = (l.k < length l.number) × (shortest (0 ∷ l.number) ≡ shortest (0 ∷ drop l.k l.number))
-
-abbrev pub decreases-loop-k : goal.decreases-loop-k
-decreases-loop-k l = length l.number - l.k
+invariant-loop-k l = shortest (0 ∷ l.number) ≡ shortest (0 ∷ drop l.k l.number)

@@ -35,15 +35,9 @@ pub returns-then-t-lt128 : goal.returns-then-t-lt128
 returns-then-t-lt128 c =
     digits_loose _ c.args.t.now _ c.requires.2 (omega arith) (several (goal.at.returns-then-t-lt128 c).Else-size-eq1) c.if-t-eq0.true (omega arith)
 
-pub overflow_add-n : goal.overflow_add-n
-overflow_add-n c = omega arith
-
 pub returns-then-n-size : goal.returns-then-n-size
 returns-then-n-size c =
     digits_zero_big _ c.args.t.now _ c.requires.2 (omega arith) (several (goal.at.returns-then-n-size c).Else-size-eq1) c.if-t-eq0.true (omega arith)
-
-pub overflow_add-result : goal.overflow_add-result
-overflow_add-result c = omega arith
 
 pub returns-then-t-eq0 : goal.returns-then-t-eq0
 returns-then-t-eq0 c =
@@ -53,9 +47,6 @@ returns-then-t-eq0 c =
 pub returns-then-n-size-2 : goal.returns-then-n-size-2
 returns-then-n-size-2 c =
     digits_all_big _ c.args.t.now _ c.requires.2 (omega arith) (several (goal.at.returns-then-n-size-2 c).Else-size-eq1) c.if-t-eq0.false (omega arith)
-
-pub overflow_add-result-2 : goal.overflow_add-result-2
-overflow_add-result-2 c = omega arith
 
 pub returns : goal.returns
 returns c =

@@ -1,76 +1,40 @@
--- `raw_form::put_padded` meets its contract. The loop's invariant: so many zeros stand in `out`; the digits are copied after them.
+-- `raw_form::put_padded` meets its contract: the zeros stand in a part of `out`, and the digits are copied after them.
 -- Assumes nothing.
 use native.Mathlib.Omega.{arith}
 use mathlib.Core.Path.{◌≡◌, ◌∙◌, ap, sym}
-use Prim.Native.Nat.{ℕ, ◌+◌, ◌-◌}
-use mathlib.Core.List.{◌++◌}
-use lib.ListN.{length, take, drop, set, replicate, length-replicate}
+use Prim.Native.Nat.{ℕ, ◌+◌, ◌-◌, ◌≤◌}
+use mathlib.Core.List.{List, ◌++◌}
+use lib.ListN.{length, take, drop, replicate}
+use Rattle.std.proofs.Common.{append_assoc, drop-drop, length-drop, length-take-le}
+use Rattle.std.proofs.lemmas.List.{length-replicate}
+use borrow.Rule.Slice.PartMut.{put_mid}
 use Rattle.format.specs.Buffer.{over}
-use Rattle.format.proofs.Buffer.Laws.{over_none, length_over}
+use Rattle.format.proofs.Buffer.Laws.{length_over}
 use Rattle.blocks.specs.Blocks.{part}
-use Rattle.ecdsa.specs.Strict.{padded}
-use Rattle.ecdsa.proofs.Strict.Laws.{zero_more, length_padded, padded_put}
+use Rattle.ecdsa.proofs.Strict.Laws.{padded_put}
 use Rattle.ecdsa_to_raw.proofs.raw_form.put_padded.Goals as goal
-use Rattle.ecdsa_to_raw.proofs.raw_form.put_padded.Goals.{After-copy_lent, At-loop-i}
 
--- the buffer keeps its length
-kept : (c : At-loop-i) → length c.loop-i.out ≡ length c.args.out.now
-kept c =
-    let a = c.args in
-    let many : length (replicate {A = ℕ} c.loop-i.i 0) ≡ c.loop-i.i = length-replicate c.loop-i.i 0 in
-    ap length c.loop-i.invariant.1 ∙ length_over a.out.now a.at (replicate c.loop-i.i 0) (omega arith)
-
-pub overflow_sub-zeros : goal.overflow_sub-zeros
-overflow_sub-zeros c = omega arith
-
-pub loop-i-init : goal.loop-i-init
-loop-i-init c = (omega arith, sym (over_none _ _))
-
-pub overflow_add-out : goal.overflow_add-out
-overflow_add-out c = omega arith
-
-pub overflow_add-i : goal.overflow_add-i
-overflow_add-i c = omega arith
-
-pub loop-i-smaller : goal.loop-i-smaller
-loop-i-smaller c = omega arith
-
-pub overflow_add-at : goal.overflow_add-at
-overflow_add-at c = omega arith
-
--- the digits stand after the zeros
-put :
-    (c : After-copy_lent) →
-    let a = c.args in
-    let from = a.at + (a.n - length a.digits.now) in
-    let out = c.loop-i.out in
-    take from out ++ (c.copy_lent.new.out ++ drop (length out - from) (drop from out))
-    ≡ over a.out.now a.at (padded a.n a.digits.now)
-put c =
-    let a = c.args in
-    let from = a.at + (a.n - length a.digits.now) in
-    let out = c.loop-i.out in
-    ap (λ t. take from out ++ (t ++ drop (length out - from) (drop from out))) c.copy_lent.ensures
-    ∙ part a.digits.now out from (omega (arith, kept (goal.at.After-copy_lent c).At-loop-i))
-    ∙ padded_put a.out.now a.digits.now a.n a.at c.loop-i.i out (omega arith) (omega arith) (omega arith)
-    c.loop-i.invariant.1
-
-pub bounds-out-at : goal.bounds-out-at
-bounds-out-at c = omega (arith, kept (goal.at.bounds-out-at c).At-loop-i)
-
-pub loop-i-preserved : goal.loop-i-preserved
-loop-i-preserved c =
-    let a = c.args in (
-      omega arith,
-      ap (λ o. set o (a.at + c.loop-i.i) 0) c.loop-i.invariant.1 ∙ zero_more a.out.now a.at c.loop-i.i (omega arith),
-    )
-
-pub shape_of-out : goal.shape_of-out
-shape_of-out c =
-    let a = c.args in
-    ap length (put (goal.at.shape_of-out c).After-copy_lent)
-    ∙ length_over a.out.now a.at (padded a.n a.digits.now)
-    (omega (arith, length_padded a.n a.digits.now (omega arith)))
+-- zeros in a part of the buffer are a write at its place
+zeros_put : (out : List ℕ) (at from : ℕ) (zeros : List ℕ) → zeros ≡ replicate (from - at) 0 → at ≤ from → from ≤ length out
+    → put_mid at (from - at) out zeros ≡ over out at (replicate (from - at) 0)
+unfolding over
+zeros_put out at from zeros e h room =
+    let many : length (replicate {A = ℕ} (from - at) 0) ≡ from - at = length-replicate (from - at) 0 in
+    ap (λ z. take at out ++ (z ++ drop (from - at) (drop at out))) e
+    ∙ ap (λ t. take at out ++ (replicate (from - at) 0 ++ t)) (drop-drop (from - at) at out ∙ ap (λ m. drop (at + m) out) (sym many))
+    ∙ sym (append_assoc (take at out) (replicate (from - at) 0) (drop (at + length (replicate {A = ℕ} (from - at) 0)) out))
 
 pub returns : goal.returns
-returns c = put (goal.at.returns c).After-copy_lent
+returns c =
+    let a = c.args in
+    let out = a.out.now in
+    let from = a.at + (a.n - length a.digits.now) in
+    let k = from - a.at in
+    let size : length (take k (drop a.at out)) ≡ k = length-take-le k (drop a.at out) (omega (arith, length-drop a.at out)) in
+    let zeros : c.fill.new.self ≡ replicate k 0 = c.fill.ensures.after (λ y h. h) ∙ ap (λ m. replicate m 0) size in
+    let mid = put_mid a.at k out c.fill.new.self in
+    let is : mid ≡ over out a.at (replicate k 0) = zeros_put out a.at from c.fill.new.self zeros (omega arith) (omega arith) in
+    let many : length mid ≡ length out = ap length is ∙ length_over out a.at (replicate k 0) (omega (arith, length-replicate {A = ℕ} k 0)) in
+    ap (λ t. take from mid ++ (t ++ drop (length mid - from) (drop from mid))) c.copy_lent.ensures
+    ∙ part a.digits.now mid from (omega arith)
+    ∙ padded_put out a.digits.now a.n a.at k mid (omega arith) (omega arith) (omega arith) is

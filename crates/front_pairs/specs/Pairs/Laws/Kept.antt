@@ -1,6 +1,6 @@
 -- What the tests of a pair say of its three values, as facts on numbers, and back.
 -- Assumes nothing.
-use Rattle.std.specs.Prelude.{◌≡◌, ◌⊎◌, true, ℕ, ◌+◌, ◌-◌, ◌<◌, ◌≤◌, ltb, leb, eqb}
+use Rattle.std.specs.Prelude.{◌≡◌, ◌⊎◌, true, ℕ, ◌+◌, ◌<◌, ◌≤◌, ltb, leb, eqb}
 use Rattle.std.proofs.Common.{sym, ◌∙◌, inl, inr, ⊎_elim, arith, leb-true, le-leb, ltb-true, lt-ltb, eqb-true, eq-eqb}
 use Rattle.format.specs.Choice.{both, either, within}
 use Rattle.format.specs.Choice.Laws.{not_true, both_true, both_are, either_true, either_left, either_right, within_both, within_true}

@@ -3,12 +3,9 @@
 -- Assumes nothing.
 use native.Mathlib.Omega.{arith}
 use native.Mathlib.Nat.{le_antisymm}
-use borrow.Author.Rules.{rules}
 use mathlib.Core.Path.{◌≡◌, ◌∙◌, ap, sym}
 use mathlib.Core.Bool.{true, not}
-use mathlib.Core.List.{List}
 use Prim.Native.Nat.{ℕ, suc, ◌≤◌}
-use lib.IntN.{ℤ}
 use lib.ListN.{length}
 use lib.Seq.{take-suc}
 use mir.Syntax.{w64}

@@ -1,6 +1,5 @@
 -- `content::bytes_of` meets its contract: each byte is the last of a quotient.
 -- Assumes nothing.
-use borrow.Author.Rules.{rules}
 use mathlib.Core.Path.{◌∙◌}
 use mathlib.Core.List.{[], ◌∷◌}
 use Rattle.integers.specs.Integer.FirstByte.{be_eight}

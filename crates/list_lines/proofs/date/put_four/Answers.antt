@@ -1,9 +1,7 @@
--- `list_lines::date::put_four` meets its contract: a zero for each digit that is wanted, and the number.
+-- `put_four` meets its contract.
 -- Assumes nothing.
-use Rattle.lines.specs.Line.Laws.{put_more}
+use Rattle.lines.specs.Written.Laws.{puts_more}
 use Rattle.list_lines.proofs.date.put_four.Goals as goal
 
 pub returns : goal.returns
-returns c =
-    put_more _ _ _ _ _ _ _ _ c.put_zero-o.ensures c.put_zero-o.auto.out
-    (put_more _ _ _ _ _ _ _ _ c.put_zero-o-2.ensures c.put_zero-o-2.auto.out c.put_two.ensures)
+returns c = puts_more _ _ _ _ _ c.put_zero.ensures (puts_more _ _ _ _ _ c.put_zero-2.ensures c.put_two.ensures)

@@ -1,9 +1,7 @@
--- `list_lines::named::put_counted` meets its contract: the name, the number, a newline.
+-- `put_counted` meets its contract: the name, the number, a newline.
 -- Assumes nothing.
-use Rattle.lines.specs.Line.Laws.{put_more}
+use Rattle.lines.specs.Written.Laws.{puts_more}
 use Rattle.list_lines.proofs.named.put_counted.Goals as goal
 
 pub returns : goal.returns
-returns c =
-    put_more _ _ _ _ _ _ _ _ c.put_text-o.ensures c.put_text-o.auto.out
-    (put_more _ _ _ _ _ _ _ _ c.put_number-o.ensures c.put_number-o.auto.out c.put.ensures)
+returns c = puts_more _ _ _ _ _ c.text.ensures (puts_more _ _ _ _ _ c.number.ensures c.put.ensures)

@@ -1,6 +1,5 @@
 -- `pairs::encode::packed` meets its contract: three values below 40 make at most 64,000.
 -- Assumes nothing.
-use borrow.Author.Rules.{rules}
 use native.Mathlib.Omega.{arith}
 use Rattle.pairs.proofs.encode.packed.Goals as goal
 

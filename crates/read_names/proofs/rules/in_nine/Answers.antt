@@ -1,6 +1,5 @@
 -- `read_names::rules::in_nine` meets its contract: the test of the signer, and then the reference's.
 -- Assumes nothing.
-use borrow.Author.Rules.{rules}
 use native.Mathlib.Omega.{arith}
 use mathlib.Core.Path.{◌≡◌, ◌∙◌, ap, sym}
 use Prim.Native.Nat.{ℕ}

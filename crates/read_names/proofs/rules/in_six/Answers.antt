@@ -1,6 +1,5 @@
 -- `read_names::rules::in_six` meets its contract: the signer, the two digits, and that they are not 00.
 -- Assumes nothing.
-use borrow.Author.Rules.{rules}
 use native.Mathlib.Omega.{arith}
 use mathlib.Core.Path.{◌≡◌, ◌∙◌, ap, sym}
 use mathlib.Core.Bool.{true}

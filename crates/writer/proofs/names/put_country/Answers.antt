@@ -1,6 +1,5 @@
 -- `put_country` meets its contract: three letters or fillers, each with its value, are one pair.
 -- Assumes nothing.
-use borrow.Author.Rules.{rules}
 use mathlib.Core.Path.{refl, ap, ◌∙◌}
 use lib.ListN.{get_or}
 use Rattle.format.specs.Buffer.{over}

@@ -1,6 +1,5 @@
 -- `put_names` meets its contract: three pairs in version 3; in version 4 two, the reference's length in the second, and the reference.
 -- Assumes nothing.
-use borrow.Author.Rules.{rules}
 use native.Mathlib.Omega.{arith}
 use mathlib.Core.Path.{◌≡◌}
 use Prim.Native.Nat.{ℕ, ◌-◌, ◌≤◌}

@@ -1,6 +1,5 @@
 -- `put_values` meets its contract: two stores in a row are the two bytes of the values' number.
 -- Assumes nothing.
-use borrow.Author.Rules.{rules}
 use native.Mathlib.Omega.{arith}
 use mathlib.Core.Path.{refl, ◌∙◌, ap}
 use lib.ListN.{length-set}

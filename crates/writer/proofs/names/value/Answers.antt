@@ -1,6 +1,5 @@
 -- `value` meets its contract: from A on a letter, below it a digit.
 -- Assumes nothing.
-use borrow.Author.Rules.{rules}
 use native.Mathlib.Omega.{arith}
 use mathlib.Core.Path.{ap, ◌∙◌}
 use mathlib.Core.Logic.{⊎_elim}

@@ -1,6 +1,5 @@
 -- `value_in_country` meets its contract: a filler is carried as a space, and any other character is a letter.
 -- Assumes nothing.
-use borrow.Author.Rules.{rules}
 use native.Mathlib.Omega.{arith}
 use mathlib.Core.Path.{ap, ◌∙◌}
 use mathlib.Core.Logic.{⊎_elim}

@@ -1,6 +1,5 @@
 -- `put_date` meets its contract: three stores in a row, each of the last byte of a quotient of the date's number.
 -- Assumes nothing.
-use borrow.Author.Rules.{rules}
 use native.Mathlib.Omega.{arith}
 use mathlib.Core.Path.{refl}
 use Prim.Native.Nat.{◌+◌, ◌≤◌}

@@ -1,6 +1,5 @@
 -- `put_seal` meets its contract: header, features and signature, one after another.
 -- Assumes nothing.
-use borrow.Author.Rules.{rules}
 use native.Mathlib.Omega.{arith}
 use lib.ListN.{length}
 use Rattle.write_given.specs.Given.{Given, given}

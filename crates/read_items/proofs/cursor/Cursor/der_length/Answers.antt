@@ -1,6 +1,5 @@
 -- `Cursor::der_length` meets its contract: the length that is read at the place.
 -- Assumes nothing.
-use borrow.Author.Rules.{rules}
 use native.Mathlib.Omega.{arith}
 use mathlib.Core.Path.{◌≡◌, ◌∙◌, ap, sym}
 use Prim.Native.Nat.{◌-◌, ◌≤◌}
@@ -12,23 +11,23 @@ use Rattle.der.proofs.Lengths.Exact.{read_is_form}
 use Rattle.verdict.specs.Items.{not, der_of}
 use Rattle.read_items.specs.Meaning.Laws.{der_past}
 use Rattle.read_items.proofs.cursor.Cursor.der_length.Goals as goal
-use Rattle.read_items.proofs.cursor.Cursor.der_length.Goals.{After-read_length-read}
+use Rattle.read_items.proofs.cursor.Cursor.der_length.Goals.{After-read_length}
 
 -- what is read is the length at the place
 read :
-    (c : After-read_length-read) →
-    c.read_length-read.result
+    (c : After-read_length) →
+    c.read_length.result
     ≡ read_length (drop c.args.self.place c.args.seal.now)
 read c =
     let a = c.args in
     let s = a.seal.now in
     let at = a.self.place in
-    c.read_length-read.ensures ∙ ap read_length (to_end s at)
+    c.read_length.ensures ∙ ap read_length (to_end s at)
 
 pub returns-then-seal-at : goal.returns-then-seal-at
 returns-then-seal-at c =
     let a = c.args in
-    der_past a.self.place a.seal.now (omega arith)
+    ap (λ b. not b.rule b.place) c.breaks.ensures ∙ der_past a.self.place a.seal.now (omega arith)
 
 pub overflow_add-result : goal.overflow_add-result
 overflow_add-result c =
@@ -36,16 +35,16 @@ overflow_add-result c =
     let s = a.seal.now in
     let at = a.self.place in
     let taken = read_is_form (drop at s) (bytes_drop at s (λ i. (c.type_inv.seal i).fits)) _ _
-    (sym (read (goal.at.overflow_add-result c).After-read_length-read) ∙ c.in-Is.is) in
-    let inside : c.in-Is.width ≤ length s - at = omega (arith, taken.there, length-drop at s) in
+    (sym (read (goal.at.overflow_add-result c).After-read_length) ∙ c.in-Ok.is) in
+    let inside : c.in-Ok.width ≤ length s - at = omega (arith, taken.there, length-drop at s) in
     omega (arith, inside)
 
-pub returns-in-Is : goal.returns-in-Is
-returns-in-Is c =
+pub returns-in-Ok : goal.returns-in-Ok
+returns-in-Ok c =
     let at = c.args.self.place in
-    ap (der_of at) (sym c.in-Is.is ∙ read (goal.at.returns-in-Is c).After-read_length-read)
+    ap (der_of at) (sym c.in-Ok.is ∙ read (goal.at.returns-in-Ok c).After-read_length)
 
-pub returns-in-Not : goal.returns-in-Not
-returns-in-Not c =
+pub returns-in-Err : goal.returns-in-Err
+returns-in-Err c =
     let at = c.args.self.place in
-    ap (λ r. not r at) c.length_rule.ensures ∙ ap (der_of at) (sym c.in-Not.is ∙ read (goal.at.returns-in-Not c).After-read_length-read)
+    ap (λ b. not b.rule b.place) c.breaks-in-Err.ensures ∙ ap (λ r. not r at) c.length_rule.ensures ∙ ap (der_of at) (sym c.in-Err.is ∙ read (goal.at.returns-in-Err c).After-read_length)

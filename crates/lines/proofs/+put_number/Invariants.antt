@@ -1,6 +1,0 @@
--- `lines::put_number`, which calls itself, meets its contract. The measure is the number.
--- Assumes nothing.
-use Rattle.lines.proofs.+put_number.Given as goal
-
-abbrev pub decreases-put_number : goal.decreases-put_number
-decreases-put_number l = l.n
