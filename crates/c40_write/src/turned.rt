@@ -5,7 +5,7 @@ ghost use Rattle.c40_write.specs.Turned.{turned};
 use octets::wide;
 
 // By its code each character has its value, and every other code the mark 128. Lent, as it is made once a call.
-#[derive(Drop)]
+#[derive(Clone, Copy)]
 pub struct Turned {
     values: [u8; 256],
     ghost is_turned: { values ≡ turned },

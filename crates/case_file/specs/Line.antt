@@ -7,10 +7,11 @@ pub use Rattle.lines.specs.Line.{Within, Counts}
 unfoldable pub use Rattle.lines.specs.Line.{decimal_of}
 use Rattle.lines.specs.declared.written.Line.{Line}
 
--- a line that was written on: no more is taken than the room that is left, and the buffer keeps its length
+-- a line that was written on: no more is taken than the room that is left, and the buffer keeps its length and stays the same buffer
 pub record Onward (old new : Line) : Type 0 where
   pub within : Within old.out.now old.at new.at
   pub size : length new.out.now ≡ length old.out.now
+  pub same : new.out.ghost_name ≡ old.out.ghost_name
 
 -- numbers in decimal, with a space before each
 unfoldable pub words_of : List ℕ → List ℕ

@@ -14,15 +14,15 @@ use versions::Version;
 
 // A feature's length: what it says, and the place after it.
 #[derive(Clone, Copy, Debug, PartialEq, Eq)]
-struct Counted {
-    size: usize,
-    next: usize,
+pub struct Counted {
+    pub size: usize,
+    pub next: usize,
 }
 
 // The error of a length of which not all can be completed: the place up to which it can.
 #[derive(Clone, Copy, Debug, PartialEq, Eq)]
-struct Ends {
-    place: usize,
+pub struct Ends {
+    pub place: usize,
 }
 
 // Up to where so many bytes are there, whatever they are: all of them, or those up to the end.

@@ -24,6 +24,10 @@ module _ (n : ℕ) (bytes : List ℕ) (room : ℕ) where
 
 -- n that is none of the five
 module _ (n : ℕ) (a : n ≡ 28 → ⊥) (b : n ≡ 32 → ⊥) (c : n ≡ 48 → ⊥) (d : n ≡ 64 → ⊥) (e : n ≡ 66 → ⊥) where
+  pub no_size : false ≡ is_size n
+  unfolding is_size
+  no_size = simp (ne_eqb n 28 a, ne_eqb n 32 b, ne_eqb n 48 c, ne_eqb n 64 d, ne_eqb n 66 e)
+
   pub no_hash : refusal 0 60 ≡ hash_for n
   unfolding hash_for
   no_hash = simp (ne_eqb n 28 a, ne_eqb n 32 b, ne_eqb n 48 c, ne_eqb n 64 d, ne_eqb n 66 e)

@@ -1,7 +1,7 @@
 -- Laws of the page: the lines of a text one by one, and that a table's page has the table's words.
 -- Assumes nothing.
-use Rattle.std.specs.Prelude.{◌≡◌, refl, Bool, true, false, ℕ, suc, ◌+◌, ◌/◌, ◌%◌, ◌<◌, List, [], ◌∷◌, ◌++◌, eqb, length, get_or, drop}
-use Rattle.std.proofs.Common.{sym, ◌∙◌, arith, eq-eqb, ne_eqb, eqb-true, length-append}
+use Rattle.std.specs.Prelude.{◌≡◌, refl, Bool, true, false, ℕ, suc, ◌+◌, ◌/◌, ◌%◌, ◌<◌, ◌≤◌, List, [], ◌∷◌, ◌++◌, eqb, length, get_or, drop}
+use Rattle.std.proofs.Common.{sym, ◌∙◌, arith, eq-eqb, ne_eqb, eqb-true, length-append, length-drop}
 use Rattle.std.proofs.Math.Path.{ap}
 use Rattle.std.proofs.Math.ListN.{get_or-append}
 use Rattle.std.proofs.Math.Seq.{get_or-append_seam}
@@ -35,6 +35,15 @@ module _ (code : ℕ) (l : List ℕ) (ls : List (List ℕ)) where
 among_none : (code : ℕ) → among code [] ≡ []
 unfolding among
 among_none code = refl
+
+none_left : (code : ℕ) (s : List ℕ) → length s ≡ 0 → line_for code s ≡ []
+unfolding lines_of among
+none_left code [] e = refl
+none_left code (x ∷ s) e = absurd (omega arith)
+
+-- where the page ends, no line was the code's
+pub at_end : (s : List ℕ) (code at : ℕ) → length s ≤ at → line_for code (drop at s) ≡ []
+at_end s code at h = none_left code (drop at s) (length-drop at s ∙ omega arith)
 
 -- tests that the checker computes: no newline among these bytes, or among the words of these rows
 abbrev pub plain : List ℕ → Bool
